@@ -1,0 +1,109 @@
+-- The third demand and the outlet rule for any basin: any areas, any number of mouths taken, any rule for counting mouths that is closed upwards.
+use mathlib.Core.Path.{_≡_, refl, sym, _∙_}
+use mathlib.Core.Bool.{true, true≢false}
+use mathlib.Core.List.{List}
+use mathlib.Core.Logic.{_⊎_, inl, inr, _↔_}
+use Prim.Native.Nat.{ℕ, zero, suc, _<_}
+use native.Mathlib.Omega.{arith}
+use Rattle.sheet.specs.declared.Next.{Next}
+use Rattle.sheet.specs.declared.Next.the-variants.{Outlet, To}
+use Rattle.sheet.specs.Water.{Passes, DrainsTo, here, there}
+use Rattle.sheet.specs.Unit.{finished}
+use Rattle.sheet.specs.River.{heavier, donors, Run, river, Network}
+use Rattle.sheet.proofs.Faults.{is-inside}
+use Rattle.claims.specs.Basin.{Ends, Basin, ends-here, ends-after}
+use Rattle.claims.specs.Demand.{Shares, OneOutlet, DemandThree, OutletRule}
+use Rattle.claims.specs.Parting.{PartAt, RuleAt}
+use Rattle.claims.proofs.Runs.{pass-trans, MouthOf}
+use Rattle.claims.proofs.Lawful.{Lawful}
+use Rattle.claims.proofs.Parting.{parted-at, part-differs, both-ways, Parted, Rule}
+use Rattle.claims.proofs.DigitRule.{unitOutlet, outlet-rule, cell-rule}
+use Rattle.claims.proofs.Units.{drains-passes, one-outlet, digitsIn, begins-all, unit-outlet, named-outlet}
+use Rattle.claims.proofs.Heavier.{heavier-trans, heavier-irrefl, heavier-total, donors-only, donors-all, donors-rise}
+use Rattle.claims.proofs.Mouths.{taken-upward, finished-none}
+use Rattle.claims.proofs.Fuel.{steps, steps-short, steps-fall, ends-within}
+
+module _ {N : Network} {inside : ℕ → Type 0} {outlet : ℕ} (B : Basin N inside outlet) where
+  pub stays-inside : {c x : ℕ} → inside c → Passes (N .next) c x → inside x
+  stays-inside i here = i
+  stays-inside i (there {q = q} {r = r} e h) = stays-inside (B .to-inside q r e) h
+
+  late : (m c : ℕ) → 0 < m → N .next c ≡ Outlet → Ends (N .next) m c
+  late zero c l e = absurd (omega arith)
+  late (suc m) c l e = ends-here e
+
+  pub all-end : (c : ℕ) → Ends (N .next) (N .cells) c
+  all-end c = go (N .next c) refl
+    where
+      go : (x : Next) → N .next c ≡ x → Ends (N .next) (N .cells) c
+      go Outlet e = late (N .cells) c (omega (arith, B .small outlet (B .outlet-inside))) e
+      go (To r) e =
+          let i = B .from-inside c r e in
+          ends-within (N .cells) ((B .ends c i) .1) (λ x p. B .small x (stays-inside i p))
+
+  end-outlet : {k c : ℕ} → Ends (N .next) k c → inside c → Passes (N .next) c outlet
+  end-outlet (ends-here {c = c} e) i = rw (B .one-outlet c i e) here
+  end-outlet (ends-after {c = c} {r = r} e w) i = there e (end-outlet w (B .to-inside c r e))
+
+  pub drain : (c : ℕ) → inside c → Passes (N .next) c outlet
+  drain c i = end-outlet (all-end c) i
+
+  pub upstream-inside : (c : ℕ) → Passes (N .next) c outlet → inside c
+  upstream-inside c here = B .outlet-inside
+  upstream-inside c (there {r = r} e h) = B .from-inside c r e
+
+  pub lawful : Lawful N (heavier N)
+  unfolding donors
+  lawful = record {
+    dist = steps (N .next) (N .cells);
+    falls = λ u r e. steps-fall (all-end u) r e;
+    short = λ u. steps-short (all-end u);
+    donor-steps = λ c u m. (donors-only N (N .cells) c u m) .1;
+    donors-complete = λ c u e. donors-all N (N .cells) c u (B .small u (B .from-inside u c e)) e;
+    donors-rising = donors-rise N (heavier-total (N .area)) (N .cells);
+    lighter = heavier-trans (N .area);
+    unlike = heavier-irrefl (N .area);
+    upward = λ R u v m t k h. taken-upward N (B .upwards) R u v t h;
+  }
+
+  -- the one-outlet statement
+  pub units-drain : (depth : ℕ) (w : List ℕ) (c : ℕ) → Shares inside (digitsIn N outlet depth) w c → OneOutlet (N .next) inside (digitsIn N outlet depth) w
+  units-drain depth = unit-outlet lawful inside outlet depth drain upstream-inside
+
+  -- the outlet rule, for the outlet that the definition of units gives
+  pub named-rule : (depth p q : ℕ) → inside p → inside q
+      → (digitsIn N outlet depth p ≡ digitsIn N outlet depth q)
+      ⊎ (Parted (digitsIn N outlet depth p) (digitsIn N outlet depth q)
+      × (Passes (N .next) q (unitOutlet N depth (river N outlet) p) ↔ Rule (digitsIn N outlet depth p) (digitsIn N outlet depth q)))
+  named-rule depth p q i j = outlet-rule lawful outlet depth p q (drain p i) (drain q j)
+
+  pub named : (depth p : ℕ) → inside p
+      → DrainsTo (N .next) (Shares inside (digitsIn N outlet depth) (digitsIn N outlet depth p)) (unitOutlet N depth (river N outlet) p)
+  named depth = named-outlet lawful inside outlet depth drain upstream-inside
+
+  pub outlet-rule-holds : (depth : ℕ) → OutletRule (N .next) inside (digitsIn N outlet depth)
+  outlet-rule-holds depth = record {
+    rule = λ p q i j o d k at.
+        let same : o ≡ unitOutlet N depth (river N outlet) p = one-outlet (lawful .dist) (lawful .falls) d (named depth p i) in
+        elim (named-rule depth p q i j) [ inl e ↦ absurd (part-differs at e) | inr r ↦ rw same (both-ways (r .1) at) ];
+  }
+
+  -- demand 3, where every mouth counts
+  pub demand-three-holds : ((v : ℕ) → N .counted v ≡ true) → (depth : ℕ) → DemandThree (N .next) inside depth (digitsIn N outlet depth)
+  demand-three-holds all depth = record {
+    labels-part = λ p q i j d. elim (named-rule depth p q i j) [ inl e ↦ absurd (d e) | inr r ↦ parted-at (r .0) ];
+    cell-rule = λ p q i j short k at.
+        elim (cell-rule lawful outlet depth p q (drain p i) (drain q j) no-mouth) [ inl e ↦ absurd (part-differs at e) | inr r ↦ both-ways (r .1 short) at ];
+    one-outlet = units-drain depth;
+  }
+    where
+      no-mouth : (R : Run) → finished N R ≡ true → (v : ℕ) → MouthOf R v → ⊥
+      no-mouth R e v m = true≢false (sym (all v) ∙ finished-none N R e v m)
+
+  -- at any depth: water that passes p meets the rule, so a rule that is not met is a sure No
+  pub passes-rule : (depth p q : ℕ) → inside p → inside q → (k : ℕ) → PartAt (digitsIn N outlet depth p) (digitsIn N outlet depth q) k
+      → Passes (N .next) q p → RuleAt (digitsIn N outlet depth p) (digitsIn N outlet depth q) k
+  passes-rule depth p q i j k at h =
+      let o = named depth p i in
+      let w = o .drains p (record { is-inside = i; begins = begins-all (digitsIn N outlet depth p) }) in
+      (outlet-rule-holds depth .rule p q i j (unitOutlet N depth (river N outlet) p) o k at) .0 (pass-trans h (drains-passes w))

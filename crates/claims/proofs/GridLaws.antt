@@ -1,0 +1,123 @@
+-- Laws of any grid: the fuel of its tests is enough, and the bounds of its areas.
+use mathlib.Core.Path.{_≡_, refl, sym, _∙_, ap₂}
+use mathlib.Core.Bool.{Bool, true, false, cond, not, true≢false}
+use mathlib.Core.List.{List, [], _∷_, List·Memᴰ, List·Memᴰ·head, List·Memᴰ·tail}
+use mathlib.Core.Logic.{_↔_}
+use Prim.Native.Nat.{ℕ, _+_, _≤_, _<_}
+use native.Mathlib.Omega.{arith}
+use Rattle.sheet.specs.Water.{passes, reachesOutlet, Passes, here, there}
+use Rattle.sheet.specs.Label.{outlet}
+use Rattle.sheet.specs.River.{network, donors}
+use Rattle.sheet.specs.Refusal.{undrained}
+use Rattle.sheet.specs.Area.{count, drainsInto, area}
+use Rattle.sheet.specs.Sheet.{cells, inside, next, Grid}
+use Rattle.sheet.proofs.Cells.{inside-lt, next-goes}
+use Rattle.sheet.proofs.Faults.{is-inside}
+use Rattle.claims.specs.Basin.{Ends, Basin}
+use Rattle.claims.specs.Bounds.{sum, ComesToOutlet, NeverComes, FuelIsEnough}
+use Rattle.claims.proofs.Lawful.{passes-true}
+use Rattle.claims.proofs.Counts.{count-mono, count-some, not-true}
+use Rattle.claims.proofs.Fuel.{passes-self, ends-within, reaches-ends, ends-reaches, ends-at, at-ends, passes-enough}
+use Rattle.claims.proofs.Areas.{area-sum}
+use Rattle.claims.proofs.Basins.{lawful}
+use Rattle.claims.proofs.Sheets.{outlet-is, is-outlet}
+
+module _ (G : Grid) where
+  way-below : (q : ℕ) → inside G q ≡ true → (x : ℕ) → Passes (next G) q x → x < cells G
+  way-below q i x here = inside-lt G q i
+  way-below q i x (there {r = r} e h) = way-below r (next-goes G q e .to-inside) x h
+
+  pub passes-is : (q p : ℕ) → inside G q ≡ true → (passes (next G) (cells G) q p ≡ true) ↔ Passes (next G) q p
+  passes-is q p i = (passes-true (next G) (cells G) q p, λ h. passes-enough (cells G) (way-below q i) h)
+
+  comes-ends : (c : ℕ) → ComesToOutlet G c → (k : ℕ) × Ends (next G) k c
+  comes-ends c o = at-ends (o .passed) ((outlet-is G (o .cell) (o .is-outlet)) .1)
+
+  ends-comes : (c : ℕ) {k : ℕ} → inside G c ≡ true → Ends (next G) k c → ComesToOutlet G c
+  ends-comes c i w =
+      let e = ends-at w in
+      record { cell = e .0; passed = e .1; is-outlet = is-outlet G (e .0) (stays c i (e .0) (e .1)) (e .2) }
+    where
+      stays : (q : ℕ) → inside G q ≡ true → (x : ℕ) → Passes (next G) q x → inside G x ≡ true
+      stays q k x here = k
+      stays q k x (there {r = r} e h) = stays r (next-goes G q e .to-inside) x h
+
+  -- the test of refusal 6, taken apart
+  undrained-parts : (c : ℕ) → undrained G c ≡ true → (inside G c ≡ true) × (reachesOutlet (next G) (cells G) c ≡ false)
+  unfolding undrained
+  undrained-parts c e = go (inside G c) refl (reachesOutlet (next G) (cells G) c) refl e
+    where
+      go : (a : Bool) → inside G c ≡ a → (b : Bool) → reachesOutlet (next G) (cells G) c ≡ b → cond a (not b) false ≡ true
+          → (inside G c ≡ true) × (reachesOutlet (next G) (cells G) c ≡ false)
+      go true x true y e = absurd (true≢false (sym e))
+      go true x false y e = (x, y)
+      go false x b y e = absurd (true≢false (sym e))
+
+  undrained-made : (c : ℕ) → inside G c ≡ true → reachesOutlet (next G) (cells G) c ≡ false → undrained G c ≡ true
+  unfolding undrained
+  undrained-made c i r = go (inside G c) i (reachesOutlet (next G) (cells G) c) r
+    where
+      go : (a : Bool) → a ≡ true → (b : Bool) → b ≡ false → cond a (not b) false ≡ true
+      go a x b y = rw (x, y)
+
+  pub undrained-is : (c : ℕ) → (undrained G c ≡ true) ↔ NeverComes G c
+  undrained-is c = (there-way, back-way)
+    where
+      there-way : undrained G c ≡ true → NeverComes G c
+      there-way e =
+          let u = undrained-parts c e in
+          record {
+            is-inside = u .0;
+            never = λ o.
+                let k = comes-ends c o in
+                let w = ends-within (cells G) (k .1) (way-below c (u .0)) in
+                true≢false (sym (ends-reaches w) ∙ u .1);
+          }
+
+      back-way : NeverComes G c → undrained G c ≡ true
+      back-way n =
+          undrained-made c (n .is-inside) (not-true (reachesOutlet (next G) (cells G) c) (λ r. n .never (ends-comes c (n .is-inside) (reaches-ends (next G) (cells G) c r))))
+
+  pub fuel-is-enough : FuelIsEnough G
+  fuel-is-enough = record { passes-is = passes-is; undrained-is = undrained-is }
+
+  -- ---- areas
+  area-inside : (c : ℕ) → inside G c ≡ true → area G c ≡ count (cells G) (drainsInto G c)
+  unfolding area
+  area-inside c i = go (inside G c) i
+    where
+      go : (b : Bool) → b ≡ true → cond b (count (cells G) (drainsInto G c)) 0 ≡ count (cells G) (drainsInto G c)
+      go b e = rw e
+
+  drains-inside : (c q : ℕ) → drainsInto G c q ≡ true → inside G q ≡ true
+  unfolding drainsInto
+  drains-inside c q e = go (inside G q) e
+    where
+      go : (b : Bool) → cond b (passes (next G) (cells G) q c) false ≡ true → b ≡ true
+      go true e = refl
+      go false e = absurd (true≢false (sym e))
+
+  drains-itself : (c : ℕ) → inside G c ≡ true → drainsInto G c c ≡ true
+  unfolding drainsInto
+  drains-itself c i = go (inside G c) i
+    where
+      go : (b : Bool) → b ≡ true → cond b (passes (next G) (cells G) c c) false ≡ true
+      go b e = rw e (passes-self (next G) (cells G) c)
+
+  pub area-least : (c : ℕ) → inside G c ≡ true → 1 ≤ area G c
+  area-least c i = rw (area-inside c i) (count-some (cells G) (drainsInto G c) c (drains-itself c i) (inside-lt G c i))
+
+  pub area-most : (c : ℕ) → inside G c ≡ true → area G c ≤ count (cells G) (inside G)
+  area-most c i = rw (area-inside c i) (count-mono (cells G) (inside G) (drainsInto G c) (drains-inside c))
+
+  sum-same : (f g : ℕ → ℕ) (us : List ℕ) → ((u : ℕ) → List·Memᴰ u us → f u ≡ g u) → sum f us ≡ sum g us
+  unfolding sum
+  sum-same f g [] h = refl
+  sum-same f g (u ∷ us) h = ap₂ _+_ (h u (List·Memᴰ·head refl)) (sum-same f g us (λ x m. h x (List·Memᴰ·tail m)))
+
+  pub area-adds : Basin (network G) (λ c. inside G c ≡ true) (outlet G) → (c : ℕ) → inside G c ≡ true → area G c ≡ 1 + sum (area G) (donors (network G) c)
+  unfolding network drainsInto
+  area-adds B c i =
+      let s = area-sum (lawful B) (inside G) c i (inside-lt G c i) in
+      let d = sum-same (area G) (λ u. count (cells G) (drainsInto G u)) (donors (network G) c) (λ u m. area-inside u (next-goes G u (lawful B .donor-steps c u m) .from-inside)) in
+      area-inside c i ∙ s ∙ (rw d (omega arith))

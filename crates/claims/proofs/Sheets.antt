@@ -1,0 +1,171 @@
+-- What it says of a sheet that the outcome accepts it: every check is passed, and its cells are a basin with one outlet.
+-- checks 1 to 7, passed
+use mathlib.Core.Path.{_≡_, refl, sym, _∙_}
+use mathlib.Core.Bool.{Bool, true, false, cond, not, true≢false}
+use Prim.Native.Nat.{ℕ, suc, _≤_, _<_}
+use native.Mathlib.Omega.{arith}
+use lib.Dec.{ltb}
+use borrow.Author.Tests.{ltb-true, ltb-false, le-leb}
+use Rattle.sheet.specs.declared.Found.the-variants.{At, Nothing}
+use Rattle.sheet.specs.declared.Next.{Next}
+use Rattle.sheet.specs.declared.Next.the-variants.{Outlet, To}
+use Rattle.sheet.specs.declared.Found.{Found}
+use Rattle.sheet.specs.declared.Outcome.{Outcome}
+use Rattle.sheet.specs.declared.Outcome.the-variants.{Accepted, Refused}
+use Rattle.sheet.specs.Water.{reachesOutlet, Passes, here, there}
+use Rattle.sheet.specs.Label.{outlet}
+use Rattle.sheet.specs.River.{network}
+use Rattle.sheet.specs.Refusal.{sizesFit, depthFits, slicesFit, badCode, undrained, outletFrom, firstAfter, secondOutlet, refusedAt, refusedIfNone, outcomeOn, outcome, Lent}
+use Rattle.sheet.specs.Sheet.{cells, inside, next, goesNowhere, isOutlet, first, Grid, Sheet}
+use Rattle.sheet.proofs.First.{NoneBelow, none-first, at-first, first-same, FirstAt}
+use Rattle.sheet.proofs.Cells.{inside-lt, next-goes}
+use Rattle.sheet.proofs.Faults.{outlet-inside}
+use Rattle.claims.specs.Basin.{Ends, Basin}
+use Rattle.claims.proofs.Units.{one-outlet}
+use Rattle.claims.proofs.Fuel.{reaches-ends, ends-at}
+
+pub record Passed (S : Sheet) (L : Lent) : Type 0 where
+  pub sizes : sizesFit (S .grid .rows) (S .grid .cols) ≡ true
+  pub depth : depthFits (S .depth) ≡ true
+  pub slices : slicesFit (S .grid) L ≡ true
+  pub rest : outcomeOn (S .grid) ≡ Accepted
+
+-- checks 4 to 7, by what they look for
+pub record PassedOn (G : Grid) : Type 0 where
+  pub codes : (c : ℕ) → c < cells G → badCode G c ≡ false
+  pub some-inside : (c : ℕ) × (c < cells G) × (inside G c ≡ true)
+  pub drained : (c : ℕ) → c < cells G → undrained G c ≡ false
+  pub no-second : secondOutlet G ≡ Nothing
+
+if-passed : (n : ℕ) (b : Bool) {x : Outcome} → cond b x (Refused n 0) ≡ Accepted → (b ≡ true) × (x ≡ Accepted)
+if-passed n true e = (refl, e)
+if-passed n false e = let z : _≡_ {A = ℕ} 0 1 = cc in absurd (omega arith)
+
+pub accepted-passed : (S : Sheet) (L : Lent) → outcome S L ≡ Accepted → Passed S L
+unfolding outcome
+accepted-passed S L e =
+    let a = if-passed 1 (sizesFit (S .grid .rows) (S .grid .cols)) e in
+    let b = if-passed 2 (depthFits (S .depth)) (a .1) in
+    let c = if-passed 3 (slicesFit (S .grid) L) (b .1) in
+    record { sizes = a .0; depth = b .0; slices = c .0; rest = c .1 }
+
+not-found : (n : ℕ) (f : Found) {rest : Outcome} → refusedAt n f rest ≡ Accepted → (f ≡ Nothing) × (rest ≡ Accepted)
+unfolding refusedAt
+not-found n (At c) e = let z : _≡_ {A = ℕ} 0 1 = cc in absurd (omega arith)
+not-found n Nothing e = (refl, e)
+
+found-one : (n : ℕ) (f : Found) {rest : Outcome} → refusedIfNone n f rest ≡ Accepted → ((c : ℕ) × (f ≡ At c)) × (rest ≡ Accepted)
+unfolding refusedIfNone
+found-one n (At c) e = ((c, refl), e)
+found-one n Nothing e = let z : _≡_ {A = ℕ} 0 1 = cc in absurd (omega arith)
+
+pub passed-on : (G : Grid) → outcomeOn G ≡ Accepted → PassedOn G
+unfolding outcomeOn
+passed-on G e =
+    let a = not-found 4 (first (badCode G) (cells G)) e in
+    let b = found-one 5 (first (inside G) (cells G)) (a .1) in
+    let c = not-found 6 (first (undrained G) (cells G)) (b .1) in
+    let d = not-found 7 (secondOutlet G) (c .1) in
+    let i = at-first (inside G) (cells G) (b .0 .0) (b .0 .1) in
+    record {
+      codes = none-first (badCode G) (cells G) (a .0);
+      some-inside = (b .0 .0, i .below, i .passes);
+      drained = none-first (undrained G) (cells G) (c .0);
+      no-second = d .0;
+    }
+
+module _ (G : Grid) where
+  pub outlet-is : (c : ℕ) → isOutlet G c ≡ true → (inside G c ≡ true) × (next G c ≡ Outlet)
+  unfolding isOutlet
+  outlet-is c e = go (inside G c) refl (next G c) refl e
+    where
+      go : (b : Bool) → inside G c ≡ b → (x : Next) → next G c ≡ x → cond b (goesNowhere x) false ≡ true → (b ≡ true) × (x ≡ Outlet)
+      go true i Outlet n e = (refl, refl)
+      go true i (To r) n e = absurd (true≢false (sym e))
+      go false i x n e = absurd (true≢false (sym e))
+
+  pub is-outlet : (c : ℕ) → inside G c ≡ true → next G c ≡ Outlet → isOutlet G c ≡ true
+  unfolding isOutlet
+  is-outlet c i e = go (inside G c) i (next G c) e
+    where
+      go : (b : Bool) → b ≡ true → (x : Next) → x ≡ Outlet → cond b (goesNowhere x) false ≡ true
+      go b i x e = rw (i, e)
+
+  -- an inside cell that is not undrained comes to an outlet
+  pub drained-ends : (c : ℕ) → inside G c ≡ true → undrained G c ≡ false → Ends (next G) (cells G) c
+  unfolding undrained
+  drained-ends c i u = reaches-ends (next G) (cells G) c (go (reachesOutlet (next G) (cells G) c) (rw i at u))
+    where
+      go : (b : Bool) → not b ≡ false → b ≡ true
+      go true e = refl
+      go false e = absurd (true≢false e)
+
+  from-zero : (c : ℕ) → outletFrom G 0 c ≡ isOutlet G c
+  unfolding outletFrom
+  from-zero c = rw (le-leb 0 c (omega arith))
+
+  from-later : (from c : ℕ) → from ≤ c → outletFrom G from c ≡ isOutlet G c
+  unfolding outletFrom
+  from-later from c l = rw (le-leb from c l)
+
+  -- the outlets of a sheet that has no second one
+  module _ (P : PassedOn G) where
+    some-end : (o : ℕ) × Passes (next G) (P .some-inside .0) o × (next G o ≡ Outlet)
+    some-end = let s = P .some-inside in ends-at (drained-ends (s .0) (s .2) (P .drained (s .0) (s .1)))
+
+    way-inside : {c x : ℕ} → inside G c ≡ true → Passes (next G) c x → inside G x ≡ true
+    way-inside i here = i
+    way-inside i (there {q = q} e h) = way-inside (next-goes G q e .to-inside) h
+
+    -- there is one
+    some-outlet : (o : ℕ) × (o < cells G) × (isOutlet G o ≡ true)
+    some-outlet =
+        let e = some-end in
+        let i : inside G (e .0) ≡ true = way-inside (P .some-inside .2) (e .1) in
+        (e .0, inside-lt G (e .0) i, is-outlet (e .0) i (e .2))
+
+    found-outlet : (f : Found) → first (outletFrom G 0) (cells G) ≡ f → (k : ℕ) × (f ≡ At k)
+    found-outlet (At k) e = (k, refl)
+    found-outlet Nothing e =
+        let o = some-outlet in
+        absurd (true≢false (sym (o .2) ∙ (sym (from-zero (o .0)) ∙ none-first (outletFrom G 0) (cells G) e (o .0) (o .1))))
+
+    first-outlet : (k : ℕ) × (first (outletFrom G 0) (cells G) ≡ At k)
+    first-outlet = found-outlet (first (outletFrom G 0) (cells G)) refl
+
+    outlet-found : outlet G ≡ first-outlet .0
+    unfolding outlet
+    outlet-found = rw (first-same (isOutlet G) (outletFrom G 0) (cells G) (λ k l. sym (from-zero k)), first-outlet .1)
+
+    first-fact : FirstAt (outletFrom G 0) (cells G) (first-outlet .0)
+    first-fact = at-first (outletFrom G 0) (cells G) (first-outlet .0) (first-outlet .1)
+
+    none-later : NoneBelow (outletFrom G (suc (first-outlet .0))) (cells G)
+    unfolding secondOutlet firstAfter
+    none-later = none-first (outletFrom G (suc (first-outlet .0))) (cells G) (rw (first-outlet .1) at (P .no-second))
+
+    only-outlet : (u : ℕ) → u < cells G → isOutlet G u ≡ true → u ≡ first-outlet .0
+    only-outlet u l e = go (ltb u (first-outlet .0)) refl (ltb (first-outlet .0) u) refl
+      where
+        go : (a : Bool) → ltb u (first-outlet .0) ≡ a → (b : Bool) → ltb (first-outlet .0) u ≡ b → u ≡ first-outlet .0
+        go true x b y = absurd (true≢false (sym e ∙ (sym (from-zero u) ∙ first-fact .none-before u (ltb-true u (first-outlet .0) x))))
+        go false x true y =
+            let k : suc (first-outlet .0) ≤ u = ltb-true (first-outlet .0) u y in
+            absurd (true≢false (sym e ∙ (sym (from-later (suc (first-outlet .0)) u k) ∙ none-later u l)))
+        go false x false y = let p = ltb-false u (first-outlet .0) x in let q = ltb-false (first-outlet .0) u y in omega arith
+
+    outlet-in : inside G (first-outlet .0) ≡ true
+    outlet-in = (outlet-is (first-outlet .0) (sym (from-zero (first-outlet .0)) ∙ first-fact .passes)) .0
+
+    -- the cells of the sheet are a basin
+    pub basin : Basin (network G) (λ c. inside G c ≡ true) (outlet G)
+    unfolding network
+    basin = record {
+      small = inside-lt G;
+      from-inside = λ u r e. next-goes G u e .from-inside;
+      to-inside = λ u r e. next-goes G u e .to-inside;
+      outlet-inside = rw outlet-found outlet-in;
+      one-outlet = λ u i e. only-outlet u (inside-lt G u i) (is-outlet u i e) ∙ sym outlet-found;
+      ends = λ u i. (cells G, drained-ends u i (P .drained u (inside-lt G u i)));
+      upwards = λ u v h k. refl;
+    }

@@ -1,0 +1,156 @@
+-- The claims of specs/, for every sheet that the outcome of labelling accepts, about the labels that it writes.
+-- ---- the same claims for digits that agree on the inside cells
+use mathlib.Core.Path.{_≡_, refl, sym, _∙_, ap}
+use mathlib.Core.Bool.{Bool, true, false, cond}
+use mathlib.Core.List.{List}
+use Prim.Native.Nat.{ℕ}
+use native.Mathlib.Omega.{arith}
+use lib.Dec.{eqb}
+use lib.ListN.{getD}
+use borrow.Author.Tests.{eqb-true, eqb-false}
+use Rattle.sheet.specs.declared.Next.{Next}
+use Rattle.sheet.specs.declared.Outcome.the-variants.{Accepted}
+use Rattle.sheet.specs.declared.Flow.{Flow}
+use Rattle.sheet.specs.declared.Flow.the-variants.{Same}
+use Rattle.sheet.specs.Water.{Passes, DrainsTo}
+use Rattle.sheet.specs.Flow.{partAt, answerAt}
+use Rattle.sheet.specs.Label.{number, labelDigits}
+use Rattle.sheet.specs.River.{network}
+use Rattle.sheet.specs.Refusal.{outcome, written, lentAfter, Lent}
+use Rattle.sheet.specs.Sheet.{next, Sheet}
+use Rattle.sheet.proofs.Digits.{number-fits}
+use Rattle.sheet.proofs.Faults.{is-inside}
+use Rattle.claims.specs.Demand.{Inside, digitsAt, DemandThreeOf, OutletRuleOf, Shares, DemandThree, OutletRule}
+use Rattle.claims.specs.Flow.{asked, FlowMeaning}
+use Rattle.claims.specs.Bounds.{RiversAreWhole, AreaBounds, LabelBounds}
+use Rattle.claims.specs.Parting.{PartAt, RuleAt}
+use Rattle.claims.proofs.Lawful.{yes, no}
+use Rattle.claims.proofs.Rivers.{river-whole}
+use Rattle.claims.proofs.DigitRule.{cell-rule}
+use Rattle.claims.proofs.Units.{drains-map, one-outlet}
+use Rattle.claims.proofs.Mouths.{least}
+use Rattle.claims.proofs.Basins.{lawful, outlet-rule-holds, demand-three-holds, passes-rule}
+use Rattle.claims.proofs.GridLaws.{area-least, area-most, area-adds}
+use Rattle.claims.proofs.Written.{the-basin, depth-most, one-to-nine, at-most-depth, label-written, digits-written}
+use Rattle.claims.proofs.FlowMeaning.{the-answer, answer-at, Answered, answered-yes, answered-undecided, answered-no}
+
+module _ (next : ℕ → Next) {inside : ℕ → Type 0} {digits written : ℕ → List ℕ} (same : (c : ℕ) → inside c → written c ≡ digits c) where
+  to-written : (w : List ℕ) (x : ℕ) → Shares inside digits w x → Shares inside written w x
+  to-written w x k = record { is-inside = k .is-inside; begins = rw (same x (k .is-inside)) (k .begins) }
+
+  from-written : (w : List ℕ) (x : ℕ) → Shares inside written w x → Shares inside digits w x
+  from-written w x k = record { is-inside = k .is-inside; begins = rw (same x (k .is-inside)) at (k .begins) }
+
+  drains-to-written : (w : List ℕ) (c : ℕ) → DrainsTo next (Shares inside digits w) c → DrainsTo next (Shares inside written w) c
+  drains-to-written w c d = record {
+    among = to-written w c (d .among);
+    drains = λ x k. drains-map (to-written w) (d .drains x (from-written w x k));
+  }
+
+  drains-from-written : (w : List ℕ) (c : ℕ) → DrainsTo next (Shares inside written w) c → DrainsTo next (Shares inside digits w) c
+  drains-from-written w c d = record {
+    among = from-written w c (d .among);
+    drains = λ x k. drains-map (from-written w) (d .drains x (to-written w x k));
+  }
+
+  same-demand : (depth : ℕ) → DemandThree next inside depth digits → DemandThree next inside depth written
+  same-demand depth D = record {
+    labels-part = λ p q i j d. rw (same p i, same q j) (D .labels-part p q i j (λ e. d (same p i ∙ e ∙ sym (same q j))));
+    cell-rule = λ p q i j l k t. rw (same p i, same q j) (D .cell-rule p q i j (rw (same p i) at l) k (rw (same p i, same q j) at t));
+    one-outlet = λ w c k.
+        let o = D .one-outlet w c (from-written w c k) in
+        record {
+          cell = o .cell;
+          drains = drains-to-written w (o .cell) (o .drains);
+          only = λ t h. o .only t (drains-from-written w t h);
+        };
+  }
+
+  same-outlet-rule : OutletRule next inside digits → OutletRule next inside written
+  same-outlet-rule D = record {
+    rule = λ p q i j o d k t.
+        rw (same p i, same q j) (D .rule p q i j o (drains-from-written (digits p) o (rw (same p i) at d)) k (rw (same p i, same q j) at t));
+  }
+
+-- ---- demand 3 and the outlet rule
+module _ (S : Sheet) (L : Lent) (accepted : outcome S L ≡ Accepted) where
+  -- demand 3, whole
+  pub demand-three : DemandThreeOf S (lentAfter S L .labels)
+  unfolding network labelDigits
+  demand-three = same-demand (next (S .grid)) (digits-written S L accepted) (S .depth) (demand-three-holds (the-basin S L accepted) (λ v. refl) (S .depth))
+
+  pub outlet-rule : OutletRuleOf S (lentAfter S L .labels)
+  unfolding network labelDigits
+  outlet-rule = same-outlet-rule (next (S .grid)) (digits-written S L accepted) (outlet-rule-holds (the-basin S L accepted) (S .depth))
+
+  -- ---- bounds
+  pub label-bounds : LabelBounds S (lentAfter S L .labels)
+  label-bounds = record {
+    at-most = λ c i. rw (digits-written S L accepted c i) (at-most-depth S L accepted c);
+    one-to-nine = λ c i. rw (digits-written S L accepted c i) (one-to-nine S L accepted c i);
+    fits = λ c i. rw (label-written S L accepted c i)
+        (number-fits (labelDigits S c) (one-to-nine S L accepted c i) (omega (arith, at-most-depth S L accepted c, depth-most S L accepted)));
+    apart = λ p q i j e.
+        label-written S L accepted p i ∙ ap number (sym (digits-written S L accepted p i) ∙ e ∙ digits-written S L accepted q j) ∙ sym (label-written S L accepted q j);
+  }
+
+  -- ---- the flow question
+  module _ (p q : ℕ) (i : Inside S p) (j : Inside S q) where
+    -- water that passes p meets the rule, at any depth
+    met : (k : ℕ) → PartAt (digitsAt (lentAfter S L .labels) p) (digitsAt (lentAfter S L .labels) q) k
+        → Passes (next (S .grid)) q p → RuleAt (digitsAt (lentAfter S L .labels) p) (digitsAt (lentAfter S L .labels) q) k
+    unfolding network labelDigits
+    met k t h =
+        rw (digits-written S L accepted p i, digits-written S L accepted q j)
+        (passes-rule (the-basin S L accepted) (S .depth) p q i j k (rw (digits-written S L accepted p i, digits-written S L accepted q j) at t) h)
+
+    by-parting : (k : ℕ) → PartAt (digitsAt (lentAfter S L .labels) p) (digitsAt (lentAfter S L .labels) q) k → (a : Flow)
+        → Answered (S .depth) (digitsAt (lentAfter S L .labels) p) (digitsAt (lentAfter S L .labels) q) k a
+        → asked S (lentAfter S L .labels) p q ≡ a → FlowMeaning S (lentAfter S L .labels) p q
+    by-parting k t a (answered-yes r l) e = record {
+      yes = λ f. (demand-three .cell-rule p q i j l k t) .1 r;
+      no = λ f. let z : _≡_ {A = ℕ} 0 1 = cc in absurd (omega arith);
+      same = λ f. let z : _≡_ {A = ℕ} 0 1 = cc in absurd (omega arith);
+      never-refused = λ n f. let z : _≡_ {A = ℕ} 0 1 = cc in absurd (omega arith);
+    }
+    by-parting k t a (answered-undecided r) e = record {
+      yes = λ f. let z : _≡_ {A = ℕ} 0 1 = cc in absurd (omega arith);
+      no = λ f. let z : _≡_ {A = ℕ} 0 1 = cc in absurd (omega arith);
+      same = λ f. let z : _≡_ {A = ℕ} 0 1 = cc in absurd (omega arith);
+      never-refused = λ n f. let z : _≡_ {A = ℕ} 0 1 = cc in absurd (omega arith);
+    }
+    by-parting k t a (answered-no r) e = record {
+      yes = λ f. let z : _≡_ {A = ℕ} 0 1 = cc in absurd (omega arith);
+      no = λ f h. r (met k t h);
+      same = λ f. let z : _≡_ {A = ℕ} 0 1 = cc in absurd (omega arith);
+      never-refused = λ n f. let z : _≡_ {A = ℕ} 0 1 = cc in absurd (omega arith);
+    }
+
+    pub flow-meaning : FlowMeaning S (lentAfter S L .labels) p q
+    flow-meaning = go (eqb (getD (lentAfter S L .labels) p 0) (getD (lentAfter S L .labels) q 0)) refl (the-answer S L accepted p q i j)
+      where
+        answer : Flow
+        answer = answerAt (S .depth) (digitsAt (lentAfter S L .labels) p) (digitsAt (lentAfter S L .labels) q) (partAt (digitsAt (lentAfter S L .labels) p) (digitsAt (lentAfter S L .labels) q))
+
+        go : (b : Bool) → eqb (getD (lentAfter S L .labels) p 0) (getD (lentAfter S L .labels) q 0) ≡ b
+            → asked S (lentAfter S L .labels) p q ≡ cond b Same answer → FlowMeaning S (lentAfter S L .labels) p q
+        go true e f = record {
+          yes = λ g. let z : _≡_ {A = ℕ} 0 1 = cc in absurd (omega arith);
+          no = λ g. let z : _≡_ {A = ℕ} 0 1 = cc in absurd (omega arith);
+          same = λ g. eqb-true (getD (lentAfter S L .labels) p 0) (getD (lentAfter S L .labels) q 0) e;
+          never-refused = λ n g. let z : _≡_ {A = ℕ} 0 1 = cc in absurd (omega arith);
+        }
+        go false e f =
+            let t = demand-three .labels-part p q i j (λ s. eqb-false (getD (lentAfter S L .labels) p 0) (getD (lentAfter S L .labels) q 0) e (label-bounds .apart p q i j s)) in
+            by-parting (t .0) (t .1) answer (answer-at (S .depth) (digitsAt (lentAfter S L .labels) p) (digitsAt (lentAfter S L .labels) q) (t .0) (t .1)) f
+
+  pub rivers-are-whole : RiversAreWhole (S .grid)
+  unfolding network
+  rivers-are-whole = record { whole = river-whole (lawful (the-basin S L accepted)) }
+
+  pub area-bounds : AreaBounds (S .grid)
+  area-bounds = record {
+    least = λ c i. area-least (S .grid) c i;
+    most = λ c i. area-most (S .grid) c i;
+    donors-add = area-adds (S .grid) (the-basin S L accepted);
+  }

@@ -1,0 +1,84 @@
+-- The labels that labelling writes by the definition, read back from the list: their digits are those of the definition.
+use mathlib.Core.Path.{_≡_, refl, sym, _∙_, ap}
+use mathlib.Core.Bool.{Bool, true, false, cond, true≢false}
+use mathlib.Core.List.{List}
+use Prim.Native.Nat.{ℕ, zero, suc, _+_, _≤_, _<_}
+use native.Mathlib.Omega.{arith}
+use lib.Dec.{leb}
+use lib.ListN.{length, getD, drop, List·getD-append}
+use borrow.Author.Tests.{leb-true}
+use Rattle.sheet.specs.declared.Outcome.{Outcome}
+use Rattle.sheet.specs.declared.Outcome.the-variants.{Accepted}
+use Rattle.sheet.specs.Label.{number, digitsOf, outlet, labelDigits, labelOf, listFrom, labelsOf, Digits}
+use Rattle.sheet.specs.River.{network, river}
+use Rattle.sheet.specs.Refusal.{within, depthFits, outcome, written, ifAccepted, lentAfter, Lent}
+use Rattle.sheet.specs.Sheet.{cells, inside, Sheet}
+use Rattle.sheet.proofs.Digits.{digits-number}
+use Rattle.sheet.proofs.Cells.{inside-lt}
+use Rattle.claims.specs.Demand.{Inside, digitsAt}
+use Rattle.claims.specs.Basin.{Basin}
+use Rattle.claims.proofs.Rivers.{river-headed, river-covers}
+use Rattle.claims.proofs.Mouths.{label-at-most, label-range}
+use Rattle.claims.proofs.Basins.{drain, lawful}
+use Rattle.claims.proofs.Sheets.{accepted-passed, passed-on, basin, Passed}
+
+module _ (f : ℕ → ℕ) where
+  pub length-list : (i m : ℕ) → length (listFrom f i m) ≡ m
+  unfolding listFrom
+  length-list i zero = refl
+  length-list i (suc m) = ap suc (length-list (suc i) m)
+
+  list-at : (i m k : ℕ) → k < m → getD (listFrom f i m) k 0 ≡ f (i + k)
+  unfolding listFrom
+  list-at i zero k l = absurd (omega arith)
+  list-at i (suc m) zero l = ap f (omega arith)
+  list-at i (suc m) (suc k) l = list-at (suc i) m k (omega arith) ∙ ap f (omega arith)
+
+  -- what stands for a cell, whatever the slice held before
+  pub written-at : (n c : ℕ) (old : List ℕ) → c < n → getD (written (listFrom f 0 n) old) c 0 ≡ f c
+  written-at n c old l =
+      List·getD-append (listFrom f 0 n) (drop (length (listFrom f 0 n)) old) 0 c (rw (length-list 0 n) l) ∙ list-at 0 n c l ∙ ap f (omega arith)
+
+module _ (S : Sheet) (L : Lent) (accepted : outcome S L ≡ Accepted) where
+  pub checks : Passed S L
+  checks = accepted-passed S L accepted
+
+  pub the-basin : Basin (network (S .grid)) (Inside S) (outlet (S .grid))
+  the-basin = basin (S .grid) (passed-on (S .grid) (checks .rest))
+
+  pub depth-most : S .depth ≤ 18
+  unfolding depthFits within
+  depth-most = go (leb 1 (S .depth)) (checks .depth)
+    where
+      go : (b : Bool) → cond b (leb (S .depth) 18) false ≡ true → S .depth ≤ 18
+      go true e = leb-true (S .depth) 18 e
+      go false e = absurd (true≢false (sym e))
+
+  pub one-to-nine : (c : ℕ) → Inside S c → Digits 9 (labelDigits S c)
+  unfolding labelDigits network
+  one-to-nine c i =
+      let O = lawful the-basin in
+      label-range O (S .depth) (river (network (S .grid)) (outlet (S .grid))) c (river-headed O (outlet (S .grid))) (river-covers O (outlet (S .grid)) c (drain the-basin c i))
+
+  pub at-most-depth : (c : ℕ) → length (labelDigits S c) ≤ S .depth
+  unfolding labelDigits
+  at-most-depth c = label-at-most (network (S .grid)) (S .depth) (river (network (S .grid)) (outlet (S .grid))) c
+
+  label-inside : (c : ℕ) → Inside S c → labelOf S c ≡ number (labelDigits S c)
+  unfolding labelOf
+  label-inside c i = go (inside (S .grid) c) i
+    where
+      go : (b : Bool) → b ≡ true → cond b (number (labelDigits S c)) 0 ≡ number (labelDigits S c)
+      go b e = rw e
+
+  -- the label that stands for an inside cell
+  pub label-written : (c : ℕ) → Inside S c → getD (lentAfter S L .labels) c 0 ≡ number (labelDigits S c)
+  unfolding lentAfter labelsOf
+  label-written c i = go (outcome S L) accepted
+    where
+      go : (o : Outcome) → o ≡ Accepted → getD (ifAccepted o (labelsOf S) (L .labels)) c 0 ≡ number (labelDigits S c)
+      go o e = rw e (written-at (labelOf S) (cells (S .grid)) c (L .labels) (inside-lt (S .grid) c i) ∙ label-inside c i)
+
+  pub digits-written : (c : ℕ) → Inside S c → digitsAt (lentAfter S L .labels) c ≡ labelDigits S c
+  digits-written c i =
+      ap digitsOf (label-written c i) ∙ digits-number (labelDigits S c) (one-to-nine c i) (omega (arith, at-most-depth c, depth-most))

@@ -1,0 +1,53 @@
+-- The third demand, about any labels: where water goes, which cells are inside, the depth, and the digits of each cell's label.
+use mathlib.Core.Path.{_≡_}
+use mathlib.Core.Bool.{true}
+use mathlib.Core.List.{List}
+use mathlib.Core.Logic.{_≢_, _↔_}
+use Prim.Native.Nat.{ℕ, _<_}
+use lib.ListN.{length, getD}
+use Rattle.sheet.specs.declared.Next.{Next}
+use Rattle.sheet.specs.Sheet.{Sheet, inside, next}
+use Rattle.sheet.specs.Water.{Passes, DrainsTo}
+use Rattle.sheet.specs.Label.{digitsOf}
+use Rattle.claims.specs.Parting.{PartAt, RuleAt, Begins}
+
+-- an inside cell that has the leading digits w
+pub record Shares (inside : ℕ → Type 0) (digits : ℕ → List ℕ) (w : List ℕ) (c : ℕ) : Type 0 where
+  pub is-inside : inside c
+  pub begins : Begins w (digits c)
+
+-- exactly one of the cells with the leading digits w is such that they drain, through each other, to it
+pub record OneOutlet (next : ℕ → Next) (inside : ℕ → Type 0) (digits : ℕ → List ℕ) (w : List ℕ) : Type 0 where
+  pub cell : ℕ
+  pub drains : DrainsTo next (Shares inside digits w) cell
+  pub only : (c : ℕ) → DrainsTo next (Shares inside digits w) c → c ≡ cell
+
+-- demand 3, both halves
+pub record DemandThree (next : ℕ → Next) (inside : ℕ → Type 0) (depth : ℕ) (digits : ℕ → List ℕ) : Type 0 where
+  -- every two different labels of inside cells part
+  pub labels-part : (p q : ℕ) → inside p → inside q → digits p ≢ digits q → (i : ℕ) × PartAt (digits p) (digits q) i
+  -- water from q passes p exactly if, where their labels part, p's digit is smaller and p's digits from there on are all odd
+  pub cell-rule : (p q : ℕ) → inside p → inside q → length (digits p) < depth
+      → (i : ℕ) → PartAt (digits p) (digits q) i → Passes next q p ↔ RuleAt (digits p) (digits q) i
+  -- the cells that share leading digits drain, through cells that share them, to exactly one of them
+  pub one-outlet : (w : List ℕ) (c : ℕ) → Shares inside digits w c → OneOutlet next inside digits w
+
+-- the outlet rule: water from q passes the outlet of the unit that p's label names, exactly under the digit rule, at any depth
+pub record OutletRule (next : ℕ → Next) (inside : ℕ → Type 0) (digits : ℕ → List ℕ) : Type 0 where
+  pub rule : (p q : ℕ) → inside p → inside q → (o : ℕ) → DrainsTo next (Shares inside digits (digits p)) o
+      → (i : ℕ) → PartAt (digits p) (digits q) i → Passes next q o ↔ RuleAt (digits p) (digits q) i
+
+-- an inside cell of a sheet
+abbrev pub Inside : Sheet → ℕ → Type 0
+Inside S c = inside (S .grid) c ≡ true
+
+-- the digits of the label that stands for a cell in a list of label numbers
+abbrev pub digitsAt : List ℕ → ℕ → List ℕ
+digitsAt labels c = digitsOf (getD labels c 0)
+
+-- demand 3 and the outlet rule about a sheet and the labels that were written for it
+abbrev pub DemandThreeOf : Sheet → List ℕ → Type 0
+DemandThreeOf S labels = DemandThree (next (S .grid)) (Inside S) (S .depth) (digitsAt labels)
+
+abbrev pub OutletRuleOf : Sheet → List ℕ → Type 0
+OutletRuleOf S labels = OutletRule (next (S .grid)) (Inside S) (digitsAt labels)

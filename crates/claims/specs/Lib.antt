@@ -1,0 +1,5 @@
+pub mod Parting
+pub mod Demand
+pub mod Basin
+pub mod Flow
+pub mod Bounds

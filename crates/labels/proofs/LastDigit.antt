@@ -1,0 +1,91 @@
+-- Laws of the definitions from the last digit to the first: labels at a depth, and digits as they are written.
+use mathlib.Core.Path.{_≡_, refl, sym, ap, _∙_}
+use mathlib.Core.Bool.{Bool, true, false, cond}
+use mathlib.Core.List.{List, [], _∷_, _++_, append-assoc}
+use Prim.Native.Nat.{ℕ, zero, suc, _/_, _%_, _-_, _^_, _≤_, _<_}
+use native.Mathlib.Numerals.{add-one, sub-one}
+use native.Mathlib.Omega.{arith}
+use borrow.Author.Tests.{eq-eqb, ne-eqb, le-leb, lt-leb}
+use lib.Dec.{leb, leb·suc-suc}
+use lib.ListN.{length, drop, take, set, length-append}
+use lib.Seq.{set-split, drop-at, take-at, length-take-le}
+use Rattle.sheet.specs.Label.{digitsOf}
+use Rattle.sheet.specs.Refusal.{written}
+use Rattle.sheet.specs.Flow.{every, isLabel}
+use Rattle.sheet.proofs.Digits.{digits-zero, digits-step}
+
+-- ---- labels, from the last digit
+
+every-snoc : (test : ℕ → Bool) (x : List ℕ) (a : ℕ) → every test (x ++ (a ∷ [])) ≡ cond (test a) (every test x) false
+unfolding every
+every-snoc test [] a = refl
+every-snoc test (b ∷ x) a = rw (every-snoc test x a) (go (test a) (test b) (every test x))
+  where
+    go : (s t r : Bool) → cond t (cond s r false) false ≡ cond s (cond t r false) false
+    go true t r = refl
+    go false true r = refl
+    go false false r = refl
+
+none : (m : ℕ) → m ≤ 0 → digitsOf m ≡ []
+none m h = let z : m ≡ 0 = omega arith in rw z digits-zero
+
+pub digits-none : (m : ℕ) → m ≤ 0 → length (digitsOf m) ≡ 0
+digits-none m h = ap length (none m h)
+
+pub digits-some : (m : ℕ) → 0 < length (digitsOf m) → 0 < m
+digits-some zero h = absurd (omega (arith, digits-none 0 (omega arith)))
+digits-some (suc m) h = omega arith
+
+pub label-none : (depth m : ℕ) → m ≤ 0 → isLabel depth (digitsOf m) ≡ true
+unfolding isLabel every
+label-none depth m h = rw (none m h, le-leb 0 depth (omega arith))
+
+module _ (m : ℕ) (fits : m < 2 ^ 64) (some : 0 < m) where
+  last-digit : digitsOf m ≡ digitsOf (m / 10) ++ (m % 10 ∷ [])
+  last-digit = digits-step m (omega arith) (λ e. omega arith)
+
+  pub digits-longer : length (digitsOf m) ≡ suc (length (digitsOf (m / 10)))
+  digits-longer = ap length last-digit ∙ simp (length-append, add-one)
+
+  pub label-long : (depth : ℕ) → depth < 1 → isLabel depth (digitsOf m) ≡ false
+  unfolding isLabel
+  label-long depth h = rw (lt-leb (length (digitsOf m)) depth (omega (arith, digits-longer)))
+
+  pub label-zero : (depth : ℕ) → m % 10 < 1 → isLabel depth (digitsOf m) ≡ false
+  unfolding isLabel
+  label-zero depth h = rw (last-digit, every-snoc, eq-eqb (m % 10) 0 (omega arith)) (go (leb (length (digitsOf (m / 10) ++ (m % 10 ∷ []))) depth))
+    where
+      go : (b : Bool) → cond b false false ≡ false
+      go true = refl
+      go false = refl
+
+  pub label-turn : (depth : ℕ) → 1 ≤ depth → 1 ≤ m % 10 → isLabel (depth - 1) (digitsOf (m / 10)) ≡ isLabel depth (digitsOf m)
+  unfolding isLabel
+  label-turn zero h g = absurd (omega arith)
+  label-turn (suc depth) h g = rw (sub-one (suc depth), digits-longer, leb·suc-suc, last-digit, every-snoc, ne-eqb (m % 10) 0 (λ e. omega arith))
+
+-- ---- digits written from the last to the first
+
+-- one place more, before those that are written
+written-snoc : (x out : List ℕ) (a : ℕ) → length x < length out → written x (set out (length x) a) ≡ written (x ++ (a ∷ [])) out
+written-snoc x out a h = rw (set-split out (length x) a, drop-at (take (length x) out) (a ∷ drop (suc (length x)) out) (length x) (length-take-le (length x) out (omega arith)), append-assoc, length-append, add-one)
+
+pub write-turn : (m : ℕ) (out : List ℕ) (at : ℕ) → m < 2 ^ 64 → 0 < m → at ≡ length (digitsOf (m / 10)) → at < length out → written (digitsOf (m / 10)) (set out at (m % 10)) ≡ written (digitsOf m) out
+write-turn m out at fits some e h = rw (e, last-digit m fits some) (written-snoc (digitsOf (m / 10)) out (m % 10) (omega arith))
+
+pub write-end : (x out : List ℕ) → length x ≤ 0 → written x out ≡ out
+write-end [] out h = refl
+write-end (a ∷ x) out h = absurd (omega arith)
+
+-- ---- the written part of a slice
+
+-- the first n places of a slice that x was written to
+module _ (x out rest : List ℕ) (n : ℕ) (count : n ≡ length x) (is : out ≡ written x rest) where
+  pub written-within : n ≤ length out
+  written-within = omega (arith, simp length-append at (ap length is))
+
+  pub written-first : take n out ≡ x
+  written-first = rw is (take-at x (drop (length x) rest) n (sym count))
+
+  pub written-count : n ≡ length (take n out)
+  written-count = count ∙ ap length (sym written-first)

@@ -1,0 +1,49 @@
+-- `label_of` meets its contract, return by return.
+use native.Mathlib.Omega.{arith}
+use mathlib.Core.Path.{sym, _∙_}
+use borrow.Author.Tests.{le-leb, lt-leb}
+use borrow.Author.Needs.{needs}
+use Rattle.sheet.proofs.Digits.{number-fits}
+use Rattle.labels.proofs.Within.{digits-every, depth-most}
+use Rattle.labels.specs.Digits.{labelAnswer, areDigits}
+use Rattle.labels.proofs.digits.label_of.Statement.{statement}
+use Rattle.labels.proofs.digits.label_of.Tie as tie
+
+depth-fits-requires : tie.Need-depth-fits-requires
+depth-fits-requires c κs = search needs
+
+all-digits-requires : tie.Need-all-digits-requires
+all-digits-requires c κs = search needs
+
+number-of-requires : tie.Need-number-of-requires
+number-of-requires c κs =
+    let most = depth-most _ (sym (c .before .before .before .before .depth-fits .ensures) ∙ c .before .before .before .if1 .taken) in
+    number-fits _ (digits-every _ (sym (c .before .all-digits .ensures) ∙ c .if3 .taken)) (omega arith)
+
+returns : tie.Need-returns
+unfolding labelAnswer areDigits
+returns c = simp (sym (c .before .before .before .before .before .depth-fits .ensures) ∙ c .before .before .before .before .if1 .taken, le-leb _ _ (c .before .before .before .if2 .taken), sym (c .before .before .all-digits .ensures) ∙ c .before .if3 .taken, c .number-of .ensures)
+
+returns-2 : tie.Need-returns-2
+unfolding labelAnswer areDigits
+returns-2 c = simp (sym (c .before .before .before .before .depth-fits .ensures) ∙ c .before .before .before .if1 .taken, le-leb _ _ (c .before .before .if2 .taken), sym (c .before .all-digits .ensures) ∙ c .if3 .left)
+
+returns-3 : tie.Need-returns-3
+unfolding labelAnswer areDigits
+returns-3 c = simp (sym (c .before .before .depth-fits .ensures) ∙ c .before .if1 .taken, lt-leb _ _ (c .if2 .left))
+
+returns-4 : tie.Need-returns-4
+unfolding labelAnswer areDigits
+returns-4 c = simp (sym (c .before .depth-fits .ensures) ∙ c .if1 .left)
+
+pub label-of-spec : {M : Type 1} → statement M
+label-of-spec =
+    tie.close
+    (tie.spec
+    depth-fits-requires
+    all-digits-requires
+    number-of-requires
+    returns
+    returns-2
+    returns-3
+    returns-4)

@@ -1,0 +1,137 @@
+// The flow question: does water from the label q pass the label p?
+use crate::digits::count_digits;
+use crate::digits::depth_fits;
+use crate::digits::is_label;
+use crate::digits::put_digits;
+use sheet::Flow;
+use sheet::Found;
+ghost use mathlib.Core.Path.{_≡_};
+ghost use Prim.Native.Nat.{_<_};
+ghost use lib.ListN.{length, drop};
+ghost use lib.Dec.{eqb};
+ghost use Rattle.sheet.specs.Label.{digitsOf};
+ghost use Rattle.sheet.specs.Refusal.{both};
+ghost use Rattle.sheet.specs.Flow.{partAt, every, isOdd, ruleAt, isLabel, answerAt, flowDigits, flow, answerNumber};
+
+// The first place where both have a digit and the digits differ.
+fn part_at(p: &[u8], q: &[u8]) -> Found
+    ensures { λ r. ⌜ r ≡ partAt (now (p .entry)) (now (q .entry)) ⌝ }
+{
+    let mut i = 0;
+    while i < p.len() {
+        if q.len() <= i {
+            return Found::Nothing;
+        }
+        if p[i] != q[i] {
+            return Found::At(i);
+        }
+        i = i + 1;
+    }
+    Found::Nothing
+}
+
+// All digits from a place on are odd.
+fn all_odd(digits: &[u8], from: usize) -> bool
+    ensures { λ r. ⌜ r ≡ every isOdd (drop from (now (digits .entry))) ⌝ }
+{
+    let mut i = from;
+    while i < digits.len() {
+        if digits[i] % 2 != 1 {
+            return false;
+        }
+        i = i + 1;
+    }
+    true
+}
+
+// The rule for labels that part at i: p's digit is smaller, and p's digits from there on are all odd.
+fn rule_at(i: usize, p: &[u8], q: &[u8]) -> bool
+    requires { ⌜ i < length (now p) ⌝ }
+    requires { ⌜ i < length (now q) ⌝ }
+    ensures { λ r. ⌜ r ≡ ruleAt i (now (p .entry)) (now (q .entry)) ⌝ }
+{
+    if p[i] < q[i] {
+        return all_odd(p, i);
+    }
+    false
+}
+
+// The answer for unequal labels, by their digits.
+fn answer_at(depth: usize, p: &[u8], q: &[u8]) -> Flow
+    ensures { λ r. ⌜ r ≡ answerAt depth (now (p .entry)) (now (q .entry)) (partAt (now (p .entry)) (now (q .entry))) ⌝ }
+{
+    match part_at(p, q) {
+        Found::Nothing => Flow::Refused(12),
+        Found::At(i) => {
+            if rule_at(i, p, q) {
+                if depth <= p.len() {
+                    Flow::Undecided
+                } else {
+                    Flow::Yes
+                }
+            } else {
+                Flow::No
+            }
+        }
+    }
+}
+
+// The answer for unequal labels.
+fn answer_unequal(depth: usize, p: u64, q: u64) -> Flow
+    ensures { λ r. ⌜ r ≡ answerAt depth (digitsOf p) (digitsOf q) (partAt (digitsOf p) (digitsOf q)) ⌝ }
+{
+    let mut a = [0u8; 20];
+    let mut b = [0u8; 20];
+    let n = count_digits(p);
+    let m = count_digits(q);
+    put_digits(p, n, &mut a);
+    put_digits(q, m, &mut b);
+    answer_at(depth, &a[..n], &b[..m])
+}
+
+// Both are labels at the depth.
+fn are_labels(depth: usize, p: u64, q: u64) -> bool
+    ensures { λ r. ⌜ r ≡ both (isLabel depth (digitsOf p)) (isLabel depth (digitsOf q)) ⌝ }
+{
+    if is_label(depth, p) {
+        return is_label(depth, q);
+    }
+    false
+}
+
+// The answer at a depth from 1 to 18: 11, Same, 12, then the rule.
+fn flow_digits(depth: usize, p: u64, q: u64) -> Flow
+    ensures { λ r. ⌜ r ≡ flowDigits depth (digitsOf p) (digitsOf q) (eqb p q) ⌝ }
+{
+    if are_labels(depth, p, q) {
+        if p == q {
+            return Flow::Same;
+        }
+        return answer_unequal(depth, p, q);
+    }
+    Flow::Refused(11)
+}
+
+// Does water from the label q pass the label p? 2, 11, Same, 12, then the rule.
+pub fn flow_of(depth: usize, p: u64, q: u64) -> Flow
+    ensures { λ r. ⌜ r ≡ flow depth p q ⌝ }
+{
+    if depth_fits(depth) {
+        return flow_digits(depth, p, q);
+    }
+    Flow::Refused(2)
+}
+
+// The number of an answer: 0 No, 1 Yes, 2 Same, 3 Undecided, 128 + the refusal's number. A refusal may carry any byte, so
+// this is no byte; the number of an answer of flow_of fits one.
+pub fn answer_number(a: Flow) -> u32
+    ensures { λ r. ⌜ r ≡ answerNumber a ⌝ }
+{
+    match a {
+        Flow::No => 0,
+        Flow::Yes => 1,
+        Flow::Same => 2,
+        Flow::Undecided => 3,
+        Flow::Refused(number) => 128 + number as u32,
+    }
+}

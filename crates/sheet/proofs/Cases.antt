@@ -1,0 +1,16 @@
+-- The worked cases hold of the definitions, by computation.
+use mathlib.Core.Path.{_≡_, refl}
+use Rattle.sheet.specs.Cases.{cases, listing, traps, allComputed, allStated}
+
+-- all cases marked * in document 01
+pub all-cases : allComputed cases ≡ allStated cases
+unfolding cases
+all-cases = refl
+
+pub sample-listing : allComputed listing ≡ allStated listing
+unfolding listing
+sample-listing = refl
+
+pub all-traps : allComputed traps ≡ allStated traps
+unfolding traps
+all-traps = refl

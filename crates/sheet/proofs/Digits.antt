@@ -1,0 +1,208 @@
+-- Laws of a label's digits and of its decimal number: each gives the other back.
+use mathlib.Core.Path.{_≡_, refl, sym, _∙_}
+use mathlib.Core.Bool.{Bool, true, false, cond, not, true≢false}
+use mathlib.Core.List.{List, [], _∷_, _++_, append-assoc, append-nil}
+use Prim.Native.Nat.{ℕ, zero, suc, _+_, _*_, _/_, _%_, _-_, _^_, _≤_, _<_}
+use native.Mathlib.Omega.{arith}
+use native.Mathlib.Nat.{zero-add, suc-add, add-suc, mul-le-mul-right, pow-suc, pow-le-pow-right}
+use lib.Dec.{eqb, leb}
+use lib.ListN.{length, getD, length-append}
+use borrow.Author.Tests.{eq-eqb, ne-eqb, le-leb, eqb-true, eqb-false, leb-true, not-true}
+use Rattle.sheet.specs.Label.{Digits, digits-none, digits-cons, numberFrom, number, digitsWithin, digitsOf}
+use Rattle.sheet.specs.Refusal.{both}
+use Rattle.sheet.specs.Flow.{every, isLabel}
+
+-- ---- the number of digits
+
+number-join : (m : ℕ) (x y : List ℕ) → numberFrom m (x ++ y) ≡ numberFrom (numberFrom m x) y
+unfolding numberFrom
+number-join m [] y = refl
+number-join m (a ∷ x) y = number-join (m * 10 + a) x y
+
+-- one digit more
+pub number-snoc : (x : List ℕ) (a : ℕ) → number (x ++ (a ∷ [])) ≡ number x * 10 + a
+unfolding number numberFrom
+number-snoc x a = number-join 0 x (a ∷ [])
+
+bound-from : (m : ℕ) (x : List ℕ) → Digits 9 x → numberFrom m x < suc m * 10 ^ length x
+unfolding numberFrom
+bound-from m [] digits-none = omega arith
+bound-from m (a ∷ x) (digits-cons low high d) =
+    let rest = bound-from (m * 10 + a) x d in
+    let one : suc (m * 10 + a) ≤ suc m * 10 = omega arith in
+    rw (pow-suc 10 (length x)) (omega (arith, mul-le-mul-right (10 ^ length x) one))
+
+pub number-bound : (x : List ℕ) → Digits 9 x → number x < 10 ^ length x
+unfolding number
+number-bound x d = omega (arith, bound-from 0 x d)
+
+-- at most 18 digits fit 64 bits
+pub number-fits : (x : List ℕ) → Digits 9 x → length x ≤ 18 → number x < 2 ^ 64
+number-fits x d h = omega (arith, number-bound x d, pow-le-pow-right {n = 10} (omega arith) h)
+
+-- ---- the digits of a number
+
+zero-within : (k : ℕ) → digitsWithin k 0 ≡ []
+unfolding digitsWithin
+zero-within zero = refl
+zero-within (suc k) = refl
+
+pub digits-zero : digitsOf 0 ≡ []
+unfolding digitsOf
+digits-zero = zero-within 20
+
+-- one digit, the last, and the digits before it
+digits-last : (k m : ℕ) → (m ≡ 0 → ⊥) → digitsWithin (suc k) m ≡ digitsWithin k (m / 10) ++ (m % 10 ∷ [])
+unfolding digitsWithin
+digits-last k m some = rw (ne-eqb m 0 some)
+
+-- where k places are enough, one more changes nothing
+digits-enough : (k m : ℕ) → m < 10 ^ k → digitsWithin (suc k) m ≡ digitsWithin k m
+unfolding digitsWithin
+digits-enough zero m h = rw (eq-eqb m 0 (omega arith))
+digits-enough (suc k) m h = rw (digits-enough k (m / 10) (omega (arith, pow-suc 10 k)))
+
+pub digits-step : (m : ℕ) → m < 10 ^ 20 → (m ≡ 0 → ⊥) → digitsOf m ≡ digitsOf (m / 10) ++ (m % 10 ∷ [])
+unfolding digitsOf
+digits-step m h some = digits-last 19 m some ∙ rw (digits-enough 19 (m / 10) (omega arith))
+
+-- ---- each gives the other back
+
+-- the digits of a number with one digit more
+digits-snoc : (k m a : ℕ) → 1 ≤ a → a ≤ 9 → digitsWithin (suc k) (m * 10 + a) ≡ digitsWithin k m ++ (a ∷ [])
+digits-snoc k m a low high =
+    let tens : (m * 10 + a) / 10 ≡ m = omega arith in
+    let ones : (m * 10 + a) % 10 ≡ a = omega arith in
+    digits-last k (m * 10 + a) (λ e. omega arith) ∙ rw (tens, ones)
+
+digits-number-from : (k m : ℕ) (x : List ℕ) → Digits 9 x → digitsWithin (length x + k) (numberFrom m x) ≡ digitsWithin k m ++ x
+unfolding numberFrom
+digits-number-from k m [] digits-none = rw (zero-add k, append-nil)
+digits-number-from k m (a ∷ x) (digits-cons low high d) =
+    rw (suc-add, ← add-suc (length x) k, digits-number-from (suc k) (m * 10 + a) x d, digits-snoc k m a low high, append-assoc)
+
+-- the digits of a label's number are the label's
+pub digits-within : (k : ℕ) (x : List ℕ) → Digits 9 x → length x ≤ k → digitsWithin k (number x) ≡ x
+unfolding number
+digits-within k x d h =
+    let e : k ≡ length x + (k - length x) = omega arith in
+    rw e (digits-number-from (k - length x) 0 x d ∙ rw (zero-within (k - length x)))
+
+pub digits-number : (x : List ℕ) → Digits 9 x → length x ≤ 20 → digitsOf (number x) ≡ x
+unfolding digitsOf
+digits-number x d h = digits-within 20 x d h
+
+-- two labels with one number are one label
+pub number-injective : (x y : List ℕ) → Digits 9 x → Digits 9 y → number x ≡ number y → x ≡ y
+number-injective x y d f e =
+    let a = digits-within (length x + length y) x d (omega arith) in
+    let b = digits-within (length x + length y) y f (omega arith) in
+    sym a ∙ rw e b
+
+-- the number of a number's digits is that number
+number-within : (k m : ℕ) → m < 10 ^ k → number (digitsWithin k m) ≡ m
+unfolding digitsWithin number numberFrom
+number-within zero m h = omega arith
+number-within (suc k) m h = go (eqb m 0) refl (number-within k (m / 10) (omega (arith, pow-suc 10 k)))
+  where
+    go : (b : Bool) → eqb m 0 ≡ b → number (digitsWithin k (m / 10)) ≡ m / 10 → number (cond b [] (digitsWithin k (m / 10) ++ (m % 10 ∷ []))) ≡ m
+    go true e rest = omega (arith, eqb-true m 0 e)
+    go false e rest = omega (arith, number-snoc (digitsWithin k (m / 10)) (m % 10))
+
+pub number-digits : (m : ℕ) → m < 10 ^ 20 → number (digitsOf m) ≡ m
+unfolding digitsOf
+number-digits m h = number-within 20 m h
+
+-- ---- how many digits there are, and that each is below 10
+
+-- k places hold at most k digits
+at-most-within : (k m : ℕ) → length (digitsWithin k m) ≤ k
+unfolding digitsWithin
+at-most-within zero m = omega arith
+at-most-within (suc k) m = go (eqb m 0) (at-most-within k (m / 10))
+  where
+    go : (b : Bool) → length (digitsWithin k (m / 10)) ≤ k → length (cond b [] (digitsWithin k (m / 10) ++ (m % 10 ∷ []))) ≤ suc k
+    go true rest = omega arith
+    go false rest = simp length-append (omega arith)
+
+pub digits-at-most-20 : (m : ℕ) → length (digitsOf m) ≤ 20
+unfolding digitsOf
+digits-at-most-20 m = at-most-within 20 m
+
+count-within : (f k m : ℕ) → m < 10 ^ k → length (digitsWithin f m) ≤ k
+unfolding digitsWithin
+count-within zero k m h = omega arith
+count-within (suc f) zero m h = rw (eq-eqb m 0 (omega arith)) (omega arith)
+count-within (suc f) (suc k) m h = go (eqb m 0) (count-within f k (m / 10) (omega (arith, pow-suc 10 k)))
+  where
+    go : (b : Bool) → length (digitsWithin f (m / 10)) ≤ k → length (cond b [] (digitsWithin f (m / 10) ++ (m % 10 ∷ []))) ≤ suc k
+    go true rest = omega arith
+    go false rest = simp length-append (omega arith)
+
+-- a number below 10 ^ k has at most k digits
+pub digits-at-most : (k m : ℕ) → m < 10 ^ k → length (digitsOf m) ≤ k
+unfolding digitsOf
+digits-at-most k m h = count-within 20 k m h
+
+below-ten-snoc : (x : List ℕ) (a : ℕ) → a < 10 → ((i : ℕ) → getD x i 0 < 10) → (i : ℕ) → getD (x ++ (a ∷ [])) i 0 < 10
+below-ten-snoc [] a h all zero = h
+below-ten-snoc [] a h all (suc i) = omega arith
+below-ten-snoc (b ∷ x) a h all zero = all zero
+below-ten-snoc (b ∷ x) a h all (suc i) = below-ten-snoc x a h (λ j. all (suc j)) i
+
+below-ten-within : (k m i : ℕ) → getD (digitsWithin k m) i 0 < 10
+unfolding digitsWithin
+below-ten-within zero m i = omega arith
+below-ten-within (suc k) m i = go (eqb m 0) (below-ten-snoc (digitsWithin k (m / 10)) (m % 10) (omega arith) (below-ten-within k (m / 10)) i)
+  where
+    go : (b : Bool) → getD (digitsWithin k (m / 10) ++ (m % 10 ∷ [])) i 0 < 10 → getD (cond b [] (digitsWithin k (m / 10) ++ (m % 10 ∷ []))) i 0 < 10
+    go true h = omega arith
+    go false h = h
+
+pub digitsOf-below-ten : (m i : ℕ) → getD (digitsOf m) i 0 < 10
+unfolding digitsOf
+digitsOf-below-ten m i = below-ten-within 20 m i
+
+-- ---- labels at a depth
+
+pub both-left : (a b : Bool) → both a b ≡ true → a ≡ true
+both-left true b e = refl
+both-left false b e = e
+
+pub both-right : (a b : Bool) → both a b ≡ true → b ≡ true
+both-right true b e = e
+both-right false b e = absurd (true≢false (sym e))
+
+-- a label has at most depth digits, each from 1 to 9
+pub label-length : (depth : ℕ) (x : List ℕ) → isLabel depth x ≡ true → length x ≤ depth
+unfolding isLabel
+label-length depth x e = leb-true _ _ (both-left _ _ e)
+
+-- all digits other than 0 and below 10 are digits from 1 to 9
+digits-nonzero : (x : List ℕ) → every (λ a. not (eqb a 0)) x ≡ true → ((i : ℕ) → getD x i 0 < 10) → Digits 9 x
+unfolding every
+digits-nonzero [] e below = digits-none
+digits-nonzero (a ∷ x) e below =
+    let some = eqb-false a 0 (not-true (eqb a 0) (both-left _ _ e)) in
+    let low : 1 ≤ a = omega arith in
+    let high : a ≤ 9 = omega (arith, below 0) in
+    digits-cons low high (digits-nonzero x (both-right (not (eqb a 0)) _ e) (λ i. below (suc i)))
+
+pub label-digits : (depth : ℕ) (x : List ℕ) → isLabel depth x ≡ true → ((i : ℕ) → getD x i 0 < 10) → Digits 9 x
+unfolding isLabel
+label-digits depth x e below = digits-nonzero x (both-right (leb (length x) depth) _ e) below
+
+nonzero-digits : {x : List ℕ} → Digits 9 x → every (λ a. not (eqb a 0)) x ≡ true
+unfolding every
+nonzero-digits digits-none = refl
+nonzero-digits (digits-cons {a = a} low high d) = rw (ne-eqb a 0 (λ e. omega arith), nonzero-digits d)
+
+-- and such digits are a label's
+pub digits-label : (depth : ℕ) (x : List ℕ) → Digits 9 x → length x ≤ depth → isLabel depth x ≡ true
+unfolding isLabel
+digits-label depth x d h = rw (le-leb _ _ h, nonzero-digits d)
+
+pub digits-below-ten : {x : List ℕ} → Digits 9 x → (i : ℕ) → getD x i 0 < 10
+digits-below-ten digits-none i = omega arith
+digits-below-ten (digits-cons low high d) zero = omega arith
+digits-below-ten (digits-cons low high d) (suc i) = digits-below-ten d i

@@ -1,0 +1,111 @@
+-- `first_fault` meets its contract: before each turn no cell before it has the fault.
+use mathlib.Core.Path.{_≡_, refl, sym, _∙_}
+use Prim.Native.Nat.{_+_, _*_, _-_, _<_, _≤_}
+use native.Mathlib.Omega.{arith}
+use borrow.Author.Count.{below-more}
+use borrow.Author.Needs.{needs}
+use Rattle.sheet.specs.declared.Found.the-variants.{Nothing}
+use Rattle.sheet.specs.Sheet.{grid}
+use Rattle.sheet.specs.Refusal.{faultAt}
+use Rattle.sheet.proofs.Cells.{cells-most, cell-lt, row-end}
+use Rattle.sheet.proofs.First.{NoneBelow, first-none, first-at}
+use Rattle.sheet.proofs.first_fault.Statement.{statement}
+use Rattle.sheet.proofs.first_fault.Tie as tie
+
+abbrev Inv-loop : tie.InvT-loop
+Inv-loop dirs rows cols reached fault found₀ row col₀ found col =
+    (col ≤ cols) × (found ≡ Nothing) × NoneBelow (faultAt (grid rows cols dirs) reached fault) (row * cols + col)
+
+abbrev μ-loop : tie.MeasureT-loop
+μ-loop dirs rows cols reached fault found₀ row col₀ found col = cols - col
+
+abbrev Inv-rows : tie.InvT-rows
+Inv-rows dirs rows cols reached fault found₀ row₀ found row =
+    (row ≤ rows) × (found ≡ Nothing) × NoneBelow (faultAt (grid rows cols dirs) reached fault) (row * cols)
+
+abbrev μ-rows : tie.MeasureT-rows
+μ-rows dirs rows cols reached fault found₀ row₀ found row = rows - row
+
+rows-holds : tie.Need-rows-holds Inv-loop μ-loop Inv-rows μ-rows
+rows-holds c = (omega arith, refl, λ k h. absurd (omega arith))
+
+loop-holds : tie.Need-loop-holds Inv-loop μ-loop Inv-rows μ-rows
+loop-holds c = (omega arith, c .before .rows .inv .1, λ k h. c .before .rows .inv .2 k (omega arith))
+
+-- the cell lies on the sheet, and its number fits
+on-sheet : (c : tie.In-loop Inv-loop μ-loop Inv-rows μ-rows) → let a = c .before .before .before .before .before .before .args in c .before .before .before .rows .row * a .cols + c .before .loop .col < a .rows * a .cols
+on-sheet c = cell-lt (c .before .before .rows-test .taken) (c .loop-test .taken)
+
+cell-fits : (c : tie.In-loop Inv-loop μ-loop Inv-rows μ-rows) → c .before .before .before .rows .row * c .before .before .before .before .before .before .args .cols + c .before .loop .col < 65536
+cell-fits c =
+    let p = c .before .before .before .before .before .before .pre .0 in
+    omega (arith, on-sheet c, cells-most (p .rows-most) (p .cols-most))
+
+mul-cell : tie.Need-mul-cell Inv-loop μ-loop Inv-rows μ-rows
+mul-cell c = omega (arith, cell-fits c)
+
+add-cell : tie.Need-add-cell Inv-loop μ-loop Inv-rows μ-rows
+add-cell c = omega (arith, cell-fits c)
+
+has-fault-requires : tie.Need-has-fault-requires Inv-loop μ-loop Inv-rows μ-rows
+has-fault-requires c κs = let p = c .before .before .before .before .before .before .pre in (p .0, on-sheet c, p .1)
+
+add-col : tie.Need-add-col Inv-loop μ-loop Inv-rows μ-rows
+add-col c = search needs
+
+loop-less : tie.Need-loop-less Inv-loop μ-loop Inv-rows μ-rows
+loop-less c = search needs
+
+-- what the call answers
+fault-is : (c : tie.After-has-fault Inv-loop μ-loop Inv-rows μ-rows) → let a = c .before .before .before .before .before .before .before .args in
+    c .has-fault .result ≡ faultAt (grid (a .rows) (a .cols) (a .dirs .now)) (a .reached .now) (a .fault) (c .before .before .before .before .rows .row * a .cols + c .before .before .loop .col)
+fault-is c = c .has-fault .ensures
+
+loop-again : tie.Need-loop-again Inv-loop μ-loop Inv-rows μ-rows
+loop-again c =
+    let l = c .before .before .before .loop in
+    (omega arith, l .inv .1, λ k h. below-more _ _ (l .inv .2) (sym (fault-is (c .before)) ∙ c .if1 .left) k (omega arith))
+
+add-row : tie.Need-add-row Inv-loop μ-loop Inv-rows μ-rows
+add-row c = search needs
+
+rows-less : tie.Need-rows-less Inv-loop μ-loop Inv-rows μ-rows
+rows-less c = search needs
+
+rows-again : tie.Need-rows-again Inv-loop μ-loop Inv-rows μ-rows
+rows-again c =
+    let a = c .before .before .before .before .before .before .args in
+    let e : c .before .loop .col ≡ a .cols = omega arith in
+    (omega arith, c .before .loop .inv .1, λ k h. c .before .loop .inv .2 k (omega (arith, row-end (c .before .before .before .rows .row) (a .cols))))
+
+returns : tie.Need-returns Inv-loop μ-loop Inv-rows μ-rows
+returns c =
+    let e : c .before .rows .row ≡ c .before .before .before .before .args .rows = omega arith in
+    c .before .rows .inv .1 ∙ sym (first-none _ _ (rw e at (c .before .rows .inv .2)))
+
+returns-2 : tie.Need-returns-2 Inv-loop μ-loop Inv-rows μ-rows
+returns-2 c =
+    let l = c .before .before .before .loop in
+    sym (first-at _ _ _ (record { below = on-sheet (c .before .before); passes = sym (fault-is (c .before)) ∙ c .if1 .taken; none-before = l .inv .2 }))
+
+pub first-fault-spec : {M : Type 1} → statement M
+first-fault-spec =
+    tie.close
+    (tie.spec
+    Inv-loop
+    μ-loop
+    Inv-rows
+    μ-rows
+    rows-holds
+    loop-holds
+    mul-cell
+    add-cell
+    has-fault-requires
+    add-col
+    loop-less
+    loop-again
+    add-row
+    rows-less
+    rows-again
+    returns
+    returns-2)

@@ -1,0 +1,98 @@
+-- `has_fault` meets its contract.
+use mathlib.Core.Path.{sym, _∙_, ap}
+use borrow.Author.Needs.{needs}
+use Rattle.sheet.specs.Sheet.{goesNowhere}
+use Rattle.sheet.proofs.Faults.{bad-code, is-inside, unreached-outside, unreached-inside, outlet-before, outlet-outside, outlet-inside}
+use Rattle.sheet.proofs.has_fault.Statement.{statement}
+use Rattle.sheet.proofs.has_fault.Tie as tie
+
+shared-slice-read-code : tie.Need-shared-slice-read-code
+shared-slice-read-code c = search needs
+
+enum-told : tie.Need-enum-told
+enum-told c = search needs
+
+is-code-requires : tie.Need-is-code-requires
+is-code-requires c κs = search needs
+
+enum-told-2 : tie.Need-enum-told-2
+enum-told-2 c = search needs
+
+enum-told-3 : tie.Need-enum-told-3
+enum-told-3 c = search needs
+
+returns : tie.Need-returns
+returns c = rw (c .before .enum-told3 .given .1) (sym (unreached-outside _ _ _ (c .if1 .taken)))
+
+mul-result : tie.Need-mul-result
+mul-result c = search needs
+
+shared-slice-read-result : tie.Need-shared-slice-read-result
+shared-slice-read-result c = search needs
+
+enum-known-fault : tie.Need-enum-known-fault
+enum-known-fault c = search needs
+
+returns-2 : tie.Need-returns-2
+returns-2 c = rw (c .before .before .fault .given .1) (sym (outlet-before _ _ _ (c .if2 .taken)))
+
+returns-3 : tie.Need-returns-3
+returns-3 c = rw (c .before .before .before .fault .given .1) (sym (outlet-outside _ _ _ (c .before .if2 .left) (c .if3 .taken)))
+
+next-of-requires : tie.Need-next-of-requires
+next-of-requires c κs = search needs
+
+enum-told-4 : tie.Need-enum-told-4
+enum-told-4 c = search needs
+
+enum-told-5 : tie.Need-enum-told-5
+enum-told-5 c = search needs
+
+returns-4 : tie.Need-returns-4
+returns-4 c = rw (c .before .enum-told .given .1, c .is-code .ensures) (sym (bad-code _ _ _))
+
+returns-5 : tie.Need-returns-5
+returns-5 c = rw (c .enum-told2 .given .1) (sym (is-inside _ _ _ (c .before .before .before .before .before .pre .1)))
+
+returns-6 : tie.Need-returns-6
+returns-6 c =
+    let p = c .before .before .before .before .before .before .before .pre in
+    rw (c .before .before .enum-told3 .given .1) (sym (unreached-inside _ _ _ (p .1) (c .before .if1 .left)))
+
+returns-7 : tie.Need-returns-7
+returns-7 c =
+    let n = c .before .before in
+    let f = n .before .before .before .before in
+    let p = f .before .before .before .before .before .pre in
+    rw (f .fault .given .1) (sym (outlet-inside _ _ _ (n .before .before .if2 .left) (p .1) (n .before .if3 .left) ∙ ap goesNowhere (sym (n .next-of .ensures) ∙ c .enum-told4 .given .1)))
+
+returns-8 : tie.Need-returns-8
+returns-8 c =
+    let n = c .before .before in
+    let f = n .before .before .before .before in
+    let p = f .before .before .before .before .before .pre in
+    rw (f .fault .given .1) (sym (outlet-inside _ _ _ (n .before .before .if2 .left) (p .1) (n .before .if3 .left) ∙ ap goesNowhere (sym (n .next-of .ensures) ∙ c .enum-told5 .given .1)))
+
+pub has-fault-spec : {M : Type 1} → statement M
+has-fault-spec =
+    tie.close
+    (tie.spec
+    shared-slice-read-code
+    enum-told
+    is-code-requires
+    enum-told-2
+    enum-told-3
+    returns
+    mul-result
+    shared-slice-read-result
+    enum-known-fault
+    returns-2
+    returns-3
+    next-of-requires
+    enum-told-4
+    enum-told-5
+    returns-4
+    returns-5
+    returns-6
+    returns-7
+    returns-8)

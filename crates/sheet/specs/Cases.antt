@@ -1,0 +1,91 @@
+-- Worked cases: what the definitions compute beside what document 01 states. Those that it marks * stand in one list, in its order.
+use mathlib.Core.Bool.{cond}
+use mathlib.Core.List.{List, [], _∷_}
+use Prim.Native.Nat.{ℕ, _+_}
+use lib.Dec.{eqb}
+use lib.ListN.{replicate}
+use Rattle.sheet.specs.Sheet.{Grid, Sheet, grid}
+use Rattle.sheet.specs.Area.{area}
+use Rattle.sheet.specs.River.{network, stem, mouth, Run, river}
+use Rattle.sheet.specs.Label.{labelOf, outlet, areasOf, labelsOf}
+use Rattle.sheet.specs.Refusal.{outcome, refusalNumber, refusalPlace}
+use Rattle.sheet.specs.Flow.{flow, answerNumber}
+
+pub record Case : Type 0 where
+  pub computed : List ℕ
+  pub stated : List ℕ
+
+abbrev case : List ℕ → List ℕ → Case
+case computed stated = record { computed = computed; stated = stated }
+
+-- sample A at a depth
+abbrev pub sampleA : Grid
+sampleA = grid 3 4 (0 ∷ 4 ∷ 16 ∷ 8 ∷ 16 ∷ 16 ∷ 16 ∷ 16 ∷ 64 ∷ 64 ∷ 32 ∷ 64 ∷ [])
+
+abbrev sheet : Grid → ℕ → Sheet
+sheet G depth = record { grid = G; depth = depth }
+
+-- the mouths that stand straight after a stem cell in a river list
+abbrev mouths : Run → List ℕ
+mouths [] = []
+mouths (stem s ∷ R) = []
+mouths (mouth v ∷ R) = v ∷ mouths R
+
+abbrev mouthsAt : ℕ → Run → List ℕ
+mouthsAt c [] = []
+mouthsAt c (stem s ∷ R) = cond (eqb s c) (mouths R) (mouthsAt c R)
+mouthsAt c (mouth v ∷ R) = mouthsAt c R
+
+-- number and place of the outcome, where n places of each kind are needed and lent
+abbrev outcomeIs : Grid → ℕ → List ℕ
+outcomeIs G n =
+    let o = outcome (sheet G 1) (record { areas = replicate n 0; labels = replicate n 0; work = replicate (n + n + n + n + n + n + n + n) 0 }) in
+    refusalNumber o ∷ refusalPlace o ∷ []
+
+-- the cases marked *
+unfoldable pub cases : List Case
+unfolding area network river labelOf outlet outcome flow
+cases =
+    case (area sampleA 4 ∷ []) (11 ∷ [])
+    ∷ case (mouthsAt 5 (river (network sampleA) (outlet sampleA))) (9 ∷ 10 ∷ 1 ∷ [])
+    ∷ case (labelOf (sheet sampleA 2) 3 ∷ labelOf (sheet sampleA 2) 11 ∷ []) (92 ∷ 93 ∷ [])
+    ∷ case (labelOf (sheet sampleA 1) 3 ∷ labelOf (sheet sampleA 1) 6 ∷ labelOf (sheet sampleA 1) 7 ∷ labelOf (sheet sampleA 1) 11 ∷ []) (9 ∷ 9 ∷ 9 ∷ 9 ∷ [])
+    ∷ case (area (grid 1 1 (1 ∷ [])) 0 ∷ labelOf (sheet (grid 1 1 (1 ∷ [])) 1) 0 ∷ []) (1 ∷ 0 ∷ [])
+    ∷ case (outcomeIs (grid 1 2 (1 ∷ 16 ∷ [])) 2) (6 ∷ 0 ∷ [])
+    ∷ case (outcomeIs (grid 1 2 (16 ∷ 1 ∷ [])) 2) (7 ∷ 1 ∷ [])
+    ∷ case (answerNumber (flow 3 91 92) ∷ answerNumber (flow 3 92 91) ∷ answerNumber (flow 3 21 3) ∷ []) (1 ∷ 0 ∷ 0 ∷ [])
+    ∷ case (answerNumber (flow 3 131 14) ∷ []) (3 ∷ [])
+    ∷ case (answerNumber (flow 3 9 91) ∷ answerNumber (flow 3 105 9) ∷ []) (140 ∷ 139 ∷ [])
+    ∷ []
+
+-- sample A whole, as document 01 prints it
+unfoldable pub listing : List Case
+unfolding areasOf labelsOf
+listing =
+    case (areasOf sampleA) (0 ∷ 2 ∷ 1 ∷ 1 ∷ 11 ∷ 9 ∷ 4 ∷ 2 ∷ 1 ∷ 1 ∷ 1 ∷ 1 ∷ [])
+    ∷ case (labelsOf (sheet sampleA 2)) (0 ∷ 8 ∷ 8 ∷ 92 ∷ 1 ∷ 3 ∷ 91 ∷ 93 ∷ 2 ∷ 4 ∷ 6 ∷ 93 ∷ [])
+    ∷ []
+
+-- a basin whose outlet, cell 3, has the donors 0, 1, 7 and 4, and cell 4 the donors 2, 6 and 8. Of the equal mouths 0, 1, 7, 2 and 6,
+-- 0 is not taken: it stays in unit 1, whose stem cell is 3 alone
+abbrev pub confluences : Grid
+confluences = grid 3 3 (4 ∷ 8 ∷ 8 ∷ 16 ∷ 16 ∷ 0 ∷ 128 ∷ 32 ∷ 32 ∷ [])
+
+-- one case for each of document 01's traps: a stem chosen afresh, ties by list place, digits that slide, a later even digit, a circle
+unfoldable pub traps : List Case
+unfolding labelOf area outcome flow
+traps =
+    case (labelOf (sheet confluences 2) 3 ∷ labelOf (sheet confluences 2) 0 ∷ []) (11 ∷ 12 ∷ [])
+    ∷ case (labelOf (sheet confluences 2) 1 ∷ labelOf (sheet confluences 2) 2 ∷ []) (2 ∷ 6 ∷ [])
+    ∷ case (labelOf (sheet confluences 2) 7 ∷ labelOf (sheet confluences 2) 6 ∷ labelOf (sheet confluences 2) 8 ∷ []) (4 ∷ 8 ∷ 9 ∷ [])
+    ∷ case (answerNumber (flow 3 12 3) ∷ answerNumber (flow 3 114 3) ∷ answerNumber (flow 3 11 3) ∷ []) (0 ∷ 0 ∷ 1 ∷ [])
+    ∷ case (outcomeIs (grid 1 3 (4 ∷ 1 ∷ 16 ∷ [])) 3) (6 ∷ 1 ∷ [])
+    ∷ []
+
+abbrev pub allComputed : List Case → List (List ℕ)
+allComputed [] = []
+allComputed (c ∷ cs) = c .computed ∷ allComputed cs
+
+abbrev pub allStated : List Case → List (List ℕ)
+allStated [] = []
+allStated (c ∷ cs) = c .stated ∷ allStated cs

@@ -1,0 +1,68 @@
+-- Document 01's flow question: where two labels part, the digit rule, refusals 2, 11 and 12, and the answer.
+use mathlib.Core.Bool.{Bool, true, false, cond, not}
+use mathlib.Core.List.{List, [], _∷_}
+use Prim.Native.Nat.{ℕ, suc, _+_, _%_}
+use lib.Dec.{eqb, ltb, leb}
+use lib.ListN.{length, getD, drop}
+use Rattle.sheet.specs.declared.Found.{Found}
+use Rattle.sheet.specs.declared.Found.the-variants.{At, Nothing}
+use Rattle.sheet.specs.declared.Flow.{Flow}
+use Rattle.sheet.specs.declared.Flow.the-variants.{Same, Yes, No, Undecided, Refused}
+use Rattle.sheet.specs.Label.{digitsOf}
+use Rattle.sheet.specs.Refusal.{both, depthFits}
+
+-- the first place from i on where both have a digit and the digits differ
+unfoldable pub partFrom : ℕ → List ℕ → List ℕ → Found
+partFrom i [] y = Nothing
+partFrom i (a ∷ x) [] = Nothing
+partFrom i (a ∷ x) (b ∷ y) = let r = partFrom (suc i) x y in cond (eqb a b) r (At i)
+
+-- where two labels "part"; of labels that do not, one begins the other
+unfoldable pub partAt : List ℕ → List ℕ → Found
+unfolding partFrom
+partAt x y = partFrom 0 x y
+
+unfoldable pub every : (ℕ → Bool) → List ℕ → Bool
+every test [] = true
+every test (a ∷ x) = let r = every test x in cond (test a) r false
+
+abbrev pub isOdd : ℕ → Bool
+isOdd a = eqb (a % 2) 1
+
+-- the rule of the third demand, for labels x of p and y of q that part at i: p's digit is smaller, and p's digits from there on are all odd
+unfoldable pub ruleAt : ℕ → List ℕ → List ℕ → Bool
+unfolding every
+ruleAt i x y = cond (ltb (getD x i 0) (getD y i 0)) (every isOdd (drop i x)) false
+
+-- no digit is 0, and there are no more than depth
+unfoldable pub isLabel : ℕ → List ℕ → Bool
+unfolding every
+isLabel depth x = cond (leb (length x) depth) (every (λ a. not (eqb a 0)) x) false
+
+-- the answer for unequal labels: 12 where they do not part; else by the rule, which is unsure where P may hold tributaries that were cut
+unfoldable pub answerAt : ℕ → List ℕ → List ℕ → Found → Flow
+unfolding ruleAt
+answerAt depth x y Nothing = Refused 12
+answerAt depth x y (At i) = cond (ruleAt i x y) (cond (ltb (length x) depth) Yes Undecided) No
+
+-- the flow question on digits: 11, Same, 12, then the rule
+unfoldable pub flowDigits : ℕ → List ℕ → List ℕ → Bool → Flow
+unfolding isLabel answerAt partAt
+flowDigits depth x y same =
+    let rest : Flow = answerAt depth x y (partAt x y) in
+    cond (both (isLabel depth x) (isLabel depth y)) (cond same Same rest) (Refused 11)
+
+-- does water from the label q pass the label p? 2 before all else
+unfoldable pub flow : ℕ → ℕ → ℕ → Flow
+unfolding depthFits flowDigits digitsOf
+flow depth p q =
+    let rest : Flow = flowDigits depth (digitsOf p) (digitsOf q) (eqb p q) in
+    cond (depthFits depth) rest (Refused 2)
+
+-- the number of an answer: 0 No, 1 Yes, 2 Same, 3 Undecided, 128 + the refusal's number
+abbrev pub answerNumber : Flow → ℕ
+answerNumber No = 0
+answerNumber Yes = 1
+answerNumber Same = 2
+answerNumber Undecided = 3
+answerNumber (Refused number) = 128 + number

@@ -1,0 +1,114 @@
+-- Document 01's labels: the digits of a cell, and the label as one decimal number.
+use mathlib.Core.Bool.{Bool, true, false, cond}
+use mathlib.Core.List.{List, [], _∷_, _++_}
+use Prim.Native.Nat.{ℕ, zero, suc, _+_, _*_, _/_, _%_, _≤_}
+use lib.Dec.{eqb}
+use Rattle.sheet.specs.declared.Found.{Found}
+use Rattle.sheet.specs.declared.Found.the-variants.{At, Nothing}
+use Rattle.sheet.specs.Sheet.{Grid, Sheet, cells, inside, isOutlet, first}
+use Rattle.sheet.specs.Water.{passes}
+use Rattle.sheet.specs.Area.{area}
+use Rattle.sheet.specs.River.{Network, network, stem, mouth, Run, river}
+use Rattle.sheet.specs.Unit.{Parts, last, part, parts, finished}
+
+-- the water of c passes v
+unfoldable pub passesIn : Network → ℕ → ℕ → Bool
+unfolding passes
+passesIn N c v = passes (N .next) (N .cells) c v
+
+-- the run holds c: c is a stem cell of it, or lies in the tributary of a mouth of it
+unfoldable pub holds : Network → Run → ℕ → Bool
+unfolding passesIn
+holds N [] c = false
+holds N (stem s ∷ R) c = let r = holds N R c in cond (eqb c s) true r
+holds N (mouth v ∷ R) c = let r = holds N R c in cond (passesIn N c v) true r
+
+-- a digit, and the unit that a cell with this digit lies in
+pub record Place : Type 0 where
+  pub digit : ℕ
+  pub unit : Run
+
+abbrev pub placed : ℕ → Run → Place
+placed digit unit = record { digit = digit; unit = unit }
+
+-- where c lies, of parts whose digits begin after k: runs have odd digits, taken mouths even ones, empty runs keep theirs;
+-- an even digit goes to the whole tributary, whose river starts at that mouth
+unfoldable pub placeIn : Network → ℕ → Parts → ℕ → Place
+unfolding passesIn holds river
+placeIn N k (last R) c = placed (suc k) R
+placeIn N k (part R v P) c =
+    let later : Place = placeIn N (suc (suc k)) P c in
+    let tributary : Place = placed (suc (suc k)) (river N v) in
+    let rest : Place = cond (passesIn N c v) tributary later in
+    cond (holds N R c) (placed (suc k) R) rest
+
+-- where c lies in a unit that is not finished: digits 1 to 2k + 1 for k taken mouths
+unfoldable pub placeOf : Network → Run → ℕ → Place
+unfolding placeIn parts
+placeOf N R c = placeIn N 0 (parts N R) c
+
+-- the digits of c in a unit; they stop when the unit is finished or the depth is reached
+unfoldable pub label : Network → ℕ → Run → ℕ → List ℕ
+unfolding placeOf finished
+label N zero R c = []
+label N (suc depth) R c =
+    let p : Place = placeOf N R c in
+    let digits : List ℕ = p .digit ∷ label N depth (p .unit) c in
+    cond (finished N R) [] digits
+
+-- all digits lie from 1 to top
+pub data Digits (top : ℕ) : List ℕ → Type 0 where
+  digits-none : Digits top []
+  digits-cons : {a : ℕ} {x : List ℕ} → 1 ≤ a → a ≤ top → Digits top x → Digits top (a ∷ x)
+
+-- the digits as one decimal number; no digits at all is 0
+unfoldable pub numberFrom : ℕ → List ℕ → ℕ
+numberFrom m [] = m
+numberFrom m (a ∷ x) = numberFrom (m * 10 + a) x
+
+unfoldable pub number : List ℕ → ℕ
+unfolding numberFrom
+number x = numberFrom 0 x
+
+-- the last k digits of m, without leading zeros
+unfoldable pub digitsWithin : ℕ → ℕ → List ℕ
+digitsWithin zero m = []
+digitsWithin (suc k) m = let r = digitsWithin k (m / 10) in cond (eqb m 0) [] (r ++ (m % 10 ∷ []))
+
+-- the digits of a 64-bit number, of which there are at most 20; 0 has none
+unfoldable pub digitsOf : ℕ → List ℕ
+unfolding digitsWithin
+digitsOf m = digitsWithin 20 m
+
+abbrev pub cellFound : Found → ℕ
+cellFound (At c) = c
+cellFound Nothing = 0
+
+-- the outlet of the basin: the first in reading order
+unfoldable pub outlet : Grid → ℕ
+unfolding isOutlet first
+outlet G = cellFound (first (isOutlet G) (cells G))
+
+-- the digits of an inside cell's label, cut to the depth that the sheet names
+unfoldable pub labelDigits : Sheet → ℕ → List ℕ
+unfolding network river outlet label
+labelDigits S c = label (network (S .grid)) (S .depth) (river (network (S .grid)) (outlet (S .grid))) c
+
+-- "label" of a cell; outside cells have label 0
+unfoldable pub labelOf : Sheet → ℕ → ℕ
+unfolding inside labelDigits number
+labelOf S c = cond (inside (S .grid) c) (number (labelDigits S c)) 0
+
+-- the values of a function at the m cells from i on
+unfoldable pub listFrom : (ℕ → ℕ) → ℕ → ℕ → List ℕ
+listFrom f i zero = []
+listFrom f i (suc m) = f i ∷ listFrom f (suc i) m
+
+-- the areas and the labels of all cells, in reading order
+unfoldable pub areasOf : Grid → List ℕ
+unfolding listFrom area
+areasOf G = listFrom (area G) 0 (cells G)
+
+unfoldable pub labelsOf : Sheet → List ℕ
+unfolding listFrom labelOf
+labelsOf S = listFrom (labelOf S) 0 (cells (S .grid))

@@ -1,0 +1,10 @@
+pub mod Direction
+pub mod Sheet
+pub mod Water
+pub mod Area
+pub mod River
+pub mod Unit
+pub mod Label
+pub mod Refusal
+pub mod Flow
+pub mod Cases

@@ -1,0 +1,127 @@
+-- Document 01's outcome of labelling: refusals 1 to 7 in order, with their places, and what each lent slice holds afterwards.
+use mathlib.Core.Bool.{Bool, false, cond, not}
+use mathlib.Core.List.{List, _++_}
+use Prim.Native.Nat.{ℕ, suc, _*_}
+use lib.Dec.{leb, eqb}
+use lib.ListN.{length, drop, replicate, getD}
+use Rattle.sheet.specs.declared.Found.{Found}
+use Rattle.sheet.specs.declared.Found.the-variants.{At, Nothing}
+use Rattle.sheet.specs.declared.Fault.{Fault}
+use Rattle.sheet.specs.declared.Fault.the-variants.{BadCode, Inside, Unreached, OutletFrom}
+use Rattle.sheet.specs.declared.Outcome.{Outcome}
+use Rattle.sheet.specs.declared.Outcome.the-variants.{Accepted, Refused}
+use Rattle.sheet.specs.Direction.{isCode}
+use Rattle.sheet.specs.Sheet.{Grid, Sheet, cells, dirAt, inside, next, isOutlet, first}
+use Rattle.sheet.specs.Water.{reachesOutlet}
+use Rattle.sheet.specs.Label.{areasOf, labelsOf}
+
+-- what is lent to labelling beside the directions: areas (32-bit), labels (64-bit), work places (32-bit)
+pub record Lent : Type 0 where
+  pub areas : List ℕ
+  pub labels : List ℕ
+  pub work : List ℕ
+
+abbrev pub both : Bool → Bool → Bool
+both a b = cond a b false
+
+-- from 1 to most
+unfoldable pub within : ℕ → ℕ → Bool
+within most x = both (leb 1 x) (leb x most)
+
+-- checks 1, 2 and 3
+unfoldable pub sizesFit : ℕ → ℕ → Bool
+unfolding within
+sizesFit rows cols = both (within 256 rows) (within 256 cols)
+
+unfoldable pub depthFits : ℕ → Bool
+unfolding within
+depthFits depth = within 18 depth
+
+-- with n = rows × columns: n directions, n areas, n labels, 8n work places
+unfoldable pub slicesFit : Grid → Lent → Bool
+slicesFit G L =
+    both (leb (cells G) (length (G .dirs)))
+    (both (leb (cells G) (length (L .areas)))
+    (both (leb (cells G) (length (L .labels))) (leb (8 * cells G) (length (L .work)))))
+
+-- the cells for which 4, 5, 6 and 7 look
+unfoldable pub badCode : Grid → ℕ → Bool
+unfolding isCode
+badCode G c = not (isCode (dirAt G c))
+
+unfoldable pub undrained : Grid → ℕ → Bool
+unfolding inside next reachesOutlet
+undrained G c = both (inside G c) (not (reachesOutlet (next G) (cells G) c))
+
+unfoldable pub outletFrom : Grid → ℕ → ℕ → Bool
+unfolding isOutlet
+outletFrom G from c = both (leb from c) (isOutlet G c)
+
+-- the cell has a fault; `reached` has a number other than 0 for each cell that a search upstream reached
+unfoldable pub faultAt : Grid → List ℕ → Fault → ℕ → Bool
+unfolding badCode inside outletFrom
+faultAt G reached BadCode c = badCode G c
+faultAt G reached Inside c = inside G c
+faultAt G reached Unreached c = both (inside G c) (eqb (getD reached c 0) 0)
+faultAt G reached (OutletFrom from) c = outletFrom G from c
+
+unfoldable pub firstAfter : (ℕ → ℕ → Bool) → ℕ → Found → Found
+unfolding first
+firstAfter test n Nothing = Nothing
+firstAfter test n (At c) = first (test (suc c)) n
+
+-- the second outlet in reading order
+unfoldable pub secondOutlet : Grid → Found
+unfolding firstAfter outletFrom first
+secondOutlet G = firstAfter (outletFrom G) (cells G) (first (outletFrom G 0) (cells G))
+
+-- refused where a cell was found, by its number; else what follows
+unfoldable pub refusedAt : ℕ → Found → Outcome → Outcome
+refusedAt number (At c) rest = Refused number c
+refusedAt number Nothing rest = rest
+
+unfoldable pub refusedIfNone : ℕ → Found → Outcome → Outcome
+refusedIfNone number (At c) rest = rest
+refusedIfNone number Nothing rest = Refused number 0
+
+-- 4, 5, 6 and 7, in this order: a bad direction, no cell inside, a cell that never reaches an outlet, a second outlet
+unfoldable pub outcomeOn : Grid → Outcome
+unfolding refusedAt refusedIfNone first badCode inside undrained secondOutlet
+outcomeOn G =
+    refusedAt 4 (first (badCode G) (cells G))
+    (refusedIfNone 5 (first (inside G) (cells G))
+    (refusedAt 6 (first (undrained G) (cells G))
+    (refusedAt 7 (secondOutlet G) Accepted)))
+
+-- 1, 2 and 3, in this order, before them
+unfoldable pub outcome : Sheet → Lent → Outcome
+unfolding sizesFit depthFits slicesFit outcomeOn
+outcome S L =
+    let rest : Outcome = outcomeOn (S .grid) in
+    cond (sizesFit (S .grid .rows) (S .grid .cols)) (cond (depthFits (S .depth)) (cond (slicesFit (S .grid) L) rest (Refused 3 0)) (Refused 2 0)) (Refused 1 0)
+
+abbrev pub refusalNumber : Outcome → ℕ
+refusalNumber Accepted = 0
+refusalNumber (Refused number place) = number
+
+abbrev pub refusalPlace : Outcome → ℕ
+refusalPlace Accepted = 0
+refusalPlace (Refused number place) = place
+
+-- the first places of a slice written with new values; the others keep theirs
+abbrev pub written : List ℕ → List ℕ → List ℕ
+written new old = new ++ drop (length new) old
+
+abbrev pub ifAccepted : Outcome → List ℕ → List ℕ → List ℕ
+ifAccepted Accepted new old = written new old
+ifAccepted (Refused number place) new old = old
+
+-- what the lent slices hold after labelling: areas and labels are written where it is accepted, and the first 8n work
+-- places are 0 once check 3 is passed
+unfoldable pub lentAfter : Sheet → Lent → Lent
+unfolding outcome sizesFit depthFits slicesFit areasOf labelsOf
+lentAfter S L = record {
+  areas = ifAccepted (outcome S L) (areasOf (S .grid)) (L .areas);
+  labels = ifAccepted (outcome S L) (labelsOf S) (L .labels);
+  work = cond (both (sizesFit (S .grid .rows) (S .grid .cols)) (both (depthFits (S .depth)) (slicesFit (S .grid) L))) (written (replicate (8 * cells (S .grid)) 0) (L .work)) (L .work);
+}

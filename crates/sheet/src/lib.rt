@@ -1,0 +1,248 @@
+// The sheet of flow directions: the fixed table of steps, where a cell's water goes, donors, and the first cell with a fault.
+// Its definitions (specs/) are those of the whole product; the enums that they share with the code stand here.
+ghost use mathlib.Core.Path.{_≡_};
+ghost use Prim.Native.Nat.{_+_, _*_, _<_, _≤_};
+ghost use lib.ListN.{length};
+ghost use Rattle.sheet.specs.Direction.{stepAt, stepOf, isCode, Near, Short, movedBy, stepEnd};
+ghost use Rattle.sheet.specs.Sheet.{grid, OnSheet, Sized, next, donorAgainst, first};
+ghost use Rattle.sheet.specs.Refusal.{faultAt};
+
+// A direction code with its signed step in rows and columns.
+pub struct Step {
+    pub code: u8,
+    pub row: i32,
+    pub col: i32,
+}
+
+// Where a step ends: off the sheet, or on a cell.
+pub enum End {
+    Off,
+    At(usize),
+}
+
+// Where a cell's water goes: nowhere on the sheet, or to the cell that its step ends on.
+pub enum Next {
+    Outlet,
+    To(usize),
+}
+
+// What a search in reading order found.
+pub enum Found {
+    At(usize),
+    Nothing,
+}
+
+// What a search looks for: a byte that is none of the nine codes, an inside cell, an inside cell that a search upstream
+// did not reach, an outlet from a cell on.
+pub enum Fault {
+    BadCode,
+    Inside,
+    Unreached,
+    OutletFrom(usize),
+}
+
+// The answer of labelling: accepted, or refused with document 01's number and place.
+pub enum Outcome {
+    Accepted,
+    Refused(u8, usize),
+}
+
+// The answer to the flow question; a refusal carries document 01's number.
+pub enum Flow {
+    Same,
+    Yes,
+    No,
+    Undecided,
+    Refused(u8),
+}
+
+// The eight codes from east on, each an eighth of a turn clockwise from the one before: the step back is four entries on.
+const STEPS: [Step; 8] = [
+    Step {
+        code: 1,
+        row: 0,
+        col: 1,
+    },
+    Step {
+        code: 2,
+        row: 1,
+        col: 1,
+    },
+    Step {
+        code: 4,
+        row: 1,
+        col: 0,
+    },
+    Step {
+        code: 8,
+        row: 1,
+        col: -1,
+    },
+    Step {
+        code: 16,
+        row: 0,
+        col: -1,
+    },
+    Step {
+        code: 32,
+        row: -1,
+        col: -1,
+    },
+    Step {
+        code: 64,
+        row: -1,
+        col: 0,
+    },
+    Step {
+        code: 128,
+        row: -1,
+        col: 1,
+    },
+];
+
+// The step of a code; of any other byte, the step that stays in place.
+pub fn step_of(code: u8) -> Step
+    ensures { λ r. ⌜ r ≡ stepOf code ⌝ }
+{
+    for k in 0..8 {
+        let s = STEPS[k];
+        if s.code == code {
+            return s;
+        }
+    }
+    Step {
+        code: 0,
+        row: 0,
+        col: 0,
+    }
+}
+
+// Whether a byte is one of the nine codes.
+pub fn is_code(byte: u8) -> bool
+    ensures { λ r. ⌜ r ≡ isCode byte ⌝ }
+{
+    let s = step_of(byte);
+    s.code == byte
+}
+
+// The row or column that a signed step leads to, of count many.
+fn moved(at: usize, step: i32, count: usize) -> End
+    requires { ⌜ Near at step ⌝ }
+    ensures { λ r. ⌜ r ≡ movedBy at step count ⌝ }
+{
+    let x = (at as i32) + step;
+    if x < 0 {
+        End::Off
+    } else {
+        let y = x as usize;
+        if y < count { End::At(y) } else { End::Off }
+    }
+}
+
+// The cell that a step from a row and a column ends on.
+pub fn step_end(rows: usize, cols: usize, row: usize, col: usize, s: Step) -> End
+    requires { ⌜ OnSheet rows cols row col × Short s ⌝ }
+    ensures { λ r. ⌜ r ≡ stepEnd rows cols row col s ⌝ }
+{
+    let End::At(to_row) = moved(row, s.row, rows) else {
+        return End::Off;
+    };
+    let End::At(to_col) = moved(col, s.col, cols) else {
+        return End::Off;
+    };
+    End::At(to_row * cols + to_col)
+}
+
+// Where a cell's water goes.
+pub fn next_of(dirs: &[u8], rows: usize, cols: usize, cell: usize) -> Next
+    requires { ⌜ Sized rows cols (now dirs) × (cell < rows * cols) ⌝ }
+    ensures { λ r. ⌜ r ≡ next (grid rows cols (now (dirs .entry))) cell ⌝ }
+{
+    let code = dirs[cell];
+    if code == 0 {
+        return Next::Outlet;
+    }
+    match step_end(rows, cols, cell / cols, cell % cols, step_of(code)) {
+        End::Off => Next::Outlet,
+        End::At(t) => {
+            if dirs[t] == 0 {
+                Next::Outlet
+            } else {
+                Next::To(t)
+            }
+        }
+    }
+}
+
+// The donor of a cell against the k-th step of the table: the cell one step back, if that step is its own.
+pub fn donor_at(dirs: &[u8], rows: usize, cols: usize, row: usize, col: usize, k: usize) -> End
+    requires { ⌜ Sized rows cols (now dirs) × OnSheet rows cols row col × (k < 8) ⌝ }
+    ensures { λ r. ⌜ r ≡ donorAgainst (grid rows cols (now (dirs .entry))) row col k ⌝ }
+{
+    match step_end(rows, cols, row, col, STEPS[(k + 4) % 8]) {
+        End::Off => End::Off,
+        End::At(t) => {
+            let s = STEPS[k];
+            if dirs[t] == s.code {
+                End::At(t)
+            } else {
+                End::Off
+            }
+        }
+    }
+}
+
+// Whether a cell has a fault.
+fn has_fault(
+    dirs: &[u8],
+    rows: usize,
+    cols: usize,
+    reached: &[u32],
+    fault: Fault,
+    cell: usize,
+) -> bool
+    requires { ⌜ Sized rows cols (now dirs) × (cell < rows * cols) × (rows * cols ≤ length (now reached)) ⌝ }
+    ensures { λ r. ⌜ r ≡ faultAt (grid rows cols (now (dirs .entry))) (now (reached .entry)) fault cell ⌝ }
+{
+    let code = dirs[cell];
+    match fault {
+        Fault::BadCode => !is_code(code),
+        Fault::Inside => code != 0,
+        Fault::Unreached => {
+            if code == 0 {
+                return false;
+            }
+            reached[cell] == 0
+        }
+        Fault::OutletFrom(from) => {
+            if cell < from {
+                return false;
+            }
+            if code == 0 {
+                return false;
+            }
+            match next_of(dirs, rows, cols, cell) {
+                Next::Outlet => true,
+                Next::To(_) => false,
+            }
+        }
+    }
+}
+
+// The first cell in reading order that has a fault.
+pub fn first_fault(dirs: &[u8], rows: usize, cols: usize, reached: &[u32], fault: Fault) -> Found
+    requires { ⌜ Sized rows cols (now dirs) × (rows * cols ≤ length (now reached)) ⌝ }
+    ensures { λ r. ⌜ r ≡ first (faultAt (grid rows cols (now (dirs .entry))) (now (reached .entry)) fault) (rows * cols) ⌝ }
+{
+    let mut found = Found::Nothing;
+    'rows: for row in 0..rows {
+        for col in 0..cols {
+            let cell = row * cols + col;
+            if has_fault(dirs, rows, cols, reached, fault, cell) {
+                found = Found::At(cell);
+                break 'rows;
+            }
+        }
+    }
+    found
+}

@@ -1,0 +1,133 @@
+# Recomputes the stored cases with reference.py, and checks sheets, labels and boundaries of document 01 by direct call.
+#
+# A file can get refusals 1 to 10 and 14. It cannot get
+#   11 and 12: they belong to the flow question, which the program does not ask;
+#   13: the program hands over no line and no end after the end;
+#   15: the program labels only after the intake has accepted the end.
+# Nor can it get 1 to 4 from labelling, since the intake has refused such sizes and directions before.
+# No line of 80 bytes keeps the file's rules: three values with their commas have at most 17 bytes.
+# So cell_80_bytes and cell_81_bytes both get 8.
+
+import pathlib
+import sys
+
+sys.dont_write_bytecode = True
+from reference import Intake, flow, label, label_intake, report, take_end, take_line
+
+CASES = pathlib.Path(__file__).resolve().parent / 'cases'
+
+SAMPLE_A = bytes([0, 4, 16, 8, 16, 16, 16, 16, 64, 64, 32, 64])
+
+# (name, depth, p, q, answer): does water from q pass p?
+FLOW = [
+    ('depth 3, from 92 past 91', 3, 91, 92, 'Yes'),
+    ('depth 3, from 91 past 92', 3, 92, 91, 'No'),
+    ('depth 3, from 3 past 21', 3, 21, 3, 'No'),
+    ('depth 3, from 14 past 131', 3, 131, 14, 'Undecided'),
+    ('labels 9 and 91', 3, 9, 91, ('Refused', 12)),
+    ('labels 91 and 9', 3, 91, 9, ('Refused', 12)),
+    ('label 105 as p', 3, 105, 3, ('Refused', 11)),
+    ('label 105 as q', 3, 3, 105, ('Refused', 11)),
+    ('label 105 twice: 11 before Same', 3, 105, 105, ('Refused', 11)),
+    ('four digits at depth 3', 3, 1111, 2, ('Refused', 11)),
+    ('equal labels', 3, 91, 91, 'Same'),
+    ('equal labels of as many digits as the depth', 2, 91, 91, 'Same'),
+    ('0 twice', 3, 0, 0, 'Same'),
+    ('0 begins all', 3, 0, 5, ('Refused', 12)),
+    ('all begin with 0', 3, 5, 0, ('Refused', 12)),
+    ('No before Undecided', 2, 92, 91, 'No'),
+    ('a later digit of p is even', 3, 12, 3, 'No'),
+    ('digits before the parting may be even', 3, 21, 22, 'Yes'),
+    ('depth 0', 0, 1, 1, ('Refused', 2)),
+    ('depth 18', 18, 10**18 - 1, 10**18 - 1, 'Same'),
+    ('depth 18, 19 digits', 18, 1111111111111111111, 2, ('Refused', 11)),
+    ('depth 19: 2 before 11', 19, 105, 105, ('Refused', 2)),
+]
+
+# (name, rows, cols, depth, directions, areas, labels, work places; number, place)
+SHEETS = [
+    ('256 rows', 256, 1, 1, bytes([4] * 256), 256, 256, 2048, 0, 0),
+    ('257 rows', 257, 1, 1, bytes([4] * 257), 257, 257, 2056, 1, 0),
+    ('256 columns', 1, 256, 1, bytes([1] * 256), 256, 256, 2048, 0, 0),
+    ('257 columns', 1, 257, 1, bytes([1] * 257), 257, 257, 2056, 1, 0),
+    ('0 rows', 0, 1, 1, bytes([4]), 1, 1, 8, 1, 0),
+    ('0 columns', 1, 0, 1, bytes([4]), 1, 1, 8, 1, 0),
+    ('depth 18', 1, 1, 18, bytes([1]), 1, 1, 8, 0, 0),
+    ('depth 19', 1, 1, 19, bytes([1]), 1, 1, 8, 2, 0),
+    ('depth 0', 1, 1, 0, bytes([1]), 1, 1, 8, 2, 0),
+    ('257 rows and depth 19', 257, 1, 19, b'', 0, 0, 0, 1, 0),
+    ('depth 19 and nothing lent', 1, 1, 19, b'', 0, 0, 0, 2, 0),
+    ('one direction too few', 3, 4, 2, SAMPLE_A[:11], 12, 12, 96, 3, 0),
+    ('one area too few', 3, 4, 2, SAMPLE_A, 11, 12, 96, 3, 0),
+    ('one label too few', 3, 4, 2, SAMPLE_A, 12, 11, 96, 3, 0),
+    ('one work place too few', 3, 4, 2, SAMPLE_A, 12, 12, 95, 3, 0),
+    ('3 before 4', 1, 2, 1, bytes([3, 1]), 2, 2, 15, 3, 0),
+    ('direction 3 before direction 5', 1, 3, 1, bytes([1, 3, 5]), 3, 3, 24, 4, 1),
+    ('4 before 5', 1, 2, 1, bytes([0, 3]), 2, 2, 16, 4, 1),
+    ('bad direction past the sheet', 1, 1, 1, bytes([1, 3]), 1, 1, 8, 0, 0),
+    ('no cell inside', 1, 2, 1, bytes([0, 0, 1]), 2, 2, 16, 5, 0),
+    ('codes 1 and 16', 1, 2, 1, bytes([1, 16]), 2, 2, 16, 6, 0),
+    ('codes 16 and 1', 1, 2, 1, bytes([16, 1]), 2, 2, 16, 7, 1),
+    ('6 before 7', 1, 5, 1, bytes([16, 1, 16, 0, 1]), 5, 5, 40, 6, 1),
+]
+
+
+def file_checks():
+    for given in sorted(CASES.glob('*.in')):
+        expected = given.with_suffix('.out')
+        yield given.stem, report(given.read_bytes()), expected.read_bytes() if expected.exists() else None
+    for expected in sorted(CASES.glob('*.out')):
+        if not expected.with_suffix('.in').exists():
+            yield expected.stem, None, expected.read_bytes()
+
+
+def flow_checks():
+    for name, depth, p, q, answer in FLOW:
+        yield 'flow: ' + name, flow(depth, p, q), answer
+
+
+def sheet_checks():
+    for name, *arguments, number, place in SHEETS:
+        yield 'label: ' + name, label(*arguments)[:2], (number, place)
+
+
+def sample_checks():
+    areas = [0, 2, 1, 1, 11, 9, 4, 2, 1, 1, 1, 1]
+    # The tributaries of cell 5 stand as 9, 10, 1: they get 4, 6, 8.
+    labels = [0, 8, 8, 92, 1, 3, 91, 93, 2, 4, 6, 93]
+    yield 'label: sample A', label(3, 4, 2, SAMPLE_A, 12, 12, 96), (0, 0, areas, labels)
+    cut = [0, 8, 8, 9, 1, 3, 9, 9, 2, 4, 6, 9]
+    yield 'label: sample A at depth 1', label(3, 4, 1, SAMPLE_A, 12, 12, 96), (0, 0, areas, cut)
+    yield 'label: 1 by 1, code 1', label(1, 1, 1, bytes([1]), 1, 1, 8), (0, 0, [1], [0])
+
+
+def intake_checks():
+    cells = Intake('cells', 1, 1, 1, (b'row', b'col', b'dir'))
+    ended = cells._replace(stage='ended')
+    dirs = bytearray([1, 7])
+    yield 'intake: a line after the end', take_line(ended, b'', dirs), (13, ended)
+    yield 'intake: an end after the end', take_end(ended), (13, ended)
+    yield 'intake: an end before cell names', take_end(Intake()), (14, Intake())
+    yield 'intake: labelling before the end', label_intake(cells, dirs, 0, 0, 0), (15, 0, None, None)
+    yield 'intake: byte 10 in a line', take_line(Intake(), b'rows,cols,depth\n', dirs), (8, Intake())
+    yield 'intake: nothing lent, 3 before 8', take_line(cells, b'', bytearray()), (3, cells)
+    yield 'intake: refused lines write no byte', bytes(dirs), bytes([1, 7])
+    sizes = Intake('sizes', names=(b'rows', b'cols', b'depth'))
+    state = cells._replace(stage='cell names', names=sizes.names)
+    yield 'intake: sizes', take_line(sizes, b'1,1,1', dirs), (0, state)
+    yield 'intake: sizes set rows × columns bytes to 0', bytes(dirs), bytes([0, 7])
+
+
+def main():
+    files = list(file_checks())
+    checks = files + [('there are stored cases', len(files) > 0, True)]
+    checks += [*flow_checks(), *sheet_checks(), *sample_checks(), *intake_checks()]
+    failures = [check for check in checks if check[1] != check[2]]
+    for name, got, expected in failures:
+        print(f'{name}: expected {expected!r:.200}, got {got!r:.200}')
+    print(f'{len(checks) - len(failures)} passed, {len(failures)} failed')
+    return 1 if failures else 0
+
+
+if __name__ == '__main__':
+    sys.exit(main())

@@ -1,0 +1,243 @@
+# Reference for the program `pfafstetter`: a file on standard input, its listing or its refusal on standard output.
+# Written from document 01 by lists and sorting. Refusals are document 01's numbers; 0 means accepted.
+
+import sys
+from typing import NamedTuple
+
+# Direction codes with their steps in rows and columns.
+STEPS = {1: (0, 1), 2: (1, 1), 4: (1, 0), 8: (1, -1), 16: (0, -1), 32: (-1, -1), 64: (-1, 0), 128: (-1, 1)}
+OUTSIDE = 0
+MAX_SIDE = 256
+MAX_DEPTH = 18
+MAX_TAKEN = 4  # mouths taken from a unit
+LENT = 2048  # direction bytes that the program lends
+WORK = 8  # work places for each cell
+
+SIZE_NAMES = [b'rows', b'cols', b'depth']
+CELL_NAMES = [b'row', b'col', b'dir']
+
+# The sheet.
+
+def size_refusal(rows, cols, depth, lent):
+    """The refusal of sizes by 1, 2, 3, with the count of lent direction bytes."""
+    if not (1 <= rows <= MAX_SIDE and 1 <= cols <= MAX_SIDE):
+        return 1
+    if not 1 <= depth <= MAX_DEPTH:
+        return 2
+    return 3 if lent < rows * cols else 0
+
+def step_end(rows, cols, dirs, cell):
+    """The inside cell on which the step of an inside cell ends; None for an outlet."""
+    row_step, col_step = STEPS[dirs[cell]]
+    row, col = cell // cols + row_step, cell % cols + col_step
+    if not (0 <= row < rows and 0 <= col < cols):
+        return None
+    end = row * cols + col
+    return None if dirs[end] == OUTSIDE else end
+
+def donors_and_outlets(rows, cols, dirs, inside):
+    """The donors of every cell, and the outlets in reading order."""
+    donors = [[] for _ in range(rows * cols)]
+    outlets = []
+    for cell in inside:
+        end = step_end(rows, cols, dirs, cell)
+        (outlets if end is None else donors[end]).append(cell)
+    return donors, outlets
+
+def upstream(donors, cells):
+    """The cells whose water passes one of `cells`, each after the cell its step ends on."""
+    found = list(cells)
+    for cell in found:  # the list grows while it is read
+        found.extend(donors[cell])
+    return found
+
+# Areas, rivers, units.
+
+def areas_of(donors, drained):
+    """The area of each cell; `drained` holds the inside cells in the order of `upstream`."""
+    areas = [0] * len(donors)
+    for cell in reversed(drained):
+        areas[cell] = 1 + sum(areas[donor] for donor in donors[cell])
+    return areas
+
+def river_list(donors, mouth):
+    """Pairs (cell, is it the mouth of a tributary). Donors must stand from lightest to heaviest."""
+    river = [(mouth, False)]
+    stem = mouth
+    while donors[stem]:
+        *mouths, heaviest = donors[stem]
+        river.extend((cell, True) for cell in mouths)
+        river.append((heaviest, False))
+        stem = heaviest
+    return river
+
+def split(unit, taken):
+    """The runs of a unit before, between and after its taken mouths, and these mouths in list order."""
+    runs, mouths = [[]], []
+    for cell, is_mouth in unit:
+        if is_mouth and cell in taken:
+            mouths.append(cell)
+            runs.append([])
+        else:
+            runs[-1].append((cell, is_mouth))
+    return runs, mouths
+
+def unit_cells(donors, unit):
+    """The stem cells of a unit and the whole tributaries of its mouths."""
+    stem = [cell for cell, is_mouth in unit if not is_mouth]
+    return stem + upstream(donors, [cell for cell, is_mouth in unit if is_mouth])
+
+def labels_of(donors, areas, depth, outlet):
+    """The label of each cell; 0 for outside cells."""
+    def weight(cell):  # heavier: the larger area, then the larger cell number
+        return areas[cell], cell
+    donors = [sorted(cells, key=weight) for cells in donors]
+    labels = [0] * len(donors)
+    units = [(river_list(donors, outlet), 0, 0)]  # (unit, its digits as one number, count of digits)
+    while units:
+        unit, digits, count = units.pop()
+        mouths = [cell for cell, is_mouth in unit if is_mouth]
+        if not mouths or count == depth:
+            for cell in unit_cells(donors, unit):
+                labels[cell] = digits
+            continue
+        runs, mouths = split(unit, set(sorted(mouths, key=weight)[-MAX_TAKEN:]))
+        for place, run in enumerate(runs):
+            units.append((run, 10 * digits + 2 * place + 1, count + 1))
+        for place, mouth in enumerate(mouths):
+            units.append((river_list(donors, mouth), 10 * digits + 2 * place + 2, count + 1))
+    return labels
+
+def label(rows, cols, depth, dirs, areas_len, labels_len, work_len):
+    """Direct labelling: (number, place, areas, labels). Refused, areas and labels are None."""
+    number = size_refusal(rows, cols, depth, len(dirs))
+    n = rows * cols
+    if number == 0 and (areas_len < n or labels_len < n or work_len < WORK * n):
+        number = 3
+    if number != 0:
+        return number, 0, None, None
+    for cell in range(n):
+        if dirs[cell] != OUTSIDE and dirs[cell] not in STEPS:
+            return 4, cell, None, None
+    inside = [cell for cell in range(n) if dirs[cell] != OUTSIDE]
+    if not inside:
+        return 5, 0, None, None
+    donors, outlets = donors_and_outlets(rows, cols, dirs, inside)
+    drained = upstream(donors, outlets)
+    if len(drained) < len(inside):
+        return 6, min(set(inside) - set(drained)), None, None
+    if len(outlets) > 1:
+        return 7, outlets[1], None, None
+    areas = areas_of(donors, drained)
+    return 0, 0, areas, labels_of(donors, areas, depth, outlets[0])
+
+# The flow question.
+
+def flow(depth, p, q):
+    """Does water from label q pass label p: 'Same', 'Yes', 'No', 'Undecided' or ('Refused', number)."""
+    if not 1 <= depth <= MAX_DEPTH:
+        return 'Refused', 2
+    p, q = (str(number) if number else '' for number in (p, q))
+    if '0' in p + q or max(len(p), len(q)) > depth:
+        return 'Refused', 11
+    if p == q:
+        return 'Same'
+    if p.startswith(q) or q.startswith(p):
+        return 'Refused', 12
+    part = next(place for place in range(len(p)) if p[place] != q[place])
+    # The rule: where the labels part p has the smaller digit, and its digits from there on are odd.
+    if p[part] > q[part] or any(digit in '2468' for digit in p[part:]):
+        return 'No'
+    return 'Yes' if len(p) < depth else 'Undecided'
+
+# The intake.
+
+class Intake(NamedTuple):
+    stage: str = 'size names'  # then 'sizes', 'cell names', 'cells', 'ended'
+    rows: int = 0
+    cols: int = 0
+    depth: int = 0
+    names: tuple = ()  # the names last accepted, in their order
+
+def is_value(text):
+    return text == b'0' or (text.isdigit() and len(text) <= 5 and text[0] != ord('0'))
+
+def take_sizes(state, values, dirs):
+    rows, cols, depth = (values[name] for name in SIZE_NAMES)
+    number = size_refusal(rows, cols, depth, len(dirs))
+    if number != 0:
+        return number, state
+    dirs[:rows * cols] = bytes(rows * cols)
+    return 0, state._replace(stage='cell names', rows=rows, cols=cols, depth=depth)
+
+def take_cell(state, values, dirs):
+    row, col, code = (values[name] for name in CELL_NAMES)
+    if row >= state.rows or col >= state.cols:
+        return 9, state
+    if code != OUTSIDE and code not in STEPS:
+        return 4, state
+    cell = row * state.cols + col
+    if dirs[cell] != OUTSIDE:
+        return 10, state
+    dirs[cell] = code
+    return 0, state
+
+def take_line(state, line, dirs):
+    """Takes a line without its line feed: (number, next state). `dirs` is a bytearray."""
+    if state.stage == 'ended':
+        return 13, state
+    if state.stage in ('cell names', 'cells'):
+        number = size_refusal(state.rows, state.cols, state.depth, len(dirs))
+        if number != 0:
+            return number, state
+    fields = line.split(b',')
+    if len(line) > 80 or b'\n' in line or len(fields) != 3:
+        return 8, state
+    if state.stage in ('size names', 'cell names'):
+        names, stage = (SIZE_NAMES, 'sizes') if state.stage == 'size names' else (CELL_NAMES, 'cells')
+        accepted = sorted(fields) == sorted(names)
+        return (0, state._replace(stage=stage, names=tuple(fields))) if accepted else (8, state)
+    if not all(is_value(field) for field in fields):
+        return 8, state
+    values = dict(zip(state.names, map(int, fields)))
+    return take_sizes(state, values, dirs) if state.stage == 'sizes' else take_cell(state, values, dirs)
+
+def take_end(state):
+    if state.stage == 'ended':
+        return 13, state
+    return (0, state._replace(stage='ended')) if state.stage == 'cells' else (14, state)
+
+def label_intake(state, dirs, areas_len, labels_len, work_len):
+    if state.stage != 'ended':
+        return 15, 0, None, None
+    return label(state.rows, state.cols, state.depth, dirs, areas_len, labels_len, work_len)
+
+# The program.
+
+def lines_of(data):
+    lines = data.split(b'\n')
+    return lines if lines[-1] else lines[:-1]  # nothing follows the last line feed
+
+def refusal(number, place):
+    return b'refused,place\n%d,%d\n' % (number, place)
+
+def listing(cols, dirs, areas, labels):
+    cells = [cell for cell in range(len(areas)) if dirs[cell] != OUTSIDE]
+    lines = [b'%d,%d,%d,%d\n' % (cell // cols, cell % cols, areas[cell], labels[cell]) for cell in cells]
+    return b'row,col,area,label\n' + b''.join(lines)
+
+def report(data, lent=LENT):
+    """What the program prints for the bytes of a file."""
+    dirs, state, lines = bytearray(lent), Intake(), lines_of(data)
+    for line_number, line in enumerate(lines, 1):
+        number, state = take_line(state, line, dirs)
+        if number != 0:
+            return refusal(number, line_number)
+    number, state = take_end(state)
+    if number != 0:
+        return refusal(number, len(lines) + 1)
+    number, place, areas, labels = label_intake(state, dirs, lent, lent, WORK * lent)
+    return refusal(number, place) if number != 0 else listing(state.cols, dirs, areas, labels)
+
+if __name__ == '__main__':
+    sys.stdout.buffer.write(report(sys.stdin.buffer.read()))

@@ -71,7 +71,8 @@ listing =
 abbrev pub confluences : Grid
 confluences = grid 3 3 (4 ∷ 8 ∷ 8 ∷ 16 ∷ 16 ∷ 0 ∷ 128 ∷ 32 ∷ 32 ∷ [])
 
--- one case for each of document 01's traps: a stem chosen afresh, ties by list place, digits that slide, a later even digit, a circle
+-- one case for each of document 01's traps (a stem chosen afresh, ties by list place, digits that slide, a later even digit, a circle), then the order
+-- of the flow question's answers
 unfoldable pub traps : List Case
 unfolding labelOf area outcome flow
 traps =
@@ -80,6 +81,8 @@ traps =
     ∷ case (labelOf (sheet confluences 2) 7 ∷ labelOf (sheet confluences 2) 6 ∷ labelOf (sheet confluences 2) 8 ∷ []) (4 ∷ 8 ∷ 9 ∷ [])
     ∷ case (answerNumber (flow 3 12 3) ∷ answerNumber (flow 3 114 3) ∷ answerNumber (flow 3 11 3) ∷ []) (0 ∷ 0 ∷ 1 ∷ [])
     ∷ case (outcomeIs (grid 1 3 (4 ∷ 1 ∷ 16 ∷ [])) 3) (6 ∷ 1 ∷ [])
+    ∷ case (answerNumber (flow 3 132 14) ∷ answerNumber (flow 3 0 0) ∷ answerNumber (flow 3 0 5) ∷ []) (0 ∷ 2 ∷ 140 ∷ [])
+    ∷ case (answerNumber (flow 3 9 105) ∷ answerNumber (flow 0 1 2) ∷ answerNumber (flow 19 1 2) ∷ answerNumber (flow 18 1 2) ∷ []) (139 ∷ 130 ∷ 130 ∷ 1 ∷ [])
     ∷ []
 
 abbrev pub allComputed : List Case → List (List ℕ)

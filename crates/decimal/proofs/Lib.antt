@@ -1,0 +1,4 @@
+pub mod ValueLaws
+pub mod TextLaws
+pub mod ReadBack
+pub mod Cases

@@ -1,0 +1,86 @@
+-- The text of a number is read as that number.
+use Prim.Native.Nat.{ℕ, zero, suc, _+_, _-_, _*_, _/_, _%_, _^_, _<_, _≤_}
+use mathlib.Core.Path.{_≡_, refl, sym, ap, _∙_}
+use mathlib.Core.List.{List, [], _∷_, _++_, append-assoc, append-nil}
+use mathlib.Core.Bool.{Bool, true, false}
+use native.Mathlib.Omega.{arith}
+use borrow.Author.Tests.{le-leb, ne-eqb, eqb-true, eqb-false}
+use lib.ListN.{length}
+use lib.Seq.{drop-append-seam}
+use lib.Dec.{eqb}
+use Rattle.decimal.specs.declared.Value.{Value}
+use Rattle.decimal.specs.declared.Value.the-variants.{Found}
+use Rattle.decimal.specs.Value.{isDigit, digitRun, numberFrom, isValue, foundAt, valueAt}
+use Rattle.decimal.specs.Text.{decimalText}
+use Rattle.decimal.proofs.ValueLaws.{is-digit, run-digit, run-stop}
+use Rattle.decimal.proofs.TextLaws.{text-induction, text-small, text-few}
+
+number-append : (v : ℕ) (s : List ℕ) (b : ℕ) → numberFrom v (s ++ (b ∷ [])) ≡ numberFrom v s * 10 + (b - 48)
+unfolding numberFrom
+number-append v [] b = refl
+number-append v (a ∷ s) b = number-append (v * 10 + (a - 48)) s b
+
+-- the digits of a text are its number
+pub text-number : (n : ℕ) → numberFrom 0 (decimalText n) ≡ n
+unfolding numberFrom
+text-number = text-induction (λ (n : ℕ) (s : List ℕ). numberFrom 0 s ≡ n) small large
+  where
+    small : (n : ℕ) → n < 10 → numberFrom 0 ((48 + n) ∷ []) ≡ n
+    small n h = omega arith
+
+    large : (n : ℕ) → 10 ≤ n → numberFrom 0 (decimalText (n / 10)) ≡ n / 10 → numberFrom 0 (decimalText (n / 10) ++ ((48 + n % 10) ∷ [])) ≡ n
+    large n h ih = number-append 0 (decimalText (n / 10)) (48 + n % 10) ∙ omega arith
+
+-- a text is all digits
+pub text-run : (n : ℕ) (rest : List ℕ) → digitRun (decimalText n ++ rest) ≡ decimalText n ++ digitRun rest
+text-run n = text-induction (λ (n : ℕ) (s : List ℕ). (rest : List ℕ) → digitRun (s ++ rest) ≡ s ++ digitRun rest) small large n
+  where
+    small : (n : ℕ) → n < 10 → (rest : List ℕ) → digitRun ((48 + n) ∷ rest) ≡ (48 + n) ∷ digitRun rest
+    small n h rest = run-digit (48 + n) rest (is-digit (48 + n) (omega arith) (omega arith))
+
+    large : (n : ℕ) → 10 ≤ n → ((rest : List ℕ) → digitRun (decimalText (n / 10) ++ rest) ≡ decimalText (n / 10) ++ digitRun rest) → (rest : List ℕ) → digitRun ((decimalText (n / 10) ++ ((48 + n % 10) ∷ [])) ++ rest) ≡ (decimalText (n / 10) ++ ((48 + n % 10) ∷ [])) ++ digitRun rest
+    large n h ih rest =
+        simp append-assoc (ih ((48 + n % 10) ∷ rest) ∙ ap (λ (s : List ℕ). decimalText (n / 10) ++ s) (run-digit (48 + n % 10) rest (is-digit (48 + n % 10) (omega arith) (omega arith))))
+
+-- the text of a number above 0 does not start with 0
+data Starts : List ℕ → Type 0 where
+  starts : {b : ℕ} {s : List ℕ} → (b ≡ 48 → ⊥) → Starts (b ∷ s)
+
+starts-append : {s : List ℕ} → Starts s → (t : List ℕ) → Starts (s ++ t)
+starts-append (starts z) t = starts z
+
+text-starts : (n : ℕ) → 0 < n → Starts (decimalText n)
+text-starts = text-induction (λ (n : ℕ) (s : List ℕ). 0 < n → Starts s) (λ n h p. starts (omega arith)) (λ n h ih p. starts-append (ih (omega arith)) ((48 + n % 10) ∷ []))
+
+starts-value : {s : List ℕ} (k : ℕ) → Starts s → length s ≤ k → isValue k s ≡ true
+unfolding isValue
+starts-value k (starts {b = b} {s = s} z) h = rw (ne-eqb b 48 z) (le-leb (length (b ∷ s)) k h)
+
+text-value : (k n : ℕ) → n < 10 ^ k → isValue k (decimalText n) ≡ true
+unfolding isValue
+text-value k n h = go (eqb n 0) refl
+  where
+    zero-value : isValue k (48 ∷ []) ≡ true
+    zero-value = refl
+
+    some : (k : ℕ) → n < 10 ^ k → (n ≡ 0 → ⊥) → 0 < k
+    some zero h z = absurd (z (omega arith))
+    some (suc k) h z = omega arith
+
+    go : (b : Bool) → eqb n 0 ≡ b → isValue k (decimalText n) ≡ true
+    go true e = ap (λ (m : ℕ). isValue k (decimalText m)) (eqb-true n 0 e) ∙ ap (isValue k) (text-small 0 (omega arith)) ∙ zero-value
+    go false e = starts-value k (text-starts n (omega (arith, eqb-false n 0 e))) (text-few k n (some k h (eqb-false n 0 e)) h)
+
+-- After the text of a number of at most k digits no digit may follow: it is read as the number, up to where the text ends.
+module _ (k n : ℕ) (few : k ≤ 9) (small : n < 10 ^ k) (front : List ℕ) where
+  pub read-back : (rest : List ℕ) → digitRun rest ≡ [] → valueAt k (front ++ (decimalText n ++ rest)) (length front) ≡ Found n (length front + length (decimalText n))
+  unfolding valueAt foundAt
+  read-back rest e = rw (drop-append-seam, text-run, e, append-nil, le-leb k 9 few, text-value k n small, text-number)
+
+  pub read-back-end : valueAt k (front ++ decimalText n) (length front) ≡ Found n (length front + length (decimalText n))
+  unfolding digitRun
+  read-back-end = ap (λ (s : List ℕ). valueAt k (front ++ s) (length front)) (sym (append-nil (decimalText n))) ∙ read-back [] refl
+
+  pub read-back-comma : (rest : List ℕ) → valueAt k (front ++ (decimalText n ++ (44 ∷ rest))) (length front) ≡ Found n (length front + length (decimalText n))
+  unfolding isDigit
+  read-back-comma rest = read-back (44 ∷ rest) (run-stop 44 rest refl)

@@ -1,0 +1,141 @@
+-- Laws of values in a line.
+use Prim.Native.Nat.{ℕ, zero, suc, _+_, _-_, _*_, _^_, _<_, _≤_}
+use mathlib.Core.Path.{_≡_, refl, sym, ap, _∙_}
+use mathlib.Core.List.{List, [], _∷_}
+use mathlib.Core.Bool.{Bool, true, false, cond, and-eq-true-iff}
+use native.Mathlib.Numerals.{add-one}
+use native.Mathlib.Nat.{pow-suc, one-le-pow, pow-le-pow-right, lt-of-lt-of-le}
+use native.Mathlib.Omega.{arith}
+use borrow.Author.Tests.{leb-true, le-leb, lt-leb, eq-eqb, ne-eqb}
+use lib.ListN.{length, drop, getD, drop-of-length-le}
+use lib.Seq.{drop-cons, getD-drop}
+use lib.Dec.{leb, eqb}
+use Rattle.decimal.specs.declared.Value.{Value}
+use Rattle.decimal.specs.declared.Value.the-variants.{Found, Bad}
+use Rattle.decimal.specs.Value.{isDigit, digitRun, numberFrom, isValue, foundAt, digitsAt, valueAt}
+
+pub digit-low : (b : ℕ) → isDigit b ≡ true → 48 ≤ b
+unfolding isDigit
+digit-low b e = leb-true 48 b (and-eq-true-iff (leb 48 b) (leb b 57) .0 e .0)
+
+pub digit-high : (b : ℕ) → isDigit b ≡ true → b ≤ 57
+unfolding isDigit
+digit-high b e = leb-true b 57 (and-eq-true-iff (leb 48 b) (leb b 57) .0 e .1)
+
+pub is-digit : (b : ℕ) → 48 ≤ b → b ≤ 57 → isDigit b ≡ true
+unfolding isDigit
+is-digit b l h = rw (le-leb 48 b l, le-leb b 57 h)
+
+-- A list's digits, by its first byte.
+pub run-stop : (b : ℕ) (s : List ℕ) → isDigit b ≡ false → digitRun (b ∷ s) ≡ []
+unfolding digitRun
+run-stop b s e = rw e
+
+pub run-digit : (b : ℕ) (s : List ℕ) → isDigit b ≡ true → digitRun (b ∷ s) ≡ b ∷ digitRun s
+unfolding digitRun
+run-digit b s e = rw e
+
+-- The digits at a position, by the byte there.
+module _ (s : List ℕ) (i : ℕ) where
+  pub run-at-end : length s ≤ i → digitRun (drop i s) ≡ []
+  unfolding digitRun
+  run-at-end h = rw drop-of-length-le
+
+  pub run-at-other : i < length s → isDigit (getD s i 0) ≡ false → digitRun (drop i s) ≡ []
+  run-at-other h e = rw (drop-cons s i 0) (run-stop (getD s i 0) (drop (suc i) s) e)
+
+  pub run-at-digit : i < length s → isDigit (getD s i 0) ≡ true → digitRun (drop i s) ≡ getD s i 0 ∷ digitRun (drop (i + 1) s)
+  run-at-digit h e = rw (add-one, drop-cons s i 0) (run-digit (getD s i 0) (drop (suc i) s) e)
+
+-- A reader of the digits `all` at position `at`, of which at most `most` are allowed, has come to position i: it has gathered v,
+-- `left` more digits are allowed, and the digits `rest` are still to come.
+pub record Gathered (all rest : List ℕ) (at most i left v : ℕ) : Type 0 where
+  pub number : numberFrom v rest ≡ numberFrom 0 all
+  pub place : i + length rest ≡ at + length all
+  pub count : i + left ≡ at + most
+  pub small : v < 10 ^ (9 - left)
+
+pub gathered-none : (all : List ℕ) (at most : ℕ) → Gathered all all at most at most 0
+gathered-none all at most = record { number = refl; place = refl; count = refl; small = one-le-pow (9 - most) 10 (omega arith) }
+
+module _ {all rest : List ℕ} {at most i left v : ℕ} (g : Gathered all rest at most i left v) where
+  -- no digit is to come: the number is whole
+  pub gathered-all : rest ≡ [] → Found v i ≡ foundAt (leb (length all) most) all at
+  unfolding foundAt numberFrom
+  gathered-all e =
+      let n : v ≡ numberFrom 0 all = sym (ap (numberFrom v) e) ∙ g .number in
+      let p : i ≡ at + length all = omega (arith, g .place, ap length e) in
+      rw (le-leb (length all) most (omega (arith, g .count)), ← p, ← n)
+
+  -- a digit is to come, and none is allowed
+  pub gathered-over : {b : ℕ} {more : List ℕ} → rest ≡ b ∷ more → left ≡ 0 → Bad ≡ foundAt (leb (length all) most) all at
+  unfolding foundAt
+  gathered-over e z = rw (lt-leb (length all) most (omega (arith, g .count, g .place, ap length e)))
+
+  -- a digit is to come, and is allowed
+  module _ {b : ℕ} {more : List ℕ} (e : rest ≡ b ∷ more) (digit : isDigit b ≡ true) (allowed : left ≡ 0 → ⊥) (few : left ≤ 9) where
+    gathered-small : v * 10 + (b - 48) < 10 ^ (9 - (left - 1))
+    gathered-small =
+        let p : 9 - (left - 1) ≡ suc (9 - left) = omega arith in
+        rw (p, pow-suc) (omega (arith, g .small, digit-low b digit, digit-high b digit))
+
+    pub gathered-digit : Gathered all more at most (i + 1) (left - 1) (v * 10 + (b - 48))
+    unfolding numberFrom
+    gathered-digit = record {
+      number = sym (ap (numberFrom v) e) ∙ g .number;
+      place = omega (arith, g .place, ap length e);
+      count = omega (arith, g .count);
+      small = gathered-small;
+    }
+
+    -- the number fits 32 bits
+    pub gathered-fits : v * 10 + (b - 48) < 1000000000
+    gathered-fits = lt-of-lt-of-le gathered-small (pow-le-pow-right {n = 10} (omega arith) {j = 9} (omega arith))
+
+-- The value at a position, by the byte there.
+module _ (most : ℕ) (s : List ℕ) (at : ℕ) where
+  pub value-over : 9 < most → valueAt most s at ≡ Bad
+  unfolding valueAt
+  value-over h = rw (lt-leb most 9 h)
+
+  module _ (few : most ≤ 9) where
+    pub value-none : digitRun (drop at s) ≡ [] → valueAt most s at ≡ Bad
+    unfolding valueAt
+    value-none e = rw (le-leb most 9 few, e)
+
+    pub value-zero : {b : ℕ} {more : List ℕ} → digitRun (drop at s) ≡ b ∷ more → b ≡ 48 → valueAt most s at ≡ digitsAt 1 s at
+    unfolding valueAt
+    value-zero {b} {more} e z = rw (le-leb most 9 few, e, eq-eqb b 48 z) (ap (λ (t : Bool). foundAt t (b ∷ more) at) (alone (length more)))
+      where
+        alone : (n : ℕ) → eqb n 0 ≡ leb (suc n) 1
+        alone zero = refl
+        alone (suc n) = ne-eqb (suc n) 0 (omega arith) ∙ sym (lt-leb (suc (suc n)) 1 (omega arith))
+
+    pub value-more : {b : ℕ} {more : List ℕ} → digitRun (drop at s) ≡ b ∷ more → (b ≡ 48 → ⊥) → valueAt most s at ≡ digitsAt most s at
+    unfolding valueAt
+    value-more {b} {more} e z = rw (le-leb most 9 few, e, ne-eqb b 48 z)
+
+-- Every byte from the position to where a value stops is a digit.
+run-digits : (s : List ℕ) (i : ℕ) → i < length (digitRun s) → isDigit (getD s i 0) ≡ true
+unfolding digitRun
+run-digits [] i h = absurd (omega arith)
+run-digits (b ∷ s) i h = go (isDigit b) refl (run-digits s) i h
+  where
+    go : (t : Bool) → isDigit b ≡ t → ((i : ℕ) → i < length (digitRun s) → isDigit (getD s i 0) ≡ true) → (i : ℕ) → i < length (digitRun (b ∷ s)) → isDigit (getD (b ∷ s) i 0) ≡ true
+    go false e ih i h = absurd (omega (arith, ap length (run-stop b s e)))
+    go true e ih zero h = e
+    go true e ih (suc i) h = ih i (omega (arith, ap length (run-digit b s e)))
+
+value-stops : (most : ℕ) (s : List ℕ) (at : ℕ) {v end : ℕ} → valueAt most s at ≡ Found v end → end ≡ at + length (digitRun (drop at s))
+unfolding valueAt
+value-stops most s at {v} {end} e = go (leb most 9) (isValue most (digitRun (drop at s))) e
+  where
+    go : (t u : Bool) → cond t (foundAt u (digitRun (drop at s)) at) Bad ≡ Found v end → end ≡ at + length (digitRun (drop at s))
+    go false u e = let z : _≡_ {A = ℕ} 0 1 = cc in absurd (omega arith)
+    go true false e = let z : _≡_ {A = ℕ} 0 1 = cc in absurd (omega arith)
+    go true true e = cc
+
+pub value-digits : (most : ℕ) (s : List ℕ) (at : ℕ) {v end : ℕ} → valueAt most s at ≡ Found v end → (i : ℕ) → at ≤ i → i < end → isDigit (getD s i 0) ≡ true
+value-digits most s at e i l h =
+    let p : at + (i - at) ≡ i = omega arith in
+    rw (getD-drop, p) at (run-digits (drop at s) (i - at) (omega (arith, value-stops most s at e)))

@@ -1,0 +1,46 @@
+-- A value in a line. Document 01: "Values are decimal: 0 alone, or 1 to 5 digits not starting with 0."
+use Prim.Native.Nat.{ℕ, _+_, _-_, _*_}
+use mathlib.Core.List.{List, [], _∷_}
+use mathlib.Core.Bool.{Bool, false, cond, _&&_}
+use lib.ListN.{length, drop}
+use lib.Dec.{leb, eqb}
+use Rattle.decimal.specs.declared.Value.{Value}
+use Rattle.decimal.specs.declared.Value.the-variants.{Found, Bad}
+
+-- a digit is a byte from 48 to 57
+unfoldable pub isDigit : ℕ → Bool
+isDigit b = leb 48 b && leb b 57
+
+-- the digits with which a list begins
+unfoldable pub digitRun : List ℕ → List ℕ
+unfolding isDigit
+digitRun [] = []
+digitRun (b ∷ s) = cond (isDigit b) (b ∷ digitRun s) []
+
+-- the number that is written by the digits of v and then by these
+unfoldable pub numberFrom : ℕ → List ℕ → ℕ
+numberFrom v [] = v
+numberFrom v (b ∷ s) = numberFrom (v * 10 + (b - 48)) s
+
+-- 0 alone, or 1 to most digits not starting with 0
+unfoldable pub isValue : ℕ → List ℕ → Bool
+isValue most [] = false
+isValue most (b ∷ s) = cond (eqb b 48) (eqb (length s) 0) (leb (length (b ∷ s)) most)
+
+-- the number of digits that begin at a position, and the position after them, if they are good
+unfoldable pub foundAt : Bool → List ℕ → ℕ → Value
+unfolding numberFrom
+foundAt good digits at = cond good (Found (numberFrom 0 digits) (at + length digits)) Bad
+
+-- all the digits at a position as a number, if there are at most `most` of them
+abbrev pub digitsAt : ℕ → List ℕ → ℕ → Value
+digitsAt most s at = let digits : List ℕ = digitRun (drop at s) in foundAt (leb (length digits) most) digits at
+
+-- The value at a position of a line: all the digits that stand there have to make a value. A reader allows at most 9 digits, which
+-- always fit 32 bits; where it is to allow more, there is no value.
+unfoldable pub valueAt : ℕ → List ℕ → ℕ → Value
+unfolding isValue digitRun foundAt
+valueAt most s at =
+    -- The digits begin at the position itself. What may stand in front of a value is to be passed over here.
+    let digits : List ℕ = digitRun (drop at s) in
+    cond (leb most 9) (foundAt (isValue most digits) digits at) Bad

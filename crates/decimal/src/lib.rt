@@ -1,0 +1,106 @@
+// Decimal numbers: a value read at a position of a line, and a number written as text.
+ghost use mathlib.Core.Path.{_≡_};
+ghost use Prim.Native.Nat.{_≤_};
+ghost use lib.ListN.{length};
+ghost use Rattle.decimal.specs.Value.{isDigit, digitsAt, valueAt};
+ghost use Rattle.decimal.specs.Text.{decimalText, writeText};
+
+// What reading a value gives: the value and the position after it, or that no value stands there.
+pub enum Value {
+    Found(u32, usize),
+    Bad,
+}
+
+// What writing a text gives: the position after it, or that it does not fit and nothing was written.
+pub enum Written {
+    End(usize),
+    NoRoom,
+}
+
+// The most digits that a reader may allow: any nine fit 32 bits.
+const MOST_DIGITS: u8 = 9;
+
+fn is_digit(b: u8) -> bool
+    ensures { λ r. ⌜ r ≡ isDigit b ⌝ }
+{
+    b'0' <= b && b <= b'9'
+}
+
+// The number that the digits at a position write, if there are at most `most` of them.
+fn read_digits(line: &[u8], at: usize, most: u8) -> Value
+    requires { ⌜ (at ≤ length (now line)) × (most ≤ 9) ⌝ }
+    ensures { λ r. ⌜ r ≡ digitsAt most (now (line .entry)) at ⌝ }
+{
+    let mut end = at;
+    let mut left = most;
+    let mut value = 0;
+    while end < line.len() {
+        let b = line[end];
+        if is_digit(b) {
+            if left == 0 {
+                return Value::Bad;
+            }
+            left -= 1;
+            value = value * 10 + (b - b'0') as u32;
+            end += 1;
+        } else {
+            return Value::Found(value, end);
+        }
+    }
+    Value::Found(value, end)
+}
+
+// The value at a position: 0 alone, or 1 to `most` digits not starting with 0. Where `most` is over 9 there is none.
+pub fn read_value(line: &[u8], at: usize, most: u8) -> Value
+    ensures { λ r. ⌜ r ≡ valueAt most (now (line .entry)) at ⌝ }
+{
+    if MOST_DIGITS < most {
+        return Value::Bad;
+    }
+    if line.len() <= at {
+        return Value::Bad;
+    }
+    let b = line[at];
+    if b == b'0' {
+        return read_digits(line, at, 1);
+    }
+    if is_digit(b) {
+        read_digits(line, at, most)
+    } else {
+        Value::Bad
+    }
+}
+
+fn count_digits(n: u64) -> usize
+    ensures { λ r. ⌜ r ≡ length (decimalText n) ⌝ }
+{
+    let mut count = 1;
+    let mut rest = n;
+    while rest >= 10 {
+        rest = rest / 10;
+        count += 1;
+    }
+    count
+}
+
+// Writes n in decimal from a position on.
+pub fn write_decimal(n: u64, out: &mut [u8], at: usize) -> Written
+    ensures { λ r. ⌜ record { answer = r; buffer = now (out .exit) } ≡ writeText (decimalText n) (now (out .entry)) at ⌝ }
+{
+    let count = count_digits(n);
+    if out.len() < at {
+        return Written::NoRoom;
+    }
+    if out.len() - at < count {
+        return Written::NoRoom;
+    }
+    let mut end = at + count;
+    let mut rest = n;
+    while rest >= 10 {
+        end -= 1;
+        out[end] = b'0' + (rest % 10) as u8;
+        rest = rest / 10;
+    }
+    out[at] = b'0' + rest as u8;
+    Written::End(at + count)
+}

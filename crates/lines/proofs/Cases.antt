@@ -1,0 +1,144 @@
+-- The definitions tried by computation, on lines of document 01's sample and on lines that break its rules.
+use mathlib.Core.Path.{_≡_, refl}
+use mathlib.Core.Bool.{true, false}
+use lib.ListN.{replicate}
+use Rattle.decimal.specs.Ascii.{ascii}
+use Rattle.lines.specs.declared.names.Column.the-variants.{Rows, Cols, Depth, Row, Col, Dir}
+use Rattle.lines.specs.declared.names.NamesLine.the-variants.{Columns as Named, Bad as BadNames}
+use Rattle.lines.specs.declared.values.ValuesLine.the-variants.{Values as Valued, Bad as BadValues}
+use Rattle.lines.specs.Fields.{fitsLine}
+use Rattle.lines.specs.Columns.{sameColumn, sizeColumns, cellColumns}
+use Rattle.lines.specs.Names.{namesLine}
+use Rattle.lines.specs.Values.{valuesLine, valueOf}
+
+-- Names.
+pub size-names : namesLine sizeColumns (ascii "rows,cols,depth") ≡ Named (record { first = Rows; second = Cols; third = Depth })
+unfolding namesLine
+size-names = refl
+
+pub size-names-turned : namesLine sizeColumns (ascii "depth,rows,cols") ≡ Named (record { first = Depth; second = Rows; third = Cols })
+unfolding namesLine
+size-names-turned = refl
+
+pub size-names-back : namesLine sizeColumns (ascii "depth,cols,rows") ≡ Named (record { first = Depth; second = Cols; third = Rows })
+unfolding namesLine
+size-names-back = refl
+
+pub cell-names : namesLine cellColumns (ascii "row,col,dir") ≡ Named (record { first = Row; second = Col; third = Dir })
+unfolding namesLine
+cell-names = refl
+
+pub cell-names-turned : namesLine cellColumns (ascii "dir,row,col") ≡ Named (record { first = Dir; second = Row; third = Col })
+unfolding namesLine
+cell-names-turned = refl
+
+pub name-twice : namesLine sizeColumns (ascii "rows,cols,rows") ≡ BadNames
+unfolding namesLine
+name-twice = refl
+
+pub name-missing : namesLine sizeColumns (ascii "rows,cols") ≡ BadNames
+unfolding namesLine
+name-missing = refl
+
+pub name-more : namesLine sizeColumns (ascii "rows,cols,depth,rows") ≡ BadNames
+unfolding namesLine
+name-more = refl
+
+pub name-unknown : namesLine sizeColumns (ascii "rows,cols,deep") ≡ BadNames
+unfolding namesLine
+name-unknown = refl
+
+pub names-of-cells : namesLine sizeColumns (ascii "row,col,dir") ≡ BadNames
+unfolding namesLine
+names-of-cells = refl
+
+pub names-with-blank : namesLine sizeColumns (ascii "rows, cols,depth") ≡ BadNames
+unfolding namesLine
+names-with-blank = refl
+
+pub names-with-line-feed : namesLine sizeColumns (ascii "rows,cols,depth\n") ≡ BadNames
+unfolding namesLine
+names-with-line-feed = refl
+
+pub names-with-comma-after : namesLine sizeColumns (ascii "rows,cols,depth,") ≡ BadNames
+unfolding namesLine
+names-with-comma-after = refl
+
+pub names-empty : namesLine sizeColumns (ascii "") ≡ BadNames
+unfolding namesLine
+names-empty = refl
+
+-- Values.
+pub sizes : valuesLine (ascii "3,4,2") ≡ Valued (record { first = 3; second = 4; third = 2 })
+unfolding valuesLine
+sizes = refl
+
+pub cell : valuesLine (ascii "0,1,4") ≡ Valued (record { first = 0; second = 1; third = 4 })
+unfolding valuesLine
+cell = refl
+
+pub largest-value : valuesLine (ascii "99999,0,1") ≡ Valued (record { first = 99999; second = 0; third = 1 })
+unfolding valuesLine
+largest-value = refl
+
+pub six-digits : valuesLine (ascii "100000,0,1") ≡ BadValues
+unfolding valuesLine
+six-digits = refl
+
+pub leading-zero : valuesLine (ascii "01,2,3") ≡ BadValues
+unfolding valuesLine
+leading-zero = refl
+
+pub blank-after : valuesLine (ascii "1,2 ,3") ≡ BadValues
+unfolding valuesLine
+blank-after = refl
+
+pub blank-in-front : valuesLine (ascii " 1,2,3") ≡ BadValues
+unfolding valuesLine
+blank-in-front = refl
+
+pub two-values : valuesLine (ascii "1,2") ≡ BadValues
+unfolding valuesLine
+two-values = refl
+
+pub four-values : valuesLine (ascii "1,2,3,4") ≡ BadValues
+unfolding valuesLine
+four-values = refl
+
+pub comma-after : valuesLine (ascii "1,2,3,") ≡ BadValues
+unfolding valuesLine
+comma-after = refl
+
+pub empty-field : valuesLine (ascii "1,,3") ≡ BadValues
+unfolding valuesLine
+empty-field = refl
+
+pub sign : valuesLine (ascii "-1,2,3") ≡ BadValues
+unfolding valuesLine
+sign = refl
+
+pub values-line-feed : valuesLine (ascii "1,2,3\n") ≡ BadValues
+unfolding valuesLine
+values-line-feed = refl
+
+-- The length of a line.
+pub eighty-bytes : fitsLine (replicate 80 49) ≡ true
+unfolding fitsLine
+eighty-bytes = refl
+
+pub eighty-one-bytes : fitsLine (replicate 81 49) ≡ false
+unfolding fitsLine
+eighty-one-bytes = refl
+
+-- The value in a column: by the columns' order; in the first of two columns of one name; and in a column that is not there.
+pub value-by-name : valueOf (record { first = Cols; second = Depth; third = Rows }) (record { first = 4; second = 2; third = 3 }) Rows ≡ 3
+unfolding valueOf sameColumn
+value-by-name = refl
+
+pub value-of-two : valueOf (record { first = Cols; second = Rows; third = Rows }) (record { first = 4; second = 2; third = 3 }) Rows ≡ 2
+unfolding valueOf sameColumn
+value-of-two = refl
+
+pub value-of-none : valueOf (record { first = Cols; second = Rows; third = Rows }) (record { first = 4; second = 2; third = 3 }) Depth ≡ 0
+unfolding valueOf sameColumn
+value-of-none = refl

@@ -1,0 +1,75 @@
+-- Laws of value lines.
+use Prim.Native.Nat.{ℕ, _+_, _-_, _<_, _≤_}
+use mathlib.Core.Path.{_≡_, sym, _∙_}
+use mathlib.Core.List.{List, [], _∷_}
+use borrow.Author.Tests.{le-leb, lt-leb, eq-eqb, ne-eqb}
+use lib.ListN.{length, take, drop}
+use Rattle.decimal.specs.declared.Value.{Value}
+use Rattle.decimal.specs.declared.Value.the-variants.{Found, Bad as NoValue}
+use Rattle.decimal.specs.Value.{valueAt}
+use Rattle.lines.specs.declared.values.Values.{Values}
+use Rattle.lines.specs.declared.values.ValuesLine.{ValuesLine}
+use Rattle.lines.specs.declared.values.ValuesLine.the-variants.{Values as Valued, Bad}
+use Rattle.lines.specs.Fields.{fields, fieldEnd}
+use Rattle.lines.specs.Values.{fieldValue, withValue, noValues, valuesFrom, valuesLine}
+use Rattle.lines.proofs.FieldLaws.{fieldsFrom, fields-at, fields-past}
+
+-- A field.
+module _ (f : List ℕ) where
+  pub field-none : valueAt 5 f 0 ≡ NoValue → fieldValue f ≡ NoValue
+  unfolding fieldValue
+  field-none e = rw e
+
+  pub field-whole : {v end : ℕ} → valueAt 5 f 0 ≡ Found v end → end ≡ length f → fieldValue f ≡ Found v end
+  unfolding fieldValue
+  field-whole {end = end} e w = rw (e, eq-eqb end (length f) w)
+
+  pub field-more : {v end : ℕ} → valueAt 5 f 0 ≡ Found v end → (end ≡ length f → ⊥) → fieldValue f ≡ NoValue
+  unfolding fieldValue
+  field-more {end = end} e w = rw (e, ne-eqb end (length f) w)
+
+-- Column by column.
+module _ (count place : ℕ) (v : Values) where
+  -- past the end of the line
+  pub values-at-done : (s : List ℕ) {at : ℕ} → length s < at → place ≡ count → valuesFrom count place (fieldsFrom s at) v ≡ Valued v
+  unfolding valuesFrom
+  values-at-done s h e = rw (fields-past s _ h, eq-eqb place count e)
+
+  pub values-at-short : (s : List ℕ) {at : ℕ} → length s < at → (place ≡ count → ⊥) → valuesFrom count place (fieldsFrom s at) v ≡ Bad
+  unfolding valuesFrom
+  values-at-short s h n = rw (fields-past s _ h, ne-eqb place count n)
+
+  module _ (f : List ℕ) (fs : List (List ℕ)) where
+    pub values-other : fieldValue f ≡ NoValue → valuesFrom count place (f ∷ fs) v ≡ Bad
+    unfolding valuesFrom
+    values-other e = rw e
+
+    pub values-value : {x end : ℕ} → fieldValue f ≡ Found x end → valuesFrom count place (f ∷ fs) v ≡ valuesFrom count (place + 1) fs (withValue v place x)
+    unfolding valuesFrom
+    values-value e = rw e
+
+  -- A reader at the position `at` of the line s finds the end of the field there and the value that it is.
+  module _ (s : List ℕ) {at end : ℕ} {value : Value} (within : at ≤ length s) (e : end ≡ fieldEnd s at) (valued : value ≡ fieldValue (take (end - at) (drop at s))) where
+    here : fieldsFrom s at ≡ take (end - at) (drop at s) ∷ fieldsFrom s (end + 1)
+    here = rw e (fields-at s at within)
+
+    pub values-at-other : value ≡ NoValue → valuesFrom count place (fieldsFrom s at) v ≡ Bad
+    values-at-other n = rw here (values-other (take (end - at) (drop at s)) (fieldsFrom s (end + 1)) (sym valued ∙ n))
+
+    pub values-at-value : {x stop : ℕ} {next : Values} → value ≡ Found x stop → next ≡ withValue v place x → valuesFrom count (place + 1) (fieldsFrom s (end + 1)) next ≡ valuesFrom count place (fieldsFrom s at) v
+    values-at-value f w = rw (w, here) (sym (values-value (take (end - at) (drop at s)) (fieldsFrom s (end + 1)) (sym valued ∙ f)))
+
+-- The whole line.
+module _ (s : List ℕ) where
+  pub values-long : 80 < length s → valuesLine s ≡ Bad
+  unfolding valuesLine
+  values-long h = rw (lt-leb (length s) 80 h)
+
+  pub values-fit : length s ≤ 80 → valuesLine s ≡ valuesFrom 3 0 (fields s) noValues
+  unfolding valuesLine
+  values-fit h = rw (le-leb (length s) 80 h)
+
+-- Three fields that are values give these values, in their order.
+pub three-values : (f g h : List ℕ) {x y z p q r : ℕ} → fieldValue f ≡ Found x p → fieldValue g ≡ Found y q → fieldValue h ≡ Found z r → valuesFrom 3 0 (f ∷ g ∷ h ∷ []) noValues ≡ Valued (record { first = x; second = y; third = z })
+unfolding valuesFrom
+three-values f g h a b c = rw (a, b, c)

@@ -1,0 +1,76 @@
+-- `lines::names::column_named` meets its contract.
+use borrow.Author.Needs.{needs}
+use Prim.Native.Nat.{ℕ}
+use mathlib.Core.Path.{_≡_, ap, _∙_}
+use mathlib.Core.List.{List}
+use Rattle.lines.specs.declared.names.Column.{Column}
+use Rattle.lines.specs.Columns.{columnIf, columnNamed}
+use Rattle.lines.proofs.names.column_named.Statement.{statement}
+use Rattle.lines.proofs.names.column_named.Tie as tie
+
+-- what a call gives, with its last argument replaced by what an earlier call gives
+chain : (f name : List ℕ) (column : Column) {other given result : Column} → result ≡ columnIf f name column other → other ≡ given → result ≡ columnIf f name column given
+chain f name column e g = e ∙ ap (columnIf f name column) g
+
+slice-aggregate-column-if : tie.Need-slice-aggregate-column-if
+slice-aggregate-column-if c = search needs
+
+column-if-requires : tie.Need-column-if-requires
+column-if-requires c κs = search needs
+
+slice-aggregate-column-if-2 : tie.Need-slice-aggregate-column-if-2
+slice-aggregate-column-if-2 c = search needs
+
+column-if-requires-2 : tie.Need-column-if-requires-2
+column-if-requires-2 c κs = search needs
+
+slice-aggregate-column-if-3 : tie.Need-slice-aggregate-column-if-3
+slice-aggregate-column-if-3 c = search needs
+
+column-if-requires-3 : tie.Need-column-if-requires-3
+column-if-requires-3 c κs = search needs
+
+slice-aggregate-column-if-4 : tie.Need-slice-aggregate-column-if-4
+slice-aggregate-column-if-4 c = search needs
+
+column-if-requires-4 : tie.Need-column-if-requires-4
+column-if-requires-4 c κs = search needs
+
+slice-aggregate-column-if-5 : tie.Need-slice-aggregate-column-if-5
+slice-aggregate-column-if-5 c = search needs
+
+column-if-requires-5 : tie.Need-column-if-requires-5
+column-if-requires-5 c κs = search needs
+
+slice-aggregate-column-if-6 : tie.Need-slice-aggregate-column-if-6
+slice-aggregate-column-if-6 c = search needs
+
+column-if-requires-6 : tie.Need-column-if-requires-6
+column-if-requires-6 c κs = search needs
+
+returns : tie.Need-returns
+unfolding columnNamed
+returns c =
+    chain _ _ _ (c .column-if6 .ensures)
+    (chain _ _ _ (c .before .before .column-if5 .ensures)
+    (chain _ _ _ (c .before .before .before .before .column-if4 .ensures)
+    (chain _ _ _ (c .before .before .before .before .before .before .column-if3 .ensures)
+    (chain _ _ _ (c .before .before .before .before .before .before .before .before .column-if2 .ensures) (c .before .before .before .before .before .before .before .before .before .before .column-if .ensures)))))
+
+pub column-named-spec : {M : Type 1} → statement M
+column-named-spec =
+    tie.close
+    (tie.spec
+    slice-aggregate-column-if
+    column-if-requires
+    slice-aggregate-column-if-2
+    column-if-requires-2
+    slice-aggregate-column-if-3
+    column-if-requires-3
+    slice-aggregate-column-if-4
+    column-if-requires-4
+    slice-aggregate-column-if-5
+    column-if-requires-5
+    slice-aggregate-column-if-6
+    column-if-requires-6
+    returns)

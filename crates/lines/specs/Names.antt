@@ -1,0 +1,31 @@
+-- A names line. Document 01: "A line of names, then lines of values in that order", the names "in any order".
+use Prim.Native.Nat.{ℕ, _+_}
+use mathlib.Core.List.{List, [], _∷_}
+use mathlib.Core.Bool.{cond}
+use lib.Dec.{leb}
+use Rattle.lines.specs.declared.names.Column.{Column}
+use Rattle.lines.specs.declared.names.Column.the-variants.{Absent}
+use Rattle.lines.specs.declared.names.Columns.{Columns}
+use Rattle.lines.specs.declared.names.NamesLine.{NamesLine}
+use Rattle.lines.specs.declared.names.NamesLine.the-variants.{Columns as Named, Bad}
+use Rattle.lines.specs.Fields.{fitsLine, fields}
+use Rattle.lines.specs.Columns.{columnIf, columnNamed, sameColumn, noColumns, withColumn, sameColumns}
+
+-- The columns that fields name, read column by column from a place on: each field has to name a column, and there are three places.
+unfoldable pub namesFrom : ℕ → List (List ℕ) → Columns → NamesLine
+unfolding columnNamed columnIf sameColumn withColumn
+namesFrom place [] c = cond (leb place 3) (Named c) Bad
+namesFrom place (f ∷ fs) c =
+    let column : Column = columnNamed f in
+    let rest : NamesLine = namesFrom (place + 1) fs (withColumn c place column) in
+    cond (sameColumn column Absent) Bad rest
+
+abbrev pub ifExpected : Columns → NamesLine → NamesLine
+ifExpected expected (Named c) = cond (sameColumns expected c) (Named c) Bad
+ifExpected expected Bad = Bad
+
+-- A line of the expected names in any order, each as often as it is expected, and nothing else. It gives the columns in the order of
+-- the line.
+unfoldable pub namesLine : Columns → List ℕ → NamesLine
+unfolding fitsLine fields namesFrom sameColumns
+namesLine expected s = cond (fitsLine s) (ifExpected expected (namesFrom 0 (fields s) noColumns)) Bad

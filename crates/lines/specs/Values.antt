@@ -1,0 +1,58 @@
+-- A values line. Document 01: "Values are decimal: 0 alone, or 1 to 5 digits not starting with 0. Commas part them; nothing else is
+-- allowed."
+use Prim.Native.Nat.{ℕ, _+_}
+use mathlib.Core.List.{List, [], _∷_}
+use mathlib.Core.Bool.{cond}
+use lib.ListN.{length}
+use lib.Dec.{eqb}
+use Rattle.decimal.specs.declared.Value.{Value}
+use Rattle.decimal.specs.declared.Value.the-variants.{Found, Bad as NoValue}
+use Rattle.decimal.specs.Value.{valueAt}
+use Rattle.lines.specs.declared.names.Column.{Column}
+use Rattle.lines.specs.declared.names.Columns.{Columns}
+use Rattle.lines.specs.declared.values.Values.{Values}
+use Rattle.lines.specs.declared.values.ValuesLine.{ValuesLine}
+use Rattle.lines.specs.declared.values.ValuesLine.the-variants.{Values as Valued, Bad}
+use Rattle.lines.specs.Fields.{fitsLine, fields}
+use Rattle.lines.specs.Columns.{sameColumn}
+
+abbrev pub ifWhole : List ℕ → Value → Value
+ifWhole f (Found v end) = cond (eqb end (length f)) (Found v end) NoValue
+ifWhole f NoValue = NoValue
+
+-- a field that is a value of at most 5 digits and nothing else
+unfoldable pub fieldValue : List ℕ → Value
+fieldValue f = ifWhole f (valueAt 5 f 0)
+
+abbrev pub noValues : Values
+noValues = record { first = 0; second = 0; third = 0 }
+
+-- the values with the one at a place, from 0, set
+unfoldable pub withValue : Values → ℕ → ℕ → Values
+withValue v place x = record {
+  first = cond (eqb place 0) x (v .first);
+  second = cond (eqb place 1) x (v .second);
+  third = cond (eqb place 2) x (v .third);
+}
+
+abbrev pub onValue : Value → (ℕ → ValuesLine) → ValuesLine
+onValue (Found v end) next = next v
+onValue NoValue next = Bad
+
+-- the values in fields, column by column from a place on; there have to be count of them in all
+unfoldable pub valuesFrom : ℕ → ℕ → List (List ℕ) → Values → ValuesLine
+unfolding fieldValue withValue
+valuesFrom count place [] v = cond (eqb place count) (Valued v) Bad
+valuesFrom count place (f ∷ fs) v = onValue (fieldValue f) (λ x. valuesFrom count (place + 1) fs (withValue v place x))
+
+-- a line of three values and nothing else
+unfoldable pub valuesLine : List ℕ → ValuesLine
+unfolding fitsLine fields valuesFrom valueAt
+valuesLine s = cond (fitsLine s) (valuesFrom 3 0 (fields s) noValues) Bad
+
+-- The value in a column: that of the first column of the name, and 0 where there is none. So a name that stands twice has a meaning.
+unfoldable pub valueOf : Columns → Values → Column → ℕ
+valueOf c v x =
+    cond (sameColumn (c .first) x) (v .first)
+    (cond (sameColumn (c .second) x) (v .second)
+    (cond (sameColumn (c .third) x) (v .third) 0))

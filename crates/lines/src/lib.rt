@@ -1,0 +1,13 @@
+// Lines of the file: names lines and value lines, whose fields are parted by commas.
+mod fields;
+pub mod names;
+pub mod values;
+
+// A line has at most 80 bytes before its line feed.
+pub const LINE_BYTES: usize = 80;
+
+// The number of columns of a sizes line, and of a cell line.
+pub const COLUMN_COUNT: usize = 3;
+
+// The most digits of a value.
+pub const VALUE_DIGITS: u8 = 5;

@@ -1,0 +1,212 @@
+// Names lines: the expected names in any order, each exactly once, parted by commas.
+ghost use mathlib.Core.Path.{_≡_};
+ghost use Rattle.lines.specs.Fields.{fields};
+ghost use Rattle.lines.specs.Columns.{columnNumber, sameColumn, columnIf, columnNamed, withColumn, noColumns, countColumn, asOften, sameColumns, sizeColumns, cellColumns};
+ghost use Rattle.lines.specs.Names.{namesFrom, namesLine};
+use super::fields::field_end;
+use super::fields::same_bytes;
+
+// A column, by its name in the file. Absent stands for no column.
+pub enum Column {
+    Absent,
+    Rows,
+    Cols,
+    Depth,
+    Row,
+    Col,
+    Dir,
+}
+
+// The columns of a line, in their order.
+pub struct Columns {
+    pub first: Column,
+    pub second: Column,
+    pub third: Column,
+}
+
+// What reading a names line gives.
+pub enum NamesLine {
+    Columns(Columns),
+    Bad,
+}
+
+fn column_number(column: Column) -> u8
+    ensures { λ r. ⌜ r ≡ columnNumber column ⌝ }
+{
+    match column {
+        Column::Absent => 0,
+        Column::Rows => 1,
+        Column::Cols => 2,
+        Column::Depth => 3,
+        Column::Row => 4,
+        Column::Col => 5,
+        Column::Dir => 6,
+    }
+}
+
+pub fn same_column(a: Column, b: Column) -> bool
+    ensures { λ r. ⌜ r ≡ sameColumn a b ⌝ }
+{
+    column_number(a) == column_number(b)
+}
+
+// A column where a field is its name, and another where it is not.
+fn column_if(field: &[u8], name: &[u8], column: Column, other: Column) -> Column
+    ensures { λ r. ⌜ r ≡ columnIf (now (field .entry)) (now (name .entry)) column other ⌝ }
+{
+    if same_bytes(field, name) {
+        column
+    } else {
+        other
+    }
+}
+
+// The column that a field names; Absent if it names none.
+fn column_named(field: &[u8]) -> Column
+    ensures { λ r. ⌜ r ≡ columnNamed (now (field .entry)) ⌝ }
+{
+    let column = column_if(field, b"dir", Column::Dir, Column::Absent);
+    let column = column_if(field, b"col", Column::Col, column);
+    let column = column_if(field, b"row", Column::Row, column);
+    let column = column_if(field, b"depth", Column::Depth, column);
+    let column = column_if(field, b"cols", Column::Cols, column);
+    column_if(field, b"rows", Column::Rows, column)
+}
+
+// The columns with one of them set, by its place from 0.
+fn with_column(columns: Columns, place: usize, column: Column) -> Columns
+    ensures { λ r. ⌜ r ≡ withColumn columns place column ⌝ }
+{
+    let first = columns.first;
+    let second = columns.second;
+    let third = columns.third;
+    if place == 0 {
+        return Columns {
+            first: column,
+            second: second,
+            third: third,
+        };
+    }
+    if place == 1 {
+        return Columns {
+            first: first,
+            second: column,
+            third: third,
+        };
+    }
+    if place == 2 {
+        return Columns {
+            first: first,
+            second: second,
+            third: column,
+        };
+    }
+    columns
+}
+
+// How often a column stands among columns.
+fn count_column(columns: Columns, column: Column) -> u8
+    ensures { λ r. ⌜ r ≡ countColumn columns column ⌝ }
+{
+    let first = columns.first;
+    let second = columns.second;
+    let third = columns.third;
+    same_column(first, column) as u8
+        + same_column(second, column) as u8
+        + same_column(third, column) as u8
+}
+
+// A column stands among columns as often as it is expected.
+fn as_often(expected: Columns, columns: Columns, column: Column) -> bool
+    ensures { λ r. ⌜ r ≡ asOften expected columns column ⌝ }
+{
+    count_column(columns, column) == count_column(expected, column)
+}
+
+// The columns are the expected ones, in any order.
+fn same_columns(expected: Columns, columns: Columns) -> bool
+    ensures { λ r. ⌜ r ≡ sameColumns expected columns ⌝ }
+{
+    let first = expected.first;
+    let second = expected.second;
+    let third = expected.third;
+    if as_often(expected, columns, first) {
+        if as_often(expected, columns, second) {
+            return as_often(expected, columns, third);
+        }
+    }
+    false
+}
+
+// The columns that the fields of a line name, if each names one and there is a place for each.
+fn columns_in(line: &[u8]) -> NamesLine
+    ensures { λ r. ⌜ r ≡ namesFrom 0 (fields (now (line .entry))) noColumns ⌝ }
+{
+    let mut columns = Columns {
+        first: Column::Absent,
+        second: Column::Absent,
+        third: Column::Absent,
+    };
+    let mut place = 0;
+    let mut at = 0;
+    while at <= line.len() {
+        let end = field_end(line, at);
+        let column = column_named(&line[at..end]);
+        if same_column(column, Column::Absent) {
+            return NamesLine::Bad;
+        }
+        columns = with_column(columns, place, column);
+        place += 1;
+        at = end + 1;
+    }
+    if place <= super::COLUMN_COUNT {
+        NamesLine::Columns(columns)
+    } else {
+        NamesLine::Bad
+    }
+}
+
+// The expected columns in any order, each as often as it is expected, and nothing else.
+fn read_names(line: &[u8], expected: Columns) -> NamesLine
+    ensures { λ r. ⌜ r ≡ namesLine expected (now (line .entry)) ⌝ }
+{
+    if super::LINE_BYTES < line.len() {
+        return NamesLine::Bad;
+    }
+    let NamesLine::Columns(columns) = columns_in(line) else {
+        return NamesLine::Bad;
+    };
+    if same_columns(expected, columns) {
+        NamesLine::Columns(columns)
+    } else {
+        NamesLine::Bad
+    }
+}
+
+// The names of the sizes: rows, cols and depth.
+pub fn read_size_names(line: &[u8]) -> NamesLine
+    ensures { λ r. ⌜ r ≡ namesLine sizeColumns (now (line .entry)) ⌝ }
+{
+    read_names(
+        line,
+        Columns {
+            first: Column::Rows,
+            second: Column::Cols,
+            third: Column::Depth,
+        },
+    )
+}
+
+// The names of a cell: row, col and dir.
+pub fn read_cell_names(line: &[u8]) -> NamesLine
+    ensures { λ r. ⌜ r ≡ namesLine cellColumns (now (line .entry)) ⌝ }
+{
+    read_names(
+        line,
+        Columns {
+            first: Column::Row,
+            second: Column::Col,
+            third: Column::Dir,
+        },
+    )
+}

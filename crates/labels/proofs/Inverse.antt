@@ -15,7 +15,7 @@ use Rattle.sheet.proofs.Digits.{both-left, both-right, digits-number, number-di
 use Rattle.labels.specs.declared.digits.DigitsAnswer.the-variants.{Written, Refused}
 use Rattle.labels.specs.declared.digits.LabelAnswer.the-variants.{Label, Refused as LabelRefused}
 use Rattle.labels.specs.Digits.{digitsAnswer, digitsPlaces, areDigits, labelAnswer}
-use Rattle.labels.proofs.Within.{depth-most, digits-every, every-digits}
+use Rattle.sheet.proofs.Within.{depth-most, digits-every, every-digits}
 
 -- what is known where digits were written
 record WrittenBy (depth m places n : ℕ) : Type 0 where

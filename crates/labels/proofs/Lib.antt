@@ -1,6 +1,5 @@
 pub mod Places
 pub mod LastDigit
-pub mod Within
 pub mod Inverse
 pub mod Answers
 pub mod Cases

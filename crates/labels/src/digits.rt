@@ -1,9 +1,10 @@
 // A label as one decimal number, and its digits, the most significant first.
+use sheet::depth_fits;
 ghost use mathlib.Core.Path.{_≡_};
 ghost use Prim.Native.Nat.{_≤_, _<_, _^_};
 ghost use lib.ListN.{length};
 ghost use Rattle.sheet.specs.Label.{number, digitsOf};
-ghost use Rattle.sheet.specs.Refusal.{within, depthFits, written};
+ghost use Rattle.sheet.specs.Refusal.{within, written};
 ghost use Rattle.sheet.specs.Flow.{every, isLabel};
 ghost use Rattle.labels.specs.Digits.{digitsAnswer, digitsPlaces, labelAnswer};
 
@@ -17,19 +18,6 @@ pub enum DigitsAnswer {
 pub enum LabelAnswer {
     Label(u64),
     Refused(u8),
-}
-
-// Depth: 1 to 18 digits.
-pub fn depth_fits(depth: usize) -> bool
-    ensures { λ r. ⌜ r ≡ depthFits depth ⌝ }
-{
-    if depth < 1 {
-        return false;
-    }
-    if 18 < depth {
-        return false;
-    }
-    true
 }
 
 // The number is a label at the depth: no digit is 0, and there are no more than depth.

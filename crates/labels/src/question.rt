@@ -1,10 +1,10 @@
 // The flow question: does water from the label q pass the label p?
 use crate::digits::count_digits;
-use crate::digits::depth_fits;
 use crate::digits::is_label;
 use crate::digits::put_digits;
 use sheet::Flow;
 use sheet::Found;
+use sheet::depth_fits;
 ghost use mathlib.Core.Path.{_≡_};
 ghost use Prim.Native.Nat.{_<_};
 ghost use lib.ListN.{length, drop};

@@ -6,3 +6,4 @@ pub mod Donors
 pub mod First
 pub mod Faults
 pub mod Digits
+pub mod Within

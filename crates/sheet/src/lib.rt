@@ -5,7 +5,7 @@ ghost use Prim.Native.Nat.{_+_, _*_, _<_, _≤_};
 ghost use lib.ListN.{length};
 ghost use Rattle.sheet.specs.Direction.{stepAt, stepOf, isCode, Near, Short, movedBy, stepEnd};
 ghost use Rattle.sheet.specs.Sheet.{grid, OnSheet, Sized, next, donorAgainst, first};
-ghost use Rattle.sheet.specs.Refusal.{faultAt};
+ghost use Rattle.sheet.specs.Refusal.{within, sizesFit, depthFits, faultAt};
 
 // A direction code with its signed step in rows and columns.
 pub struct Step {
@@ -245,4 +245,31 @@ pub fn first_fault(dirs: &[u8], rows: usize, cols: usize, reached: &[u32], fault
         }
     }
     found
+}
+
+// From 1 to most.
+pub fn is_within(most: usize, x: usize) -> bool
+    ensures { λ r. ⌜ r ≡ within most x ⌝ }
+{
+    if x < 1 {
+        return false;
+    }
+    x <= most
+}
+
+// Rows and columns: 1 to 256 each.
+pub fn sizes_fit(rows: usize, cols: usize) -> bool
+    ensures { λ r. ⌜ r ≡ sizesFit rows cols ⌝ }
+{
+    if is_within(256, rows) {
+        return is_within(256, cols);
+    }
+    false
+}
+
+// Depth: 1 to 18 digits.
+pub fn depth_fits(depth: usize) -> bool
+    ensures { λ r. ⌜ r ≡ depthFits depth ⌝ }
+{
+    is_within(18, depth)
 }

@@ -7,7 +7,7 @@ use lib.ListN.{length, drop}
 use Rattle.sheet.specs.Refusal.{within}
 use Rattle.sheet.specs.Flow.{every}
 use Rattle.labels.proofs.Places.{every-end, every-no, every-yes}
-use Rattle.labels.proofs.Within.{within-yes, within-below, within-above}
+use Rattle.sheet.proofs.Within.{within-yes, within-below, within-above}
 use Rattle.labels.proofs.digits.all_digits.Statement.{statement}
 use Rattle.labels.proofs.digits.all_digits.Tie as tie
 

@@ -4,7 +4,7 @@ use mathlib.Core.Path.{sym, _∙_}
 use borrow.Author.Tests.{le-leb, lt-leb}
 use borrow.Author.Needs.{needs}
 use Rattle.sheet.proofs.Digits.{number-fits}
-use Rattle.labels.proofs.Within.{digits-every, depth-most}
+use Rattle.sheet.proofs.Within.{digits-every, depth-most}
 use Rattle.labels.specs.Digits.{labelAnswer, areDigits}
 use Rattle.labels.proofs.digits.label_of.Statement.{statement}
 use Rattle.labels.proofs.digits.label_of.Tie as tie

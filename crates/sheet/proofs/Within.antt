@@ -1,14 +1,14 @@
--- Digits from 1 to 9, and a depth from 1 to 18.
+-- Numbers from 1 to a bound: sizes, depths, digits.
 use mathlib.Core.Path.{_≡_, refl}
 use mathlib.Core.Bool.{Bool, true, false, cond}
 use mathlib.Core.List.{List, [], _∷_}
 use Prim.Native.Nat.{ℕ, _≤_, _<_}
 use borrow.Author.Tests.{le-leb, lt-leb, leb-true}
 use lib.Dec.{leb}
 use Rattle.sheet.specs.Label.{Digits, digits-none, digits-cons}
 use Rattle.sheet.specs.Refusal.{within, depthFits}
 use Rattle.sheet.specs.Flow.{every}
 use Rattle.sheet.proofs.Digits.{both-left, both-right}
 
 module _ (most a : ℕ) where
   pub within-yes : 1 ≤ a → a ≤ most → within most a ≡ true
@@ -27,7 +27,7 @@ module _ (most a : ℕ) where
       go true = refl
       go false = refl
 
-  within-both : within most a ≡ true → (1 ≤ a) × (a ≤ most)
+  pub within-both : within most a ≡ true → (1 ≤ a) × (a ≤ most)
   unfolding within
   within-both e = (leb-true 1 a (both-left _ _ e), leb-true a most (both-right (leb 1 a) _ e))
 
@@ -46,3 +46,7 @@ pub every-digits : {x : List ℕ} → Digits 9 x → every (within 9) x ≡ true
 unfolding every
 every-digits digits-none = refl
 every-digits (digits-cons {a = a} low high d) = rw (within-yes 9 a low high, every-digits d)
+
+pub within-from : (most a : ℕ) → 1 ≤ a → within most a ≡ leb a most
+unfolding within
+within-from most a low = rw (le-leb 1 a low)

@@ -1,0 +1,7 @@
+#ifndef BASELINE_H
+#define BASELINE_H
+#include <stddef.h>
+#include <stdint.h>
+/* 0, or refusal number + 256 x place. */
+uint64_t baseline_label(size_t rows, size_t cols, size_t depth, const uint8_t *dirs, uint32_t *areas, uint64_t *labels);
+#endif

@@ -1,0 +1,212 @@
+-- The outcome of an inspection, told from what its searches found, and what acceptance tells.
+use mathlib.Core.Path.{_≡_, refl, sym, _∙_, ap}
+use mathlib.Core.Bool.{Bool, true, false, not, true≢false}
+use mathlib.Core.List.{List}
+use mathlib.Core.Logic.{_≢_}
+use Prim.Native.Nat.{ℕ, _+_, _*_, _-_, _<_}
+use native.Mathlib.Decide.{ℕ-discrete}
+use native.Mathlib.Numerals.{add-one}
+use native.Mathlib.Omega.{arith}
+use lib.Dec.{eqb, ltb}
+use lib.ListN.{getD, take, drop}
+use lib.Seq.{getD-take, getD-drop}
+use borrow.Author.Tests.{ltb-true, lt-ltb, le-ltb, le-leb, eq-eqb, ne-eqb, not-false}
+use Rattle.sheet.specs.declared.Found.{Found}
+use Rattle.sheet.specs.declared.Found.the-variants.{At, Nothing}
+use Rattle.sheet.specs.declared.Fault.the-variants.{BadCode, Inside, Unreached, OutletFrom}
+use Rattle.sheet.specs.declared.Outcome.the-variants.{Accepted, Refused}
+use Rattle.sheet.specs.Direction.{isCode}
+use Rattle.sheet.specs.Sheet.{Grid, cells, dirAt, inside, isOutlet, next, first}
+use Rattle.sheet.specs.Water.{reachesOutlet}
+use Rattle.sheet.specs.Label.{outlet, cellFound}
+use Rattle.sheet.specs.Refusal.{both, badCode, undrained, outletFrom, faultAt, secondOutlet, refusedAt, outcomeOn}
+use Rattle.sheet.proofs.Cells.{inside-lt}
+use Rattle.sheet.proofs.First.{first-same, none-first, at-first}
+use Rattle.claims.proofs.Counts.{not-true}
+use Rattle.claims.proofs.Fuel.{reaches-ends, ends-at}
+use Rattle.drainage.specs.declared.Inspection.{Inspection}
+use Rattle.drainage.specs.Work.{placed, rankOf, KeptFrom}
+use Rattle.drainage.specs.Search.{Searched, Coded, Drained, SingleOutlet, outletCount}
+use Rattle.drainage.specs.Inspect.{Inspected}
+use Rattle.drainage.proofs.Sums.{sum-same, sum-one, count-sum}
+use Rattle.drainage.proofs.Upstream.{is-outlet, outlet-lt, way-inside}
+
+-- ---- what was looked for is what the definition looks for
+
+-- the part of the work places that has the ranks
+pub ranks-part : (n : ℕ) (work : List ℕ) (c : ℕ) → c < n → getD (take (2 * n - n) (drop n work)) c 0 ≡ rankOf n work c
+ranks-part n work c l = getD-take (2 * n - n) (drop n work) c 0 (omega arith) ∙ getD-drop n work c 0
+
+rank-none : (r : ℕ) → eqb r 0 ≡ not (ltb 0 r)
+rank-none r = elim (ℕ-discrete r 0) [
+  | yes e ↦ eq-eqb r 0 e ∙ ap not (sym (le-ltb 0 r (omega arith)))
+  | no d ↦ ne-eqb r 0 d ∙ ap not (sym (lt-ltb 0 r (omega arith)))
+]
+
+module _ (G : Grid) where
+  abbrev First : (ℕ → Bool) → Found → Type 0
+  First test x = first test (cells G) ≡ x
+
+  module _ (reached : List ℕ) where
+    pub bad-is : first (faultAt G reached BadCode) (cells G) ≡ first (badCode G) (cells G)
+    unfolding faultAt
+    bad-is = first-same (faultAt G reached BadCode) (badCode G) (cells G) (λ c l. refl)
+
+    pub inside-is : first (faultAt G reached Inside) (cells G) ≡ first (inside G) (cells G)
+    unfolding faultAt
+    inside-is = first-same (faultAt G reached Inside) (inside G) (cells G) (λ c l. refl)
+
+    pub outlet-from-is : (from : ℕ) → first (faultAt G reached (OutletFrom from)) (cells G) ≡ first (outletFrom G from) (cells G)
+    unfolding faultAt
+    outlet-from-is from = first-same (faultAt G reached (OutletFrom from)) (outletFrom G from) (cells G) (λ c l. refl)
+
+    pub undrained-is : {work : List ℕ} {queued : ℕ} → Searched G work queued → ((c : ℕ) → c < cells G → getD reached c 0 ≡ rankOf (cells G) work c)
+        → first (faultAt G reached Unreached) (cells G) ≡ first (undrained G) (cells G)
+    unfolding faultAt undrained
+    undrained-is {work} s ranks = first-same (faultAt G reached Unreached) (undrained G) (cells G) (λ c l. rw (ranks c l, rank-none (rankOf (cells G) work c), s .reached c l) (go (inside G c) (reachesOutlet (next G) (cells G) c)))
+      where
+        go : (a b : Bool) → both a (not (both a b)) ≡ both a (not b)
+        go true b = refl
+        go false b = refl
+
+  -- ---- the outcomes
+
+  pub second-none : First (outletFrom G 0) Nothing → Nothing ≡ secondOutlet G
+  unfolding secondOutlet
+  second-none e = rw e
+
+  pub second-after : {c : ℕ} → First (outletFrom G 0) (At c) → first (outletFrom G (c + 1)) (cells G) ≡ secondOutlet G
+  unfolding secondOutlet
+  second-after {c} e = rw (e, add-one c)
+
+  pub refused-4 : {c : ℕ} → First (badCode G) (At c) → Refused 4 c ≡ outcomeOn G
+  unfolding outcomeOn
+  refused-4 e = rw e
+
+  pub refused-5 : First (badCode G) Nothing → First (inside G) Nothing → Refused 5 0 ≡ outcomeOn G
+  unfolding outcomeOn
+  refused-5 e f = rw (e, f)
+
+  pub refused-later : {x : ℕ} → First (badCode G) Nothing → First (inside G) (At x) → refusedAt 6 (first (undrained G) (cells G)) (refusedAt 7 (secondOutlet G) Accepted) ≡ outcomeOn G
+  unfolding outcomeOn
+  refused-later e f = rw (e, f)
+
+-- ---- what acceptance tells
+
+not-accepted : {number place : ℕ} → Refused number place ≡ Accepted → ⊥
+not-accepted e = let z : _≡_ {A = ℕ} 0 1 = cc in omega arith
+
+pub accepted-both : (a b : Found) → refusedAt 6 a (refusedAt 7 b Accepted) ≡ Accepted → (a ≡ Nothing) × (b ≡ Nothing)
+unfolding refusedAt
+accepted-both (At c) b e = absurd (not-accepted e)
+accepted-both Nothing (At c) e = absurd (not-accepted e)
+accepted-both Nothing Nothing e = (refl, refl)
+
+module _ (G : Grid) where
+  pub coded-of : First G (badCode G) Nothing → Coded G
+  unfolding badCode
+  coded-of e c l = not-false (isCode (dirAt G c)) (none-first (badCode G) (cells G) e c l)
+
+  module _ {work : List ℕ} {queued : ℕ} (s : Searched G work queued) (none : First G (undrained G) Nothing) where
+    pub all-reach : (c : ℕ) → inside G c ≡ true → reachesOutlet (next G) (cells G) c ≡ true
+    unfolding undrained
+    all-reach c i =
+        let u : both (inside G c) (not (reachesOutlet (next G) (cells G) c)) ≡ false = none-first (undrained G) (cells G) none c (inside-lt G c i) in
+        not-false _ (rw i at u)
+
+    pub drained-of : Coded G → Drained G work queued
+    drained-of coded = record {
+      coded = coded;
+      searched = s;
+      all = λ c i. ltb-true 0 (rankOf (cells G) work c) (s .reached c (inside-lt G c i) ∙ rw i (all-reach c i));
+    }
+
+  -- the first outlet, of one or more
+  outlet-first : {f : ℕ} → first (isOutlet G) (cells G) ≡ At f → outlet G ≡ f
+  unfolding outlet
+  outlet-first e = ap cellFound e
+
+  from-start : first (outletFrom G 0) (cells G) ≡ first (isOutlet G) (cells G)
+  unfolding outletFrom
+  from-start = first-same (outletFrom G 0) (isOutlet G) (cells G) (λ c l. rw (le-leb 0 c (omega arith)))
+
+  from-after : {f c : ℕ} → f < c → outletFrom G (f + 1) c ≡ isOutlet G c
+  unfolding outletFrom
+  from-after {f} {c} l = rw (le-leb (f + 1) c (omega arith))
+
+  none-after : {f : ℕ} → first (isOutlet G) (cells G) ≡ At f → secondOutlet G ≡ Nothing → First G (outletFrom G (f + 1)) Nothing
+  none-after e n = second-after G (from-start ∙ e) ∙ n
+
+  module _ {f : ℕ} (found : first (isOutlet G) (cells G) ≡ At f) (second : secondOutlet G ≡ Nothing) where
+    only-one : (c : ℕ) → isOutlet G c ≡ true → c ≡ f
+    only-one c o =
+        let a = at-first (isOutlet G) (cells G) f found in
+        elim (ℕ-discrete c f) [
+          | yes e ↦ e
+          | no d ↦ elim (native.Mathlib.Decide.decLt c f) [
+            | yes l ↦ absurd (true≢false (sym o ∙ a .none-before c l))
+            | no g ↦
+                let l : f < c = omega arith in
+                absurd (true≢false (sym o ∙ sym (from-after l) ∙ none-first (outletFrom G (f + 1)) (cells G) (none-after found second) c (outlet-lt G c o)))
+          ]
+        ]
+
+    count-is : outletCount G ≡ 1
+    count-is =
+        let a = at-first (isOutlet G) (cells G) f found in
+        count-sum (cells G) (isOutlet G)
+        ∙ sum-same (cells G) (isOutlet G) (λ c. eqb c f) (λ c. 1) (λ c. 1)
+        (λ c l. elim (ℕ-discrete c f) [
+          | yes e ↦ ap (isOutlet G) e ∙ a .passes ∙ sym (eq-eqb c f e)
+          | no d ↦ not-true (isOutlet G c) (λ o. d (only-one c o)) ∙ sym (ne-eqb c f d)
+        ]) (λ c l. refl)
+        ∙ sum-one (cells G) f (λ c. 1) (a .below)
+
+    pub single-of : {work : List ℕ} {queued : ℕ} → Searched G work queued → SingleOutlet G work
+    single-of {work} s =
+        let a = at-first (isOutlet G) (cells G) f found in
+        let same = outlet-first found in
+        let r = s .outlets .reached f (a .passes) in
+        let e : rankOf (cells G) work f - 1 ≡ 0 = omega (arith, count-is, s .outlets .first f (a .passes)) in
+        record {
+          is-outlet = rw same (a .passes);
+          only = λ c o. only-one c o ∙ sym same;
+          first = ap (placed work) (sym e) ∙ s .upstream .queue .stands f (a .below) r .place ∙ sym same;
+        }
+
+  -- an inside cell whose water comes to an outlet: there is an outlet
+  pub outlet-some : (x : ℕ) → inside G x ≡ true → reachesOutlet (next G) (cells G) x ≡ true → (f : ℕ) × (first (isOutlet G) (cells G) ≡ At f)
+  outlet-some x i h = go (first (isOutlet G) (cells G)) refl
+    where
+      go : (y : Found) → first (isOutlet G) (cells G) ≡ y → (f : ℕ) × (first (isOutlet G) (cells G) ≡ At f)
+      go (At f) e = (f, e)
+      go Nothing e =
+          let w = ends-at (reaches-ends (next G) (cells G) x h) in
+          let o = is-outlet G (w .0) (way-inside G i (w .1)) (w .2) in
+          absurd (true≢false (sym o ∙ none-first (isOutlet G) (cells G) e (w .0) (outlet-lt G (w .0) o)))
+
+-- ---- the inspection
+
+pub inspected-refused : {G : Grid} {work work′ : List ℕ} {r : Inspection} {number place : ℕ} → r .outcome ≡ Refused number place → Refused number place ≡ outcomeOn G → KeptFrom (3 * cells G) work work′ → Inspected G work work′ r
+inspected-refused e o kept = record {
+  outcome = e ∙ o;
+  drained = λ a. absurd (not-accepted (sym e ∙ a));
+  single = λ a. absurd (not-accepted (sym e ∙ a));
+  kept = kept;
+}
+
+-- a sheet of codes with an inside cell, searched
+pub inspected : {G : Grid} {work work′ : List ℕ} {r : Inspection} {x : ℕ} → First G (badCode G) Nothing → First G (inside G) (At x) → Searched G work′ (r .queued)
+    → r .outcome ≡ refusedAt 6 (first (undrained G) (cells G)) (refusedAt 7 (secondOutlet G) Accepted) → KeptFrom (3 * cells G) work work′ → Inspected G work work′ r
+inspected {G} {work} {work′} {r} {x} bad some s e kept = record {
+  outcome = e ∙ refused-later G bad some;
+  drained = λ a. drained-of G s (none a .0) (coded-of G bad);
+  single = λ a. let f = outlet-some G x is (all-reach G s (none a .0) x is) in single-of G (f .1) (none a .1) s;
+  kept = kept;
+}
+  where
+    none : r .outcome ≡ Accepted → (first (undrained G) (cells G) ≡ Nothing) × (secondOutlet G ≡ Nothing)
+    none a = accepted-both (first (undrained G) (cells G)) (secondOutlet G) (sym e ∙ a)
+
+    is : inside G x ≡ true
+    is = at-first (inside G) (cells G) x some .passes

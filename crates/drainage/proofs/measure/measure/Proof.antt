@@ -1,0 +1,36 @@
+-- `measure` meets its contract.
+use mathlib.Core.Path.{sym, _∙_}
+use native.Mathlib.Omega.{arith}
+use Rattle.sheet.specs.Sheet.{grid}
+use Rattle.sheet.specs.Label.{areasOf}
+use Rattle.drainage.specs.Total.{sizesOf}
+use Rattle.drainage.proofs.Measures.{sizes-long, areas-long, written-over}
+use Rattle.drainage.proofs.Kept.{drained-same, with-sizes-same}
+use borrow.Author.Needs.{needs}
+use Rattle.drainage.proofs.measure.measure.Statement.{statement}
+use Rattle.drainage.proofs.measure.measure.Tie as tie
+
+sizes-requires : tie.Need-sizes-requires
+sizes-requires c κs = search needs
+
+areas-requires : tie.Need-areas-requires
+areas-requires c κs =
+    let p = c .before .before .before .before .before .before .before .before .before .before .before .before .pre in
+    let e = c .before .before .before .before .before .before .sizes .ensures in
+    (p .0, rw (e .0) (drained-same (with-sizes-same _ _ _ (p .1 .searched .upstream .queue .room)) (p .1)), omega (arith, p .2, c .before .before .before .before .before .before .sizes .kept .1 .1 .1 .1 .1 .0))
+
+same-length : tie.Need-same-length
+same-length c = search needs
+
+same-length-2 : tie.Need-same-length-2
+same-length-2 c = search needs
+
+returns : tie.Need-returns
+returns c =
+    let a = c .before .before .before .before .before .before .before .before .before .before .before .before .before .before .before .args in
+    let G = grid (a .rows) (a .cols) (a .dirs .now) in
+    let e = c .before .before .before .before .before .before .before .before .before .sizes .ensures in
+    (e .0, (rw (e .1) at (c .before .before .areas .ensures)) ∙ written-over (areasOf G) (sizesOf G) (a .lent-areas .now) (sizes-long G ∙ sym (areas-long G)))
+
+pub measure-spec : {M : Type 1} → statement M
+measure-spec = tie.close (tie.spec sizes-requires areas-requires same-length same-length-2 returns)

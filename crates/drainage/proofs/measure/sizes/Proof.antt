@@ -1,0 +1,84 @@
+-- `sizes` meets its contract.
+use mathlib.Core.Path.{_≡_, sym, _∙_, ap}
+use Prim.Native.Nat.{_*_, _-_}
+use lib.ListN.{length}
+use borrow.Rule.Slice.PartMut.{putMid}
+use Rattle.sheet.specs.Sheet.{grid}
+use Rattle.sheet.specs.Refusal.{written}
+use Rattle.sheet.proofs.Cells.{cells-most}
+use Rattle.drainage.specs.Total.{ownCounts, sizesOf}
+use Rattle.drainage.proofs.Lists.{filled, filled-written}
+use Rattle.drainage.proofs.Measures.{sizes-long, sizes-written, sizes-put, own-gathers}
+use borrow.Author.Needs.{needs}
+use Rattle.drainage.proofs.measure.sizes.Statement.{statement}
+use Rattle.drainage.proofs.measure.sizes.Tie as tie
+
+mul-n : tie.Need-mul-n
+mul-n c = search needs
+
+own-counts-requires : tie.Need-own-counts-requires
+own-counts-requires c κs = search needs
+
+-- the own counts
+own : (c : tie.After-own-counts) → let a = c .before .before .before .before .before .args in c .own-counts .last .1 .1 .0 ≡ filled (ownCounts (a .dirs .now)) (a .rows * a .cols) (a .areas .now)
+own c = c .own-counts .ensures ∙ sym (filled-written _ _ _)
+
+gather-requires : tie.Need-gather-requires
+gather-requires c κs =
+    let p = c .before .before .before .before .before .before .before .before .before .pre in
+    rw (own (c .before .before .before .before)) (own-gathers (p .1) _ (cells-most (p .0 .rows-most) (p .0 .cols-most)) (p .2))
+
+-- the sizes
+gathered : (c : tie.After-gather) → let a = c .before .before .before .before .before .before .before .before .before .before .args in c .gather .last .1 .1 .1 .0 ≡ written (sizesOf (grid (a .rows) (a .cols) (a .dirs .now))) (a .areas .now)
+gathered c = (rw (own (c .before .before .before .before .before)) at (c .gather .ensures)) ∙ sizes-written (c .before .before .before .before .before .before .before .before .before .before .pre .1) _
+
+mul-from : tie.Need-mul-from
+mul-from c = search needs
+
+mul-copy : tie.Need-mul-copy
+mul-copy c = search needs
+
+sub-copy : tie.Need-sub-copy
+sub-copy c = search needs
+
+part-copy-start : tie.Need-part-copy-start
+part-copy-start c = search needs
+
+part-copy-end : tie.Need-part-copy-end
+part-copy-end c = search needs
+
+copy-requires : tie.Need-copy-requires
+copy-requires c κs = search needs
+
+same-length : tie.Need-same-length
+same-length c = search needs
+
+same-length-2 : tie.Need-same-length-2
+same-length-2 c = search needs
+
+returns : tie.Need-returns
+returns c =
+    let a = c .before .before .before .before .before .before .before .before .before .before .before .before .before .before .before .before .before .args in
+    let G = grid (a .rows) (a .cols) (a .dirs .now) in
+    let n = a .rows * a .cols in (
+      ap (putMid (3 * n) (length (a .work .now) - 3 * n) (a .work .now)) (c .before .before .copy .ensures)
+          ∙ sizes-put n (a .work .now) (sizesOf G) _ (a .areas .now) (c .before .before .before .before .before .before .before .before .before .before .before .before .before .before .before .before .before .pre .1 .searched .upstream .queue .room) (sizes-long G) (gathered (c .before .before .before .before .before .before .before)),
+      gathered (c .before .before .before .before .before .before .before),
+    )
+
+pub sizes-spec : {M : Type 1} → statement M
+sizes-spec =
+    tie.close
+    (tie.spec
+    mul-n
+    own-counts-requires
+    gather-requires
+    mul-from
+    mul-copy
+    sub-copy
+    part-copy-start
+    part-copy-end
+    copy-requires
+    same-length
+    same-length-2
+    returns)

@@ -1,0 +1,73 @@
+-- Sums of own values over the cells whose water passes a cell; sizes.
+use mathlib.Core.Path.{_≡_}
+use mathlib.Core.Bool.{Bool, true, cond}
+use mathlib.Core.List.{List}
+use Prim.Native.Nat.{ℕ, zero, suc, _+_, _*_, _≤_, _<_, _^_}
+use lib.Dec.{eqb}
+use lib.ListN.{getD, length, set}
+use Rattle.sheet.specs.declared.Next.{Next}
+use Rattle.sheet.specs.declared.Next.the-variants.{Outlet}
+use Rattle.sheet.specs.Sheet.{Grid, cells, inside}
+use Rattle.sheet.specs.Water.{passes}
+use Rattle.sheet.specs.Area.{count, drainsInto}
+use Rattle.sheet.specs.Label.{listFrom}
+use Rattle.drainage.specs.Work.{isReached, receiverOf, nextOfNumber}
+use Rattle.drainage.specs.Search.{Queue}
+
+-- the sum of f over those of the first n cells that pass a test
+unfoldable pub sumOver : ℕ → (ℕ → Bool) → (ℕ → ℕ) → ℕ
+sumOver zero test f = 0
+sumOver (suc n) test f = let r = sumOver n test f in cond (test n) (r + f n) r
+
+-- the sum of f over the cells whose water passes c
+unfoldable pub total : ℕ → (ℕ → Next) → (ℕ → ℕ) → ℕ → ℕ
+unfolding sumOver passes
+total n next f c = sumOver n (λ q. passes next n q c) f
+
+-- where a cell's water goes, by the receivers in the work places
+unfoldable pub nextIn : ℕ → List ℕ → ℕ → Next
+nextIn n work c = cond (isReached n work c) (nextOfNumber (receiverOf n work c)) Outlet
+
+abbrev pub valueAt : List ℕ → ℕ → ℕ
+valueAt l c = getD l c 0
+
+-- a queue, a place for each cell's total, and own values whose sum fits 32 bits
+pub record Gathers (n : ℕ) (work : List ℕ) (queued : ℕ) (totals : List ℕ) : Type 0 where
+  pub queue : Queue n work queued
+  pub room : n ≤ length totals
+  pub fits : sumOver n (λ q. true) (valueAt totals) < 2 ^ 32
+
+-- the totals of n cells by the receivers in the work places
+unfoldable pub totalsIn : ℕ → List ℕ → (ℕ → ℕ) → List ℕ
+unfolding total nextIn listFrom
+totalsIn n work f = listFrom (total n (nextIn n work) f) 0 n
+
+-- a cell's total is added to that of its receiver
+unfoldable pub added : ℕ → List ℕ → ℕ → List ℕ
+added zero totals c = totals
+added (suc r) totals c = set totals r (getD totals r 0 + getD totals c 0)
+
+-- what an addition needs: the receiver is a cell of the totals, and the sum fits 32 bits
+pub record Adds (n : ℕ) (work : List ℕ) (c : ℕ) (totals : List ℕ) : Type 0 where
+  pub on : c < n
+  pub receivers : 3 * n ≤ length work
+  pub room : n ≤ length totals
+  pub receiver-on : (r : ℕ) → receiverOf n work c ≡ r + 1 → r < n
+  pub fits : (r : ℕ) → receiverOf n work c ≡ r + 1 → valueAt totals r + valueAt totals c < 2 ^ 32
+
+-- what a cell counts by itself, told from its byte: 1 inside, 0 outside
+unfoldable pub ownCount : ℕ → ℕ
+ownCount code = cond (eqb code 0) 0 1
+
+-- the own counts of the cells
+abbrev pub ownCounts : List ℕ → ℕ → ℕ
+ownCounts dirs c = ownCount (getD dirs c 0)
+
+-- "size" of an inside cell: the count of inside cells whose water passes it; outside cells have size 0
+unfoldable pub size : Grid → ℕ → ℕ
+unfolding inside count drainsInto
+size G c = cond (inside G c) (count (cells G) (drainsInto G c)) 0
+
+unfoldable pub sizesOf : Grid → List ℕ
+unfolding listFrom size
+sizesOf G = listFrom (size G) 0 (cells G)

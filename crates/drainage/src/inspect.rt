@@ -1,0 +1,69 @@
+// Refusals 4 to 7, in order, with the search upstream on the way.
+use crate::Inspection;
+use crate::search::search;
+use sheet::Fault;
+use sheet::Found;
+use sheet::Outcome;
+ghost use mathlib.Core.Path.{_≡_};
+ghost use Prim.Native.Nat.{_*_, _≤_};
+ghost use lib.ListN.{length};
+ghost use Rattle.sheet.specs.Sheet.{grid, Sized};
+ghost use Rattle.sheet.specs.Refusal.{refusedAt, secondOutlet};
+ghost use Rattle.drainage.specs.Inspect.{Cleared, Inspected};
+
+// The second outlet in reading order.
+fn second_outlet(dirs: &[u8], rows: usize, cols: usize, reached: &[u32]) -> Found
+    requires { ⌜ Sized rows cols (now dirs) × (rows * cols ≤ length (now reached)) ⌝ }
+    ensures { λ r. ⌜ r ≡ secondOutlet (grid rows cols (now (dirs .entry))) ⌝ }
+{
+    match sheet::first_fault(dirs, rows, cols, reached, Fault::OutletFrom(0)) {
+        Found::Nothing => Found::Nothing,
+        Found::At(c) => sheet::first_fault(dirs, rows, cols, reached, Fault::OutletFrom(c + 1)),
+    }
+}
+
+// The outcome of two checks, the earlier first: refused by number where one found a cell.
+fn refused_by(number: u8, found: Found, later: u8, then: Found) -> Outcome
+    ensures { λ r. ⌜ r ≡ refusedAt number found (refusedAt later then Outcome.Accepted) ⌝ }
+{
+    match found {
+        Found::At(c) => Outcome::Refused(number, c),
+        Found::Nothing => match then {
+            Found::At(c) => Outcome::Refused(later, c),
+            Found::Nothing => Outcome::Accepted,
+        },
+    }
+}
+
+// A refusal before the search.
+fn refused(number: u8, cell: usize) -> Inspection
+    ensures { λ r. ⌜ r .outcome ≡ Outcome.Refused number cell ⌝ }
+{
+    Inspection {
+        outcome: Outcome::Refused(number, cell),
+        queued: 0,
+    }
+}
+
+// Looks for what a sheet is refused for: a byte that is no code, no inside cell, an inside cell that the search did not
+// reach, a second outlet.
+pub fn inspect(dirs: &[u8], rows: usize, cols: usize, work: &mut [u32]) -> Inspection
+    requires { ⌜ Sized rows cols (now dirs) × Cleared (rows * cols) (now work) ⌝ }
+    ensures { λ r. ⌜ Inspected (grid rows cols (now (dirs .entry))) (now (work .entry)) (now (work .exit)) r ⌝ }
+{
+    let n = rows * cols;
+    let end = 2 * n;
+    if let Found::At(c) = sheet::first_fault(dirs, rows, cols, &work[n..end], Fault::BadCode) {
+        return refused(4, c);
+    }
+    let Found::At(_) = sheet::first_fault(dirs, rows, cols, &work[n..end], Fault::Inside) else {
+        return refused(5, 0);
+    };
+    let queued = search(dirs, rows, cols, work);
+    let unreached = sheet::first_fault(dirs, rows, cols, &work[n..end], Fault::Unreached);
+    let second = second_outlet(dirs, rows, cols, &work[n..end]);
+    Inspection {
+        outcome: refused_by(6, unreached, 7, second),
+        queued,
+    }
+}

@@ -1,0 +1,107 @@
+// Areas and sizes: own values of cells, added up along the queue of a search, backwards.
+ghost use mathlib.Core.Path.{_≡_};
+ghost use mathlib.Core.List.{_++_};
+ghost use Prim.Native.Nat.{_*_, _≤_};
+ghost use lib.ListN.{length, take, drop};
+ghost use Rattle.sheet.specs.Sheet.{grid, Sized};
+ghost use Rattle.sheet.specs.Label.{areasOf, listFrom};
+ghost use Rattle.sheet.specs.Refusal.{written};
+ghost use Rattle.drainage.specs.Work.{receiverOf, withSizes};
+ghost use Rattle.drainage.specs.Search.{Drained};
+ghost use Rattle.drainage.specs.Total.{Gathers, Adds, added, totalsIn, valueAt, ownCount, ownCounts, sizesOf};
+
+// What a cell counts by itself.
+fn own_count(code: u8) -> u32
+    ensures { λ r. ⌜ r ≡ ownCount code ⌝ }
+{
+    if code == 0 { 0 } else { 1 }
+}
+
+// Each cell's own count: 1 for an inside cell, 0 for each other.
+fn own_counts(dirs: &[u8], n: usize, totals: &mut [u32])
+    requires { ⌜ (n ≤ length (now dirs)) × (n ≤ length (now totals)) ⌝ }
+    ensures { λ _. ⌜ now (totals .exit) ≡ written (listFrom (ownCounts (now (dirs .entry))) 0 n) (now (totals .entry)) ⌝ }
+{
+    for c in 0..n {
+        totals[c] = own_count(dirs[c]);
+    }
+}
+
+// Adds a cell's total to its receiver's.
+fn add_to_receiver(work: &[u32], n: usize, cell: usize, totals: &mut [u32])
+    requires { ⌜ Adds n (now work) cell (now totals) ⌝ }
+    ensures { λ _. ⌜ now (totals .exit) ≡ added (receiverOf n (now (work .entry)) cell) (now (totals .entry)) cell ⌝ }
+{
+    let receiver = work[2 * n + cell] as usize;
+    if receiver != 0 {
+        let to = receiver - 1;
+        totals[to] = totals[to] + totals[cell];
+    }
+}
+
+// Adds up own values along the queue, backwards: afterwards each cell has the sum over the cells whose water passes it.
+fn gather(work: &[u32], n: usize, queued: usize, totals: &mut [u32])
+    requires { ⌜ Gathers n (now work) queued (now totals) ⌝ }
+    ensures { λ _. ⌜ now (totals .exit) ≡ written (totalsIn n (now (work .entry)) (valueAt (now (totals .entry)))) (now (totals .entry)) ⌝ }
+{
+    let mut i = queued;
+    while 0 < i {
+        i -= 1;
+        add_to_receiver(work, n, work[i] as usize, totals);
+    }
+}
+
+// The areas of a drained sheet.
+pub fn areas(dirs: &[u8], rows: usize, cols: usize, work: &[u32], queued: usize, areas: &mut [u32])
+    requires { ⌜ Sized rows cols (now dirs) × Drained (grid rows cols (now dirs)) (now work) queued × (rows * cols ≤ length (now areas)) ⌝ }
+    ensures { λ _. ⌜ now (areas .exit) ≡ written (areasOf (grid rows cols (now (dirs .entry)))) (now (areas .entry)) ⌝ }
+{
+    let n = rows * cols;
+    own_counts(dirs, n, areas);
+    gather(work, n, queued, areas);
+}
+
+// Copies the first n places.
+fn copy(from: &[u32], n: usize, to: &mut [u32])
+    requires { ⌜ (n ≤ length (now from)) × (n ≤ length (now to)) ⌝ }
+    ensures { λ _. ⌜ now (to .exit) ≡ take n (now (from .entry)) ++ drop n (now (to .entry)) ⌝ }
+{
+    for c in 0..n {
+        to[c] = from[c];
+    }
+}
+
+// The sizes of a drained sheet, into their part of the work places. They are gathered in the places lent for areas.
+pub fn sizes(
+    dirs: &[u8],
+    rows: usize,
+    cols: usize,
+    work: &mut [u32],
+    queued: usize,
+    areas: &mut [u32],
+)
+    requires { ⌜ Sized rows cols (now dirs) × Drained (grid rows cols (now dirs)) (now work) queued × (rows * cols ≤ length (now areas)) × (4 * (rows * cols) ≤ length (now work)) ⌝ }
+    ensures { λ _. ⌜ (now (work .exit) ≡ withSizes (rows * cols) (sizesOf (grid rows cols (now (dirs .entry)))) (now (work .entry))) × (now (areas .exit) ≡ written (sizesOf (grid rows cols (now (dirs .entry)))) (now (areas .entry))) ⌝ }
+{
+    let n = rows * cols;
+    own_counts(dirs, n, areas);
+    gather(work, n, queued, areas);
+    let from = 3 * n;
+    copy(areas, n, &mut work[from..]);
+}
+
+// The sizes of a drained sheet, then its areas.
+pub fn measure(
+    dirs: &[u8],
+    rows: usize,
+    cols: usize,
+    work: &mut [u32],
+    queued: usize,
+    lent_areas: &mut [u32],
+)
+    requires { ⌜ Sized rows cols (now dirs) × Drained (grid rows cols (now dirs)) (now work) queued × (rows * cols ≤ length (now «lent_areas»)) × (4 * (rows * cols) ≤ length (now work)) ⌝ }
+    ensures { λ _. ⌜ (now (work .exit) ≡ withSizes (rows * cols) (sizesOf (grid rows cols (now (dirs .entry)))) (now (work .entry))) × (now («lent_areas» .exit) ≡ written (areasOf (grid rows cols (now (dirs .entry)))) (now («lent_areas» .entry))) ⌝ }
+{
+    sizes(dirs, rows, cols, work, queued, lent_areas);
+    areas(dirs, rows, cols, work, queued, lent_areas);
+}

@@ -1,0 +1,22 @@
+-- `pf_flow` meets its contract.
+use mathlib.Core.Path.{ap, _∙_}
+use borrow.Author.Needs.{needs}
+use Rattle.sheet.specs.Flow.{answerNumber}
+use Rattle.exports.proofs.pf_flow.Statement.{statement}
+use Rattle.exports.proofs.pf_flow.Tie as tie
+use Rattle.exports.proofs.pf_flow.Reads as reads
+use Rattle.exports.proofs.pf_flow.Lts as lts
+use Rattle.labels.proofs.question.answer_number.Reads as answer-number-reads
+use Rattle.labels.proofs.question.flow_of.Reads as flow-of-reads
+
+flow-of-requires : tie.Need-flow-of-requires
+flow-of-requires c κs = search needs
+
+answer-number-requires : tie.Need-answer-number-requires
+answer-number-requires c κs = search needs
+
+returns : tie.Need-returns
+returns c = c .answer-number .ensures ∙ ap answerNumber (c .before .flow-of .ensures)
+
+pub pf-flow-spec : {M : Type 1} → statement M
+pf-flow-spec = tie.close (tie.spec flow-of-requires answer-number-requires returns)

@@ -1,0 +1,5 @@
+pub mod Cases
+pub mod FaultLaws
+pub mod LineLaws
+pub mod Laws
+pub mod BadLines

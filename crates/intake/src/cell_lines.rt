@@ -1,0 +1,97 @@
+// A cell and its line.
+ghost use mathlib.Core.Path.{_≡_};
+ghost use lib.ListN.{length};
+ghost use Rattle.lines.specs.Values.{valuesLine};
+ghost use Rattle.lines.specs.declared.values.ValuesLine.{ValuesLine};
+ghost use Rattle.sheet.specs.Direction.{isCode};
+ghost use Rattle.intake.specs.Faults.{sizesFault, cellIn, onSheet, cellFault};
+ghost use Rattle.intake.specs.Intake.{cellWritten, onCells};
+use super::Cell;
+use super::Outcome;
+use super::Sizes;
+use super::Stage;
+use super::Taken;
+use super::answer;
+use lines::names::Column;
+use lines::names::Columns;
+use lines::values::Values;
+use lines::values::ValuesLine;
+use lines::values::value_of;
+
+fn cell_in(columns: Columns, values: Values) -> Cell
+    ensures { λ r. ⌜ r ≡ cellIn columns values ⌝ }
+{
+    Cell {
+        row: value_of(columns, values, Column::Row) as usize,
+        col: value_of(columns, values, Column::Col) as usize,
+        dir: value_of(columns, values, Column::Dir),
+    }
+}
+
+fn on_sheet(sizes: Sizes, cell: Cell) -> bool
+    ensures { λ r. ⌜ r ≡ onSheet sizes cell ⌝ }
+{
+    if cell.row < sizes.rows {
+        return cell.col < sizes.cols;
+    }
+    false
+}
+
+// Whether a value is one of the nine codes.
+fn is_dir(dir: u32) -> bool
+    ensures { λ r. ⌜ r ≡ isCode dir ⌝ }
+{
+    if dir < 256 {
+        return sheet::is_code(dir as u8);
+    }
+    false
+}
+
+// The refusal of a cell by 9, 4, 10, or 0.
+fn cell_fault(sizes: Sizes, cell: Cell, dirs: &[u8]) -> u8
+    requires { ⌜ sizesFault sizes (length (now dirs)) ≡ 0 ⌝ }
+    ensures { λ r. ⌜ r ≡ cellFault sizes cell (now (dirs .entry)) ⌝ }
+{
+    if on_sheet(sizes, cell) {
+        if is_dir(cell.dir) {
+            if dirs[cell.row * sizes.cols + cell.col] == 0 {
+                return 0;
+            }
+            return 10;
+        }
+        return 4;
+    }
+    9
+}
+
+// Sets the byte of a cell that has no fault.
+fn write_cell(sizes: Sizes, cell: Cell, dirs: &mut [u8])
+    requires { ⌜ sizesFault sizes (length (now dirs)) ≡ 0 ⌝ }
+    requires { ⌜ cellFault sizes cell (now dirs) ≡ 0 ⌝ }
+    ensures { λ _. ⌜ now (dirs .exit) ≡ cellWritten sizes cell (now (dirs .entry)) ⌝ }
+{
+    dirs[cell.row * sizes.cols + cell.col] = cell.dir as u8;
+}
+
+fn take_cell(sizes: Sizes, columns: Columns, values: Values, dirs: &mut [u8]) -> Taken
+    requires { ⌜ sizesFault sizes (length (now dirs)) ≡ 0 ⌝ }
+    ensures { λ r. ⌜ record { taken = r; dirs = now (dirs .exit) } ≡ onCells sizes columns (ValuesLine.Values values) (now (dirs .entry)) ⌝ }
+{
+    let cell = cell_in(columns, values);
+    let fault = cell_fault(sizes, cell, dirs);
+    if fault == 0 {
+        write_cell(sizes, cell, dirs);
+        return answer(Stage::TakingCells(sizes, columns), Outcome::Accepted);
+    }
+    answer(Stage::TakingCells(sizes, columns), Outcome::Refused(fault))
+}
+
+pub fn cell_line(sizes: Sizes, columns: Columns, line: &[u8], dirs: &mut [u8]) -> Taken
+    requires { ⌜ sizesFault sizes (length (now dirs)) ≡ 0 ⌝ }
+    ensures { λ r. ⌜ record { taken = r; dirs = now (dirs .exit) } ≡ onCells sizes columns (valuesLine (now (line .entry))) (now (dirs .entry)) ⌝ }
+{
+    let ValuesLine::Values(values) = lines::values::read_values(line) else {
+        return answer(Stage::TakingCells(sizes, columns), Outcome::Refused(8));
+    };
+    take_cell(sizes, columns, values, dirs)
+}

@@ -1,0 +1,136 @@
+// The intake of a sheet's file: it takes one line at a time and hands its state back.
+ghost use mathlib.Core.Path.{_≡_};
+ghost use lib.ListN.{length};
+ghost use Rattle.intake.specs.Intake.{refusalNumber, newIntake, stateFault, lineIn, lineAfter, endTaken};
+
+mod cell_lines;
+mod name_lines;
+mod size_lines;
+
+use cell_lines::cell_line;
+use lines::names::Columns;
+use name_lines::cell_names_line;
+use name_lines::size_names_line;
+use size_lines::sizes_fault;
+use size_lines::sizes_line;
+
+// The sizes of a sheet, as the file lists them.
+pub struct Sizes {
+    pub rows: usize,
+    pub cols: usize,
+    pub depth: usize,
+}
+
+// What a cell line lists.
+pub struct Cell {
+    pub row: usize,
+    pub col: usize,
+    pub dir: u32,
+}
+
+// The stage of an intake, with what later lines need: the order of the columns, the sizes.
+pub enum Stage {
+    WaitingForSizeNames,
+    WaitingForSizes(Columns),
+    WaitingForCellNames(Sizes),
+    TakingCells(Sizes, Columns),
+    Ended(Sizes),
+}
+
+pub struct Intake {
+    pub stage: Stage,
+}
+
+// Accepted, or refused with document 01's number.
+pub enum Outcome {
+    Accepted,
+    Refused(u8),
+}
+
+// The next state beside the outcome.
+pub struct Taken {
+    pub intake: Intake,
+    pub outcome: Outcome,
+}
+
+// Document 01's number of an outcome; 0 is accepted.
+pub fn refusal_number(outcome: Outcome) -> u8
+    ensures { λ r. ⌜ r ≡ refusalNumber outcome ⌝ }
+{
+    match outcome {
+        Outcome::Accepted => 0,
+        Outcome::Refused(number) => number,
+    }
+}
+
+fn answer(stage: Stage, outcome: Outcome) -> Taken
+    ensures { λ r. ⌜ r ≡ record { intake = record { stage = stage }; outcome = outcome } ⌝ }
+{
+    Taken {
+        intake: Intake { stage: stage },
+        outcome: outcome,
+    }
+}
+
+// The refusal of the sizes of a state, or 0. An ended state has none: 13 goes before it.
+fn state_fault(stage: Stage, lent: usize) -> u8
+    ensures { λ r. ⌜ r ≡ stateFault stage lent ⌝ }
+{
+    match stage {
+        Stage::WaitingForSizeNames => 0,
+        Stage::WaitingForSizes(_) => 0,
+        Stage::WaitingForCellNames(sizes) => sizes_fault(sizes, lent),
+        Stage::TakingCells(sizes, _) => sizes_fault(sizes, lent),
+        Stage::Ended(_) => 0,
+    }
+}
+
+// A line in a state whose sizes are good.
+fn line_in(stage: Stage, line: &[u8], dirs: &mut [u8]) -> Taken
+    requires { ⌜ stateFault stage (length (now dirs)) ≡ 0 ⌝ }
+    ensures { λ r. ⌜ record { taken = r; dirs = now (dirs .exit) } ≡ lineIn stage (now (line .entry)) (now (dirs .entry)) ⌝ }
+{
+    match stage {
+        Stage::WaitingForSizeNames => size_names_line(line),
+        Stage::WaitingForSizes(columns) => sizes_line(columns, line, dirs),
+        Stage::WaitingForCellNames(sizes) => cell_names_line(sizes, line),
+        Stage::TakingCells(sizes, columns) => cell_line(sizes, columns, line, dirs),
+        Stage::Ended(_) => answer(stage, Outcome::Refused(13)),
+    }
+}
+
+impl Intake {
+    pub fn new() -> Self
+        ensures { λ r. ⌜ r ≡ newIntake ⌝ }
+    {
+        Intake {
+            stage: Stage::WaitingForSizeNames,
+        }
+    }
+
+    // Takes one line, without its line feed.
+    pub fn line(self, line: &[u8], dirs: &mut [u8]) -> Taken
+        ensures { λ r. ⌜ record { taken = r; dirs = now (dirs .exit) } ≡ lineAfter self (now (line .entry)) (now (dirs .entry)) ⌝ }
+    {
+        let stage = self.stage;
+        let fault = state_fault(stage, dirs.len());
+        if fault == 0 {
+            return line_in(stage, line, dirs);
+        }
+        answer(stage, Outcome::Refused(fault))
+    }
+
+    // Takes the end of the file.
+    pub fn end(self) -> Taken
+        ensures { λ r. ⌜ r ≡ endTaken self ⌝ }
+    {
+        let stage = self.stage;
+        match stage {
+            Stage::WaitingForSizeNames => answer(stage, Outcome::Refused(14)),
+            Stage::WaitingForSizes(_) => answer(stage, Outcome::Refused(14)),
+            Stage::WaitingForCellNames(_) => answer(stage, Outcome::Refused(14)),
+            Stage::TakingCells(sizes, _) => answer(Stage::Ended(sizes), Outcome::Accepted),
+            Stage::Ended(_) => answer(stage, Outcome::Refused(13)),
+        }
+    }
+}

@@ -1,0 +1,140 @@
+-- The outcome and the lent slices of a direct call, by which of checks 1 to 3 is passed.
+use mathlib.Core.Path.{_≡_, refl, sym, ap, _∙_}
+use mathlib.Core.Bool.{Bool, true, false, cond, true≢false}
+use mathlib.Core.List.{List, _++_}
+use Prim.Native.Nat.{ℕ, _*_, _<_, _≤_}
+use native.Mathlib.Omega.{arith}
+use lib.Dec.{leb}
+use lib.ListN.{length, take, drop, replicate, length-replicate}
+use lib.Seq.{length-take-le}
+use borrow.Author.Tests.{leb-true}
+use Rattle.sheet.specs.declared.Outcome.{Outcome}
+use Rattle.sheet.specs.declared.Outcome.the-variants.{Accepted, Refused}
+use Rattle.sheet.specs.Sheet.{Sheet, cells, Sized}
+use Rattle.sheet.specs.Label.{areasOf, labelsOf}
+use Rattle.sheet.specs.Refusal.{Lent, both, written, within, sizesFit, depthFits, slicesFit, outcomeOn, outcome, ifAccepted, lentAfter}
+use Rattle.sheet.proofs.Cells.{cells-most}
+use Rattle.sheet.proofs.Digits.{both-left, both-right}
+use Rattle.sheet.proofs.Within.{within-both, depth-most}
+use Rattle.labelling.specs.Labelling.{Fitting}
+
+-- rows and columns, within their bounds
+pub record Bounded (rows cols : ℕ) : Type 0 where
+  pub rows-most : rows ≤ 256
+  pub cols-most : cols ≤ 256
+  pub cols-some : 1 ≤ cols
+  pub cells-fit : rows * cols ≤ 65536
+
+pub bounded : (rows cols : ℕ) → sizesFit rows cols ≡ true → Bounded rows cols
+unfolding sizesFit
+bounded rows cols e =
+    let r = within-both 256 rows (both-left (within 256 rows) (within 256 cols) e) in
+    let c = within-both 256 cols (both-right (within 256 rows) (within 256 cols) e) in
+    record { rows-most = r .1; cols-most = c .1; cols-some = c .0; cells-fit = cells-most (r .1) (c .1) }
+
+module _ (S : Sheet) (L : Lent) where
+  abbrev fits : Bool
+  fits = both (sizesFit (S .grid .rows) (S .grid .cols)) (both (depthFits (S .depth)) (slicesFit (S .grid) L))
+
+  record Long : Type 0 where
+    dirs : cells (S .grid) ≤ length (S .grid .dirs)
+    areas : cells (S .grid) ≤ length (L .areas)
+    labels : cells (S .grid) ≤ length (L .labels)
+    work : 8 * cells (S .grid) ≤ length (L .work)
+
+  -- refused before the work places are touched
+  lent-kept : (number place : ℕ) → outcome S L ≡ Refused number place → fits ≡ false → L ≡ lentAfter S L
+  unfolding lentAfter
+  lent-kept number place e f = go (outcome S L) e fits f
+    where
+      go : (o : Outcome) → o ≡ Refused number place → (b : Bool) → b ≡ false
+          → L ≡ record {
+            areas = ifAccepted o (areasOf (S .grid)) (L .areas);
+            labels = ifAccepted o (labelsOf S) (L .labels);
+            work = cond b (written (replicate (8 * cells (S .grid)) 0) (L .work)) (L .work);
+          }
+      go o e b f = rw (e, f)
+
+  outcome-by : (a b c : Bool) → sizesFit (S .grid .rows) (S .grid .cols) ≡ a → depthFits (S .depth) ≡ b → slicesFit (S .grid) L ≡ c
+      → outcome S L ≡ cond a (cond b (cond c (outcomeOn (S .grid)) (Refused 3 0)) (Refused 2 0)) (Refused 1 0)
+  unfolding outcome
+  outcome-by a b c e f g = go (sizesFit (S .grid .rows) (S .grid .cols)) e (depthFits (S .depth)) f (slicesFit (S .grid) L) g
+    where
+      go : (x : Bool) → x ≡ a → (y : Bool) → y ≡ b → (z : Bool) → z ≡ c
+          → cond x (cond y (cond z (outcomeOn (S .grid)) (Refused 3 0)) (Refused 2 0)) (Refused 1 0)
+          ≡ cond a (cond b (cond c (outcomeOn (S .grid)) (Refused 3 0)) (Refused 2 0)) (Refused 1 0)
+      go x p y q z r = rw (p, q, r)
+
+  fits-by : (a b c : Bool) → sizesFit (S .grid .rows) (S .grid .cols) ≡ a → depthFits (S .depth) ≡ b → slicesFit (S .grid) L ≡ c → fits ≡ both a (both b c)
+  fits-by a b c e f g = rw (e, f, g)
+
+  pub refused-1 : sizesFit (S .grid .rows) (S .grid .cols) ≡ false → (Refused 1 0 ≡ outcome S L) × (L ≡ lentAfter S L)
+  refused-1 e =
+      let o = outcome-by false (depthFits (S .depth)) (slicesFit (S .grid) L) e refl refl in
+      (sym o, lent-kept 1 0 o (fits-by false (depthFits (S .depth)) (slicesFit (S .grid) L) e refl refl))
+
+  pub refused-2 : sizesFit (S .grid .rows) (S .grid .cols) ≡ true → depthFits (S .depth) ≡ false → (Refused 2 0 ≡ outcome S L) × (L ≡ lentAfter S L)
+  refused-2 e f =
+      let o = outcome-by true false (slicesFit (S .grid) L) e f refl in
+      (sym o, lent-kept 2 0 o (fits-by true false (slicesFit (S .grid) L) e f refl))
+
+  pub refused-3 : sizesFit (S .grid .rows) (S .grid .cols) ≡ true → depthFits (S .depth) ≡ true → slicesFit (S .grid) L ≡ false
+      → (Refused 3 0 ≡ outcome S L) × (L ≡ lentAfter S L)
+  refused-3 e f g =
+      let o = outcome-by true true false e f g in
+      (sym o, lent-kept 3 0 o (fits-by true true false e f g))
+
+  module _ (e : sizesFit (S .grid .rows) (S .grid .cols) ≡ true) (f : depthFits (S .depth) ≡ true) (g : slicesFit (S .grid) L ≡ true) where
+    -- enough places are lent
+    long : Long
+    unfolding slicesFit
+    long =
+        let a = leb (cells (S .grid)) (length (S .grid .dirs)) in
+        let b = leb (cells (S .grid)) (length (L .areas)) in
+        let c = leb (cells (S .grid)) (length (L .labels)) in
+        let d = leb (8 * cells (S .grid)) (length (L .work)) in
+        let r = both-right a (both b (both c d)) g in
+        let q = both-right b (both c d) r in
+        record {
+          dirs = leb-true (cells (S .grid)) (length (S .grid .dirs)) (both-left a (both b (both c d)) g);
+          areas = leb-true (cells (S .grid)) (length (L .areas)) (both-left b (both c d) r);
+          labels = leb-true (cells (S .grid)) (length (L .labels)) (both-left c d q);
+          work = leb-true (8 * cells (S .grid)) (length (L .work)) (both-right c d q);
+        }
+
+    pub room : 8 * cells (S .grid) ≤ length (L .work)
+    room = long .work
+
+    -- checks 4 to 7 can begin
+    pub fitting : Fitting S (record { areas = L .areas; labels = L .labels; work = take (8 * cells (S .grid)) (L .work) })
+    fitting =
+        let b = bounded (S .grid .rows) (S .grid .cols) e in
+        record {
+          sized = record {
+            rows-most = b .rows-most;
+            cols-most = b .cols-most;
+            cols-some = b .cols-some;
+            long = long .dirs;
+          };
+          depth-most = depth-most (S .depth) f;
+          areas = long .areas;
+          labels = long .labels;
+          work = length-take-le (8 * cells (S .grid)) (L .work) room;
+        }
+
+    -- after checks 4 to 7
+    pub labelled : {r : Outcome} {areas labels work : List ℕ} → r ≡ outcomeOn (S .grid) → areas ≡ ifAccepted r (areasOf (S .grid)) (L .areas)
+        → labels ≡ ifAccepted r (labelsOf S) (L .labels) → work ≡ replicate (8 * cells (S .grid)) 0 ++ drop (8 * cells (S .grid)) (L .work)
+        → (r ≡ outcome S L) × (record { areas = areas; labels = labels; work = work } ≡ lentAfter S L)
+    unfolding lentAfter
+    labelled {r} {areas} {labels} {work} o a l w =
+        let same : r ≡ outcome S L = o ∙ sym (outcome-by true true true e f g) in
+        (same, go (outcome S L) same fits (fits-by true true true e f g))
+      where
+        go : (x : Outcome) → r ≡ x → (b : Bool) → b ≡ true
+            → _≡_ {A = Lent} (record { areas = areas; labels = labels; work = work }) (record {
+              areas = ifAccepted x (areasOf (S .grid)) (L .areas);
+              labels = ifAccepted x (labelsOf S) (L .labels);
+              work = cond b (written (replicate (8 * cells (S .grid)) 0) (L .work)) (L .work);
+            })
+        go x p b q = rw (q, a, l, w, p, length-replicate {A = ℕ} (8 * cells (S .grid)) 0)

@@ -1,0 +1,23 @@
+-- `slices_fit` meets its contract.
+use borrow.Author.Needs.{needs}
+use borrow.Author.Tests.{le-leb, lt-leb}
+use Rattle.labelling.proofs.slices_fit.Statement.{statement}
+use Rattle.labelling.proofs.slices_fit.Tie as tie
+
+returns : tie.Need-returns
+returns c = simp (lt-leb _ _ (c .if1 .taken))
+
+returns-2 : tie.Need-returns-2
+returns-2 c = simp (le-leb _ _ (c .before .if1 .left), lt-leb _ _ (c .if2 .taken))
+
+returns-3 : tie.Need-returns-3
+returns-3 c = simp (le-leb _ _ (c .before .before .if1 .left), le-leb _ _ (c .before .if2 .left), lt-leb _ _ (c .if3 .taken))
+
+mul-result : tie.Need-mul-result
+mul-result c = search needs
+
+returns-4 : tie.Need-returns-4
+returns-4 c = simp (le-leb _ _ (c .before .before .if1 .left), le-leb _ _ (c .before .if2 .left), le-leb _ _ (c .if3 .left))
+
+pub slices-fit-spec : {M : Type 1} → statement M
+slices-fit-spec = tie.close (tie.spec returns returns-2 returns-3 mul-result returns-4)

@@ -1,0 +1,43 @@
+use borrow.Author.Needs.{needs}
+use Rattle.labelling.proofs.write_if_accepted.Statement.{statement}
+use Rattle.labelling.proofs.write_if_accepted.Tie as tie
+use Rattle.labelling.proofs.write_if_accepted.Reads as reads
+use Rattle.labelling.proofs.write_if_accepted.Lts as lts
+use Rattle.labelling.proofs.write_labels.Reads as write-labels-reads
+
+enum-told : tie.Need-enum-told
+enum-told c = search needs
+
+write-labels-requires : tie.Need-write-labels-requires
+write-labels-requires c κs = (c .before .before .before .before .before .before .before .before .before .pre .0, c .before .before .before .before .before .before .before .before .before .pre .1 (c .before .before .before .enum-told .given .1))
+
+enum-told-2 : tie.Need-enum-told-2
+enum-told-2 c = search needs
+
+same-length : tie.Need-same-length
+same-length c = search needs
+
+same-length-2 : tie.Need-same-length-2
+same-length-2 c = search needs
+
+same-length-3 : tie.Need-same-length-3
+same-length-3 c = search needs
+
+returns : tie.Need-returns
+returns c = rw (c .before .before .before .before .before .before .before .before .before .before .enum-told .given .1) (c .before .before .before .before .before .before .write-labels .ensures)
+
+returns-2 : tie.Need-returns-2
+returns-2 c = search needs
+
+pub write-if-accepted-spec : {M : Type 1} → statement M
+write-if-accepted-spec =
+    tie.close
+    (tie.spec
+    enum-told
+    write-labels-requires
+    enum-told-2
+    same-length
+    same-length-2
+    same-length-3
+    returns
+    returns-2)

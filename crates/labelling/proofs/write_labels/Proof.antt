@@ -1,0 +1,134 @@
+-- `write_labels` meets its contract: each step hands the next what it asks.
+use Prim.Native.Nat.{_*_}
+use mathlib.Core.Path.{_≡_, sym, _∙_}
+use native.Mathlib.Omega.{arith}
+use borrow.Author.Needs.{needs}
+use Rattle.sheet.specs.Sheet.{grid}
+use Rattle.sheet.proofs.Cells.{cells-most}
+use Rattle.labelling.specs.Labelling.{sheet}
+use Rattle.labelling.proofs.Steps.{queued-most, surveyed, part-is, network-of, places, some-cell, labels-written}
+use Rattle.labelling.proofs.write_labels.Statement.{statement}
+use Rattle.labelling.proofs.write_labels.Tie as tie
+use Rattle.labelling.proofs.write_labels.Reads as reads
+use Rattle.labelling.proofs.write_labels.Lts as lts
+use Rattle.drainage.proofs.measure.measure.Reads as measure-reads
+use Rattle.labelling.proofs.clear_labels.Reads as clear-labels-reads
+use Rattle.order.proofs.positions.arrange.Reads as arrange-reads
+use Rattle.rivers.proofs.units.label_basin.Reads as label-basin-reads
+
+measure-requires : tie.Need-measure-requires
+measure-requires c κs = search needs
+
+arrange-requires : tie.Need-arrange-requires
+arrange-requires c κs =
+    let p = c .before .before .before .before .before .before .before .before .before .before .before .before .before .pre in
+    surveyed (p .0) (p .1) (c .before .before .before .before .before .before .measure .ensures .0) (c .before .before .before .before .before .before .measure .ensures .1) (c .before .before .before .before .before .before .measure .kept .1 .1 .1 .0)
+
+mul-n : tie.Need-mul-n
+mul-n c = search needs
+
+clear-labels-requires : tie.Need-clear-labels-requires
+clear-labels-requires c κs = search needs
+
+mul-cells : tie.Need-mul-cells
+mul-cells c = search needs
+
+add-cells-end : tie.Need-add-cells-end
+add-cells-end c = let p = c .before .before .before .before .before .before .before .before .before .before .before .before .before .before .before .before .before .before .before .before .pre in omega (arith, queued-most (p .1 .drained), cells-most (p .0 .sized .rows-most) (p .0 .sized .cols-most))
+
+mul-sizes : tie.Need-mul-sizes
+mul-sizes c = search needs
+
+add-sizes-end : tie.Need-add-sizes-end
+add-sizes-end c = let p = c .before .before .before .before .before .before .before .before .before .before .before .before .before .before .before .before .before .before .before .before .pre in omega (arith, queued-most (p .1 .drained), cells-most (p .0 .sized .rows-most) (p .0 .sized .cols-most))
+
+mul-label-basin : tie.Need-mul-label-basin
+mul-label-basin c = search needs
+
+sub-label-basin : tie.Need-sub-label-basin
+sub-label-basin c = search needs
+
+part-label-basin-start : tie.Need-part-label-basin-start
+part-label-basin-start c = search needs
+
+part-label-basin-end : tie.Need-part-label-basin-end
+part-label-basin-end c =
+    let p = c .before .before .before .before .before .before .before .before .before .before .before .before .before .before .before .before .before .before .before .before .before .pre in
+    omega (arith, queued-most (p .1 .drained), p .0 .work, c .before .before .before .before .before .before .before .before .before .before .before .before .before .before .measure .kept .1 .1 .1 .0, c .before .before .before .before .before .before .before .arrange .kept .1 .1 .1 .1 .1 .0)
+
+mul-label-basin-2 : tie.Need-mul-label-basin-2
+mul-label-basin-2 c = let p = c .before .before .before .before .before .before .before .before .before .before .before .before .before .before .before .before .before .before .before .before .before .before .pre in omega (arith, cells-most (p .0 .sized .rows-most) (p .0 .sized .cols-most))
+
+sub-label-basin-2 : tie.Need-sub-label-basin-2
+sub-label-basin-2 c = search needs
+
+part-label-basin-start-2 : tie.Need-part-label-basin-start-2
+part-label-basin-start-2 c = search needs
+
+part-label-basin-end-2 : tie.Need-part-label-basin-end-2
+part-label-basin-end-2 c =
+    let p = c .before .before .before .before .before .before .before .before .before .before .before .before .before .before .before .before .before .before .before .before .before .before .pre in
+    omega (arith, queued-most (p .1 .drained), p .0 .work, c .before .before .before .before .before .before .before .before .before .before .before .before .before .before .before .measure .kept .1 .1 .1 .0, c .before .before .before .before .before .before .before .before .arrange .kept .1 .1 .1 .1 .1 .0)
+
+label-basin-requires : tie.Need-label-basin-requires
+label-basin-requires c κs =
+    let p = c .before .before .before .before .before .before .before .before .before .before .before .before .before .before .before .before .before .before .before .before .before .before .before .before .before .pre in
+    let a = c .before .before .before .before .before .before .before .before .before .before .before .before .before .before .before .before .before .before .before .before .before .before .before .before .before .args in
+    let n = a .rows * a .cols in
+    let G = grid (a .rows) (a .cols) (a .dirs .now) in
+    let r = c .before .before .before .before .before .before .before .before .before .before .before .arrange .ensures in
+    rw (part-is (5 * n) (a .queued), part-is (6 * n) (a .queued)) (
+      p .0 .depth-most,
+      (
+        some-cell G (p .1 .accepted) r,
+        (
+          network-of G (p .1 .accepted) r,
+          places G (p .1 .accepted) r _ _
+              (omega (arith, p .0 .areas, c .before .before .before .before .before .before .before .before .before .before .before .before .before .before .before .before .before .before .measure .kept .1 .1 .1 .1 .1 .0)) (omega (arith, p .0 .labels, c .before .before .before .before .before .before .before .clear-labels .kept .0)),
+        ),
+      ),
+    )
+
+same-length : tie.Need-same-length
+same-length c = search needs
+
+same-length-2 : tie.Need-same-length-2
+same-length-2 c = search needs
+
+same-length-3 : tie.Need-same-length-3
+same-length-3 c = search needs
+
+returns : tie.Need-returns
+returns c =
+    let p = c .before .before .before .before .before .before .before .before .before .before .before .before .before .before .before .before .before .before .before .before .before .before .before .before .before .before .before .before .pre in
+    let a = c .before .before .before .before .before .before .before .before .before .before .before .before .before .before .before .before .before .before .before .before .before .before .before .before .before .before .before .before .args in
+    let n = a .rows * a .cols in
+    let r = c .before .before .before .before .before .before .before .before .before .before .before .before .before .before .arrange .ensures in
+    let e = rw (part-is (5 * n) (a .queued), part-is (6 * n) (a .queued)) at (c .before .before .label-basin .ensures) in
+    (c .before .before .before .before .before .before .before .before .before .before .before .before .before .before .before .before .before .before .before .before .before .measure .ensures .1, labels-written (sheet (a .rows) (a .cols) (a .depth) (a .dirs .now)) (a .labels .now) (p .1 .accepted) r (p .0 .labels) (c .before .before .before .before .before .before .before .before .before .before .clear-labels .ensures) e)
+
+pub write-labels-spec : {M : Type 1} → statement M
+write-labels-spec =
+    tie.close
+    (tie.spec
+    measure-requires
+    arrange-requires
+    mul-n
+    clear-labels-requires
+    mul-cells
+    add-cells-end
+    mul-sizes
+    add-sizes-end
+    mul-label-basin
+    sub-label-basin
+    part-label-basin-start
+    part-label-basin-end
+    mul-label-basin-2
+    sub-label-basin-2
+    part-label-basin-start-2
+    part-label-basin-end-2
+    label-basin-requires
+    same-length
+    same-length-2
+    same-length-3
+    returns)

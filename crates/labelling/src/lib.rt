@@ -1,0 +1,165 @@
+// Labelling of a sheet by a direct call: the areas and labels of its cells, in lent slices.
+pub mod from_intake;
+
+use drainage::Inspection;
+use sheet::Outcome;
+ghost use mathlib.Core.Path.{_≡_};
+ghost use Prim.Native.Nat.{_*_, _≤_};
+ghost use lib.Dec.{leb};
+ghost use lib.ListN.{length, replicate};
+ghost use Rattle.sheet.specs.Sheet.{grid, cells};
+ghost use Rattle.sheet.specs.Label.{areasOf, labelsOf};
+ghost use Rattle.sheet.specs.Refusal.{written, ifAccepted, both, outcomeOn, outcome, lentAfter};
+ghost use Rattle.labelling.specs.Labelling.{sheet, lent, Fitting, Inspected};
+
+// How many mouths of a unit are taken, and the least area of a mouth that counts.
+const SPLIT: usize = 4;
+
+const LEAST_AREA: u32 = 1;
+
+// Sets the first n places to 0.
+fn clear_places(places: &mut [u32], n: usize)
+    requires { ⌜ n ≤ length (now places) ⌝ }
+    ensures { λ _. ⌜ now (places .exit) ≡ written (replicate n 0) (now (places .entry)) ⌝ }
+{
+    for i in 0..n {
+        places[i] = 0;
+    }
+}
+
+fn clear_labels(labels: &mut [u64], n: usize)
+    requires { ⌜ n ≤ length (now labels) ⌝ }
+    ensures { λ _. ⌜ now (labels .exit) ≡ written (replicate n 0) (now (labels .entry)) ⌝ }
+{
+    for i in 0..n {
+        labels[i] = 0;
+    }
+}
+
+// Writes the areas and labels of an accepted sheet.
+fn write_labels(
+    rows: usize,
+    cols: usize,
+    depth: usize,
+    dirs: &[u8],
+    queued: usize,
+    areas: &mut [u32],
+    labels: &mut [u64],
+    work: &mut [u32],
+)
+    requires { ⌜ Fitting (sheet rows cols depth (now dirs)) (lent (now areas) (now labels) (now work)) ⌝ }
+    requires { ⌜ Inspected (grid rows cols (now dirs)) (now work) queued ⌝ }
+    ensures areas { λ _. ⌜ now (areas .exit) ≡ written (areasOf (grid rows cols (now (dirs .entry)))) (now (areas .entry)) ⌝ }
+    ensures labels { λ _. ⌜ now (labels .exit) ≡ written (labelsOf (sheet rows cols depth (now (dirs .entry)))) (now (labels .entry)) ⌝ }
+{
+    drainage::measure::measure(dirs, rows, cols, work, queued, areas);
+    order::positions::arrange(dirs, rows, cols, areas, queued, work);
+    let n = rows * cols;
+    clear_labels(labels, n);
+    let cells = 5 * n;
+    let cells_end = cells + queued;
+    let sizes = 6 * n;
+    let sizes_end = sizes + queued;
+    rivers::units::label_basin(
+        depth,
+        SPLIT,
+        LEAST_AREA,
+        &work[cells..cells_end],
+        &work[sizes..sizes_end],
+        areas,
+        labels,
+    );
+}
+
+// Writes areas and labels, if the sheet is accepted.
+fn write_if_accepted(
+    found: Inspection,
+    rows: usize,
+    cols: usize,
+    depth: usize,
+    dirs: &[u8],
+    areas: &mut [u32],
+    labels: &mut [u64],
+    work: &mut [u32],
+)
+    requires { ⌜ Fitting (sheet rows cols depth (now dirs)) (lent (now areas) (now labels) (now work)) ⌝ }
+    requires { ⌜ (found .outcome ≡ Outcome.Accepted → Inspected (grid rows cols (now dirs)) (now work) (found .queued)) ⌝ }
+    ensures areas { λ _. ⌜ now (areas .exit) ≡ ifAccepted (found .outcome) (areasOf (grid rows cols (now (dirs .entry)))) (now (areas .entry)) ⌝ }
+    ensures labels { λ _. ⌜ now (labels .exit) ≡ ifAccepted (found .outcome) (labelsOf (sheet rows cols depth (now (dirs .entry)))) (now (labels .entry)) ⌝ }
+{
+    let outcome = found.outcome;
+    let queued = found.queued;
+    match outcome {
+        Outcome::Accepted => write_labels(rows, cols, depth, dirs, queued, areas, labels, work),
+        Outcome::Refused(_, _) => {}
+    }
+}
+
+// Labels a sheet that passed checks 1 to 3. The work places are 0 afterwards.
+fn label_fitting(
+    rows: usize,
+    cols: usize,
+    depth: usize,
+    dirs: &[u8],
+    areas: &mut [u32],
+    labels: &mut [u64],
+    work: &mut [u32],
+) -> Outcome
+    requires { ⌜ Fitting (sheet rows cols depth (now dirs)) (lent (now areas) (now labels) (now work)) ⌝ }
+    ensures outcome { λ r. ⌜ r ≡ outcomeOn (grid rows cols (now (dirs .entry))) ⌝ }
+    ensures areas { λ r. ⌜ now (areas .exit) ≡ ifAccepted r (areasOf (grid rows cols (now (dirs .entry)))) (now (areas .entry)) ⌝ }
+    ensures labels { λ r. ⌜ now (labels .exit) ≡ ifAccepted r (labelsOf (sheet rows cols depth (now (dirs .entry)))) (now (labels .entry)) ⌝ }
+    ensures work { λ _. ⌜ now (work .exit) ≡ replicate (8 * (rows * cols)) 0 ⌝ }
+{
+    let places = 8 * (rows * cols);
+    clear_places(work, places);
+    let found = drainage::inspect::inspect(dirs, rows, cols, work);
+    write_if_accepted(found, rows, cols, depth, dirs, areas, labels, work);
+    clear_places(work, places);
+    found.outcome
+}
+
+// Enough places are lent for n cells.
+fn slices_fit(n: usize, dirs: usize, areas: usize, labels: usize, work: usize) -> bool
+    requires { ⌜ n ≤ 65536 ⌝ }
+    ensures { λ r. ⌜ r ≡ both (leb n dirs) (both (leb n areas) (both (leb n labels) (leb (8 * n) work))) ⌝ }
+{
+    if dirs < n {
+        return false;
+    }
+    if areas < n {
+        return false;
+    }
+    if labels < n {
+        return false;
+    }
+    8 * n <= work
+}
+
+// Labels a sheet: refusals 1 to 7 in order, with document 01's number and place; accepted, the first rows × cols areas and labels
+// are written.
+pub fn label(
+    rows: usize,
+    cols: usize,
+    depth: usize,
+    dirs: &[u8],
+    areas: &mut [u32],
+    labels: &mut [u64],
+    work: &mut [u32],
+) -> Outcome
+    ensures outcome { λ r. ⌜ r ≡ outcome (sheet rows cols depth (now (dirs .entry))) (lent (now (areas .entry)) (now (labels .entry)) (now (work .entry))) ⌝ }
+    ensures lent { λ _. ⌜ lent (now (areas .exit)) (now (labels .exit)) (now (work .exit)) ≡ lentAfter (sheet rows cols depth (now (dirs .entry))) (lent (now (areas .entry)) (now (labels .entry)) (now (work .entry))) ⌝ }
+{
+    if sheet::sizes_fit(rows, cols) {
+        if sheet::depth_fits(depth) {
+            let n = rows * cols;
+            if slices_fit(n, dirs.len(), areas.len(), labels.len(), work.len()) {
+                let places = 8 * n;
+                return label_fitting(rows, cols, depth, dirs, areas, labels, &mut work[..places]);
+            }
+            return Outcome::Refused(3, 0);
+        }
+        return Outcome::Refused(2, 0);
+    }
+    Outcome::Refused(1, 0)
+}

@@ -1,0 +1,97 @@
+-- When a text is refused, and when it is written.
+use mathlib.Core.Path.{_≡_, refl, sym, _∙_}
+use mathlib.Core.Bool.{Bool, true, false, true≢false}
+use mathlib.Core.List.{List}
+use Prim.Native.Nat.{ℕ, _*_, _^_, _<_, _≤_}
+use native.Mathlib.Omega.{arith}
+use borrow.Author.Tests.{leb-true, le-leb, lt-leb}
+use lib.Dec.{leb}
+use lib.ListN.{length, take, drop}
+use lib.Seq.{take-append-seam, drop-append-seam}
+use Rattle.sheet.specs.Sheet.{grid}
+use Rattle.sheet.proofs.Cells.{cells-most}
+use Rattle.sheet.specs.Refusal.{both, within, sizesFit}
+use Rattle.listing.specs.Listing.{listingText, refusalText}
+use Rattle.listing.specs.Writing.{refused, accepted, placesFit, textInto, listingInto, refusalInto}
+use Rattle.listing.specs.Steps.{Listable}
+use Rattle.listing.proofs.Lengths.{refusal-most}
+
+-- a text that fits is accepted
+pub text-into : (text buffer : List ℕ) → length text ≤ length buffer → textInto text buffer ≡ accepted text buffer
+unfolding textInto
+text-into text buffer room = rw (le-leb (length text) (length buffer) room)
+
+both-true : (a b : Bool) → both a b ≡ true → (a ≡ true) × (b ≡ true)
+both-true true b e = (refl, e)
+both-true false b e = absurd (true≢false (sym e))
+
+within-most : (most x : ℕ) → within most x ≡ true → (1 ≤ x) × (x ≤ most)
+unfolding within
+within-most most x e = let w = both-true (leb 1 x) (leb x most) e in (leb-true 1 x (w .0), leb-true x most (w .1))
+
+pub rows-cols-most : (rows cols : ℕ) → sizesFit rows cols ≡ true → (rows ≤ 256) × (cols ≤ 256)
+unfolding sizesFit
+rows-cols-most rows cols e =
+    let w = both-true (within 256 rows) (within 256 cols) e in
+    (within-most 256 rows (w .0) .1, within-most 256 cols (w .1) .1)
+
+pub cols-some : (rows cols : ℕ) → sizesFit rows cols ≡ true → 0 < cols
+unfolding sizesFit
+cols-some rows cols e = within-most 256 cols (both-true (within 256 rows) (within 256 cols) e .1) .0
+
+module _ (rows cols : ℕ) (dirs areas labels buffer : List ℕ) where
+  pub refused-sizes : sizesFit rows cols ≡ false → refused 1 buffer ≡ listingInto (grid rows cols dirs) areas labels buffer
+  unfolding listingInto
+  refused-sizes e = rw e
+
+  module _ (sizes : sizesFit rows cols ≡ true) where
+    refused-places : placesFit (grid rows cols dirs) areas labels ≡ false → refused 3 buffer ≡ listingInto (grid rows cols dirs) areas labels buffer
+    unfolding listingInto
+    refused-places e = rw (sizes, e)
+
+    pub refused-dirs : length dirs < rows * cols → refused 3 buffer ≡ listingInto (grid rows cols dirs) areas labels buffer
+    unfolding placesFit
+    refused-dirs d = refused-places (rw (lt-leb _ _ d))
+
+    pub refused-areas : rows * cols ≤ length dirs → length areas < rows * cols → refused 3 buffer ≡ listingInto (grid rows cols dirs) areas labels buffer
+    unfolding placesFit
+    refused-areas d a = refused-places (rw (le-leb _ _ d, lt-leb _ _ a))
+
+    pub refused-labels : rows * cols ≤ length dirs → rows * cols ≤ length areas → length labels < rows * cols → refused 3 buffer ≡ listingInto (grid rows cols dirs) areas labels buffer
+    unfolding placesFit
+    refused-labels d a l = refused-places (rw (le-leb _ _ d, le-leb _ _ a, lt-leb _ _ l))
+
+    module _ (d : rows * cols ≤ length dirs) (a : rows * cols ≤ length areas) (l : rows * cols ≤ length labels) where
+      pub listable : Listable rows cols dirs areas labels
+      listable = let most = rows-cols-most rows cols sizes in record {
+        rows-most = most .0;
+        cols-most = most .1;
+        cols-some = cols-some rows cols sizes;
+        dirs-long = d;
+        areas-long = a;
+        labels-long = l;
+      }
+
+      -- all checks but that of the buffer are passed
+      pub listing-into : listingInto (grid rows cols dirs) areas labels buffer ≡ textInto (listingText (grid rows cols dirs) areas labels) buffer
+      unfolding listingInto placesFit
+      listing-into = rw (sizes, le-leb _ _ d, le-leb _ _ a, le-leb _ _ l)
+
+      pub listing-accepted : length (listingText (grid rows cols dirs) areas labels) ≤ length buffer → listingInto (grid rows cols dirs) areas labels buffer ≡ accepted (listingText (grid rows cols dirs) areas labels) buffer
+      listing-accepted room = listing-into ∙ text-into (listingText (grid rows cols dirs) areas labels) buffer room
+
+-- 39 bytes are enough for any refusal
+pub refusal-accepted : (number place : ℕ) (buffer : List ℕ) → number < 256 → place < 2 ^ 64 → 39 ≤ length buffer → refusalInto number place buffer ≡ accepted (refusalText number place) buffer
+unfolding refusalInto
+refusal-accepted number place buffer h g room = text-into (refusalText number place) buffer (omega (arith, refusal-most number place h g))
+
+-- the number of a cell on the sheet is small
+pub cell-small : {rows cols : ℕ} {dirs areas labels : List ℕ} {cell : ℕ} → Listable rows cols dirs areas labels → cell < rows * cols → cell < 65536
+cell-small s l = omega (arith, cells-most (s .rows-most) (s .cols-most))
+
+-- the text at the start of the buffer, and the bytes after it
+pub accepted-text : (text buffer : List ℕ) → take (length text) (accepted text buffer .buffer) ≡ text
+accepted-text text buffer = take-append-seam text (drop (length text) buffer)
+
+pub accepted-rest : (text buffer : List ℕ) → drop (length text) (accepted text buffer .buffer) ≡ drop (length text) buffer
+accepted-rest text buffer = drop-append-seam text (drop (length text) buffer)

@@ -1,0 +1,83 @@
+-- The definitions tried by computation.
+use mathlib.Core.Path.{_≡_, refl}
+use mathlib.Core.List.{List, [], _∷_, _++_}
+use Prim.Native.Nat.{ℕ}
+use Prim.Native.String.{String}
+use lib.ListN.{replicate}
+use Rattle.decimal.specs.Ascii.{ascii}
+use Rattle.sheet.specs.Sheet.{grid}
+use Rattle.sheet.specs.Label.{areasOf, labelsOf}
+use Rattle.sheet.specs.Cases.{sampleA}
+use Rattle.listing.specs.declared.Listing.the-variants.{Bytes, Refused}
+use Rattle.listing.specs.Listing.{lineFeed, listingText, refusalText}
+use Rattle.listing.specs.Writing.{listingNumber, listingBytes, listingInto, refusalInto}
+
+-- the bytes of lines, each ended by a line feed
+abbrev lines : List String → List ℕ
+lines [] = []
+lines (s ∷ ss) = ascii s ++ (lineFeed ∷ lines ss)
+
+-- what document 01 prints for sample A
+abbrev sampleLines : List ℕ
+sampleLines =
+    lines
+    ("row,col,area,label"
+    ∷ "0,1,2,8"
+    ∷ "0,2,1,8"
+    ∷ "0,3,1,92"
+    ∷ "1,0,11,1"
+    ∷ "1,1,9,3"
+    ∷ "1,2,4,91"
+    ∷ "1,3,2,93"
+    ∷ "2,0,1,2"
+    ∷ "2,1,1,4"
+    ∷ "2,2,1,6"
+    ∷ "2,3,1,93"
+    ∷ [])
+
+pub sample-listing : listingText sampleA (0 ∷ 2 ∷ 1 ∷ 1 ∷ 11 ∷ 9 ∷ 4 ∷ 2 ∷ 1 ∷ 1 ∷ 1 ∷ 1 ∷ []) (0 ∷ 8 ∷ 8 ∷ 92 ∷ 1 ∷ 3 ∷ 91 ∷ 93 ∷ 2 ∷ 4 ∷ 6 ∷ 93 ∷ []) ≡ sampleLines
+unfolding listingText
+sample-listing = refl
+
+-- from its areas and its labels at depth 2 as they are defined
+pub sample-defined : listingText sampleA (areasOf sampleA) (labelsOf (record { grid = sampleA; depth = 2 })) ≡ sampleLines
+unfolding listingText areasOf labelsOf
+sample-defined = refl
+
+-- refusal 7 at place 1
+pub refusal-lines : refusalText 7 1 ≡ lines ("refused,place" ∷ "7,1" ∷ [])
+unfolding refusalText
+refusal-lines = refl
+
+-- 1 by 1 with area 1 and label 0, in buffers of dots
+abbrev oneCell : List ℕ
+oneCell = lines ("row,col,area,label" ∷ "0,0,1,0" ∷ [])
+
+pub room-to-spare : listingInto (grid 1 1 (1 ∷ [])) (1 ∷ []) (0 ∷ []) (replicate 29 46) ≡ record { answer = Bytes 27; buffer = oneCell ++ (46 ∷ 46 ∷ []) }
+unfolding listingInto
+room-to-spare = refl
+
+pub just-room : listingInto (grid 1 1 (1 ∷ [])) (1 ∷ []) (0 ∷ []) (replicate 27 46) ≡ record { answer = Bytes 27; buffer = oneCell }
+unfolding listingInto
+just-room = refl
+
+pub one-byte-short : listingInto (grid 1 1 (1 ∷ [])) (1 ∷ []) (0 ∷ []) (replicate 26 46) ≡ record { answer = Refused 3; buffer = replicate 26 46 }
+unfolding listingInto
+one-byte-short = refl
+
+-- 257 rows give 1, though nothing is lent; a missing label gives 3
+pub many-rows : listingNumber (listingInto (grid 257 1 []) [] [] [] .answer) ≡ 1
+unfolding listingInto
+many-rows = refl
+
+pub no-label : listingNumber (listingInto (grid 1 1 (1 ∷ [])) (1 ∷ []) [] (replicate 27 46) .answer) ≡ 3
+unfolding listingInto
+no-label = refl
+
+pub refusal-in-buffer : refusalInto 14 1 (replicate 20 46) ≡ record { answer = Bytes 19; buffer = lines ("refused,place" ∷ "14,1" ∷ []) ++ (46 ∷ []) }
+unfolding refusalInto
+refusal-in-buffer = refl
+
+pub longest-refusal : listingBytes (refusalInto 255 18446744073709551615 (replicate 39 46) .answer) ≡ 39
+unfolding refusalInto
+longest-refusal = refl

@@ -1,0 +1,4 @@
+pub mod Cases
+pub mod Lengths
+pub mod Putting
+pub mod Answers

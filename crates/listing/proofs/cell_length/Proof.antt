@@ -1,0 +1,57 @@
+-- `cell_length` meets its contract: the digits of the four values, and the four bytes after them.
+use Prim.Native.Nat.{_+_, _≤_}
+use native.Mathlib.Omega.{arith}
+use Rattle.decimal.proofs.TextLaws.{text-64-bit, text-32-bit}
+use Rattle.listing.proofs.Lengths.{cell-length}
+use borrow.Author.Needs.{needs}
+use Rattle.listing.proofs.cell_length.Statement.{statement}
+use Rattle.listing.proofs.cell_length.Tie as tie
+
+digit-count-requires : tie.Need-digit-count-requires
+digit-count-requires c κs = search needs
+
+digit-count-requires-2 : tie.Need-digit-count-requires-2
+digit-count-requires-2 c κs = search needs
+
+digit-count-requires-3 : tie.Need-digit-count-requires-3
+digit-count-requires-3 c κs = search needs
+
+digit-count-requires-4 : tie.Need-digit-count-requires-4
+digit-count-requires-4 c κs = search needs
+
+-- all the digits of a line are at most 80
+few : (c : tie.After-digit-count4) → c .before .before .before .digit-count .result + c .before .before .digit-count2 .result + c .before .digit-count3 .result + c .digit-count4 .result ≤ 80
+few c =
+    let s = c .before .before .before .before in
+    omega (arith, text-64-bit (s .args .row) (s .fits .row .fits), text-64-bit (s .args .col) (s .fits .col .fits), text-32-bit (s .args .area) (s .fits .area .fits), text-64-bit (s .args .label) (s .fits .label .fits))
+
+add-result : tie.Need-add-result
+add-result c = omega (arith, few c)
+
+add-result-2 : tie.Need-add-result-2
+add-result-2 c = omega (arith, few c)
+
+add-result-3 : tie.Need-add-result-3
+add-result-3 c = omega (arith, few c)
+
+add-result-4 : tie.Need-add-result-4
+add-result-4 c = omega (arith, few c)
+
+returns : tie.Need-returns
+returns c =
+    let a = c .before .before .before .before .args in
+    omega (arith, cell-length (a .row) (a .col) (a .area) (a .label))
+
+pub cell-length-spec : {M : Type 1} → statement M
+cell-length-spec =
+    tie.close
+    (tie.spec
+    digit-count-requires
+    digit-count-requires-2
+    digit-count-requires-3
+    digit-count-requires-4
+    add-result
+    add-result-2
+    add-result-3
+    add-result-4
+    returns)

@@ -1,0 +1,121 @@
+-- The invariant: the lines of the cells before this one stand in the buffer from the position on.
+use Prim.Native.Nat.{ℕ, _+_, _-_, _*_, _≤_}
+use mathlib.Core.Path.{_≡_}
+use mathlib.Core.List.{List}
+use native.Mathlib.Omega.{arith}
+use borrow.Author.Needs.{needs}
+use lib.ListN.{length}
+use Rattle.sheet.specs.Sheet.{grid}
+use Rattle.sheet.proofs.Cells.{cells-most}
+use Rattle.listing.specs.Listing.{linesBelow}
+use Rattle.listing.specs.Steps.{Put}
+use Rattle.listing.proofs.Lengths.{lines-grow}
+use Rattle.listing.proofs.Putting.{put-nothing, put-length, put-outside, line-room, put-inside}
+use Rattle.listing.proofs.Answers.{cell-small}
+use Rattle.listing.proofs.put_lines.Statement.{statement}
+use Rattle.listing.proofs.put_lines.Tie as tie
+
+abbrev Inv-loop : tie.InvT-loop
+Inv-loop rows cols dirs areas labels out₀ at n next₀ cell₀ out next cell = (cell ≤ n) × Put out₀ out at next (linesBelow (grid rows cols dirs) areas labels cell)
+
+abbrev μ-loop : tie.MeasureT-loop
+μ-loop rows cols dirs areas labels out₀ at n next₀ cell₀ out next cell = n - cell
+
+-- the lines of the first cells that are lent
+abbrev lines : tie.Start Inv-loop μ-loop → ℕ → List ℕ
+lines s = let a = s .args in linesBelow (grid (a .rows) (a .cols) (a .dirs .now)) (a .areas .now) (a .labels .now)
+
+mul-n : tie.Need-mul-n Inv-loop μ-loop
+mul-n c = let p = c .before .before .before .before .pre .0 in omega (arith, cells-most (p .rows-most) (p .cols-most))
+
+-- the lines of the cells up to any one have room
+room : (c : tie.At-loop Inv-loop μ-loop) (k : ℕ) → let s = c .before .before .before .before .before in k ≤ s .args .rows * s .args .cols → s .args .at + length (lines s k) ≤ length (s .args .out .now)
+room c k h =
+    let s = c .before .before .before .before .before in
+    let a = s .args in
+    omega (arith, lines-grow (grid (a .rows) (a .cols) (a .dirs .now)) (a .areas .now) (a .labels .now) k (a .rows * a .cols) h, s .pre .1)
+
+loop-holds : tie.Need-loop-holds Inv-loop μ-loop
+unfolding linesBelow
+loop-holds c = (omega arith, put-nothing _ _)
+
+shared-slice-read-code : tie.Need-shared-slice-read-code Inv-loop μ-loop
+shared-slice-read-code c = omega arith
+
+add-cell : tie.Need-add-cell Inv-loop μ-loop
+add-cell c = search needs
+
+loop-less : tie.Need-loop-less Inv-loop μ-loop
+loop-less c = search needs
+
+loop-again : tie.Need-loop-again Inv-loop μ-loop
+loop-again c = let l = c .before .before .before .loop in (omega arith, put-outside _ _ _ (l .cell) (c .if1 .taken) (l .inv .1))
+
+div-put-cell : tie.Need-div-put-cell Inv-loop μ-loop
+div-put-cell c = omega arith
+
+rem-put-cell : tie.Need-rem-put-cell Inv-loop μ-loop
+rem-put-cell c = omega arith
+
+mul-put-cell : tie.Need-mul-put-cell Inv-loop μ-loop
+mul-put-cell c = omega (arith, cell-small (c .before .before .before .before .before .before .before .before .pre .0) (c .before .before .loop-test .taken))
+
+shared-slice-read-put-cell : tie.Need-shared-slice-read-put-cell Inv-loop μ-loop
+shared-slice-read-put-cell c = omega arith
+
+mul-put-cell-2 : tie.Need-mul-put-cell-2 Inv-loop μ-loop
+mul-put-cell-2 c = omega (arith, cell-small (c .before .before .before .before .before .before .before .before .before .pre .0) (c .before .before .before .loop-test .taken))
+
+shared-slice-read-put-cell-2 : tie.Need-shared-slice-read-put-cell-2 Inv-loop μ-loop
+shared-slice-read-put-cell-2 c = omega arith
+
+put-cell-requires : tie.Need-put-cell-requires Inv-loop μ-loop
+put-cell-requires c κs =
+    let l = c .before .before .before .before .before .before in
+    line-room _ _ _ (l .loop .cell) (omega arith) (c .before .before .before .if1 .left) (room l (l .loop .cell + 1) (omega arith)) (l .loop .inv .1)
+
+add-cell-2 : tie.Need-add-cell-2 Inv-loop μ-loop
+add-cell-2 c = search needs
+
+loop-less-2 : tie.Need-loop-less-2 Inv-loop μ-loop
+loop-less-2 c = search needs
+
+loop-again-2 : tie.Need-loop-again-2 Inv-loop μ-loop
+loop-again-2 c =
+    let l = c .before .before .before .before .before .before .before .before .before in
+    let on = c .before .before .before .before .before .before .before .before .loop-test .taken in
+    (omega arith, put-inside _ _ _ (l .loop .cell) on (c .before .before .before .before .before .before .if1 .left) (room l (l .loop .cell + 1) (omega arith)) (l .loop .inv .1) (c .before .before .put-cell .ensures))
+
+same-length : tie.Need-same-length Inv-loop μ-loop
+same-length c = put-length (c .before .loop .inv .1) (room (c .before) (c .before .loop .cell) (c .before .loop .inv .0))
+
+returns : tie.Need-returns Inv-loop μ-loop
+returns c =
+    let a = c .before .before .before .before .before .before .args in
+    let e : c .before .loop .cell ≡ a .rows * a .cols = omega arith in
+    rw e at (c .before .loop .inv .1)
+
+pub put-lines-spec : {M : Type 1} → statement M
+put-lines-spec =
+    tie.close
+    (tie.spec
+    Inv-loop
+    μ-loop
+    mul-n
+    loop-holds
+    shared-slice-read-code
+    add-cell
+    loop-less
+    loop-again
+    div-put-cell
+    rem-put-cell
+    mul-put-cell
+    shared-slice-read-put-cell
+    mul-put-cell-2
+    shared-slice-read-put-cell-2
+    put-cell-requires
+    add-cell-2
+    loop-less-2
+    loop-again-2
+    same-length
+    returns)

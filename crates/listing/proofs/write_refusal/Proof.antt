@@ -1,0 +1,97 @@
+-- `write_refusal` meets its contract: the heading and the two values stand one after the other.
+use Prim.Native.Nat.{ℕ, _+_, _<_, _≤_}
+use mathlib.Core.Path.{_≡_}
+use mathlib.Core.List.{List, _++_}
+use native.Mathlib.Omega.{arith}
+use borrow.Author.Needs.{needs}
+use lib.ListN.{length, length-append}
+use Rattle.listing.specs.Listing.{comma, lineFeed, field, refusalHeading, refusalText}
+use Rattle.listing.specs.Writing.{refusalInto}
+use Rattle.listing.specs.Steps.{Put}
+use Rattle.listing.proofs.Lengths.{refusal-length, refusal-most}
+use Rattle.listing.proofs.Putting.{put-room, put-then, put-whole, put-none}
+use Rattle.listing.proofs.write_refusal.Statement.{statement}
+use Rattle.listing.proofs.write_refusal.Tie as tie
+
+-- the line of values and the text of the refusal that is given
+abbrev values : tie.Start → List ℕ
+values s = field (s .args .number) comma ++ field (s .args .place) lineFeed
+
+abbrev text : tie.Start → List ℕ
+text s = refusalText (s .args .number) (s .args .place)
+
+-- the bytes that were counted are those of the text, which are few
+counted : (c : tie.After-digit-count2) → 14 + c .before .digit-count .result + c .digit-count2 .result + 2 ≡ length (text (c .before .before .before .before))
+counted c = let a = c .before .before .before .before .args in omega (arith, c .before .digit-count .ensures, c .digit-count2 .ensures, refusal-length (a .number) (a .place))
+
+few : (c : tie.After-digit-count2) → length (text (c .before .before .before .before)) ≤ 39
+few c = let s = c .before .before .before .before in refusal-most (s .args .number) (s .args .place) (s .fits .number .fits) (s .fits .place .fits)
+
+-- each part of the text has room
+room : (c : tie.Else1) → length (text (c .before .before .before .before .before)) ≤ length (c .before .before .before .before .before .args .out .now)
+room c = omega (arith, counted (c .before))
+
+heading-room : (c : tie.Else1) → 0 + length (refusalHeading ++ values (c .before .before .before .before .before)) ≤ length (c .before .before .before .before .before .args .out .now)
+unfolding refusalText
+heading-room c = omega (arith, room c)
+
+heading : (c : tie.After-put-text) → Put (c .before .before .before .before .before .before .before .before .args .out .now) (c .put-text .last .1 .0) 0 (c .put-text .result) refusalHeading
+heading c = c .put-text .ensures
+
+values-room : (c : tie.After-put-text) → c .put-text .result + length (values (c .before .before .before .before .before .before .before .before)) ≤ length (c .put-text .last .1 .0)
+values-room c = put-room (heading c) (values (c .before .before .before .before .before .before .before .before)) (heading-room (c .before .before .before))
+
+digit-count-requires : tie.Need-digit-count-requires
+digit-count-requires c κs = search needs
+
+digit-count-requires-2 : tie.Need-digit-count-requires-2
+digit-count-requires-2 c κs = search needs
+
+add-if1 : tie.Need-add-if1
+add-if1 c = omega (arith, counted c, few c)
+
+add-if1-2 : tie.Need-add-if1-2
+add-if1-2 c = omega (arith, counted c, few c)
+
+add-if1-3 : tie.Need-add-if1-3
+add-if1-3 c = omega (arith, counted c, few c)
+
+returns : tie.Need-returns
+unfolding refusalInto
+returns c =
+    let short : length (c .before .before .before .before .before .args .out .now) < length (text (c .before .before .before .before .before)) = omega (arith, counted (c .before)) in
+    put-none (text (c .before .before .before .before .before)) _ short
+
+put-text-requires : tie.Need-put-text-requires
+put-text-requires c κs = search needs
+
+put-field-requires : tie.Need-put-field-requires
+put-field-requires c κs = omega (arith, simp length-append at (values-room (c .before .before .before)))
+
+put-field-requires-2 : tie.Need-put-field-requires-2
+put-field-requires-2 c κs = put-room (c .before .before .before .put-field .ensures) (field (c .before .before .before .before .before .before .before .before .before .before .before .before .before .before .before .args .place) lineFeed) (values-room (c .before .before .before .before .before .before .before))
+
+same-length : tie.Need-same-length
+same-length c = search needs
+
+returns-2 : tie.Need-returns-2
+unfolding refusalInto refusalText
+returns-2 c =
+    put-whole _ _ (room (c .before .before .before .before .before .before .before .before .before .before .before .before .before))
+    (put-then (heading (c .before .before .before .before .before .before .before .before .before .before)) (put-then (c .before .before .before .before .before .before .put-field .ensures) (c .before .before .put-field2 .ensures) (values-room (c .before .before .before .before .before .before .before .before .before .before))) (heading-room (c .before .before .before .before .before .before .before .before .before .before .before .before .before)))
+
+pub write-refusal-spec : {M : Type 1} → statement M
+write-refusal-spec =
+    tie.close
+    (tie.spec
+    digit-count-requires
+    digit-count-requires-2
+    add-if1
+    add-if1-2
+    add-if1-3
+    returns
+    put-text-requires
+    put-field-requires
+    put-field-requires-2
+    same-length
+    returns-2)

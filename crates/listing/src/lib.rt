@@ -1,0 +1,188 @@
+// The listing of a sheet's cells, and the two lines after a refusal, as text in a lent buffer.
+ghost use mathlib.Core.Path.{_≡_};
+ghost use Prim.Native.Nat.{_+_, _*_, _≤_};
+ghost use lib.ListN.{length};
+ghost use Rattle.decimal.specs.Text.{decimalText};
+ghost use Rattle.sheet.specs.Sheet.{grid};
+ghost use Rattle.sheet.specs.Refusal.{sizesFit};
+ghost use Rattle.listing.specs.Listing.{field, cellLine, linesBelow};
+ghost use Rattle.listing.specs.Writing.{listingInto, refusalInto};
+ghost use Rattle.listing.specs.Steps.{Listable, Put};
+use decimal::Written;
+
+// The answer of a call that writes a text: the count of its bytes, or document 01's number of a refusal.
+pub enum Listing {
+    Bytes(usize),
+    Refused(u8),
+}
+
+// The count of the digits of a number.
+fn digit_count(n: u64) -> usize
+    ensures { λ r. ⌜ r ≡ length (decimalText n) ⌝ }
+{
+    let mut digits = [0u8; 20];
+    let Written::End(end) = decimal::write_decimal(n, &mut digits, 0) else {
+        return 0;
+    };
+    end
+}
+
+// The bytes of the line of a cell.
+fn cell_length(row: usize, col: usize, area: u32, label: u64) -> usize
+    ensures { λ r. ⌜ r ≡ length (cellLine row col area label) ⌝ }
+{
+    let row_digits = digit_count(row as u64);
+    let col_digits = digit_count(col as u64);
+    let area_digits = digit_count(area as u64);
+    let label_digits = digit_count(label);
+    row_digits + col_digits + area_digits + label_digits + 4
+}
+
+// The bytes of the lines of all inside cells.
+fn lines_length(rows: usize, cols: usize, dirs: &[u8], areas: &[u32], labels: &[u64]) -> usize
+    requires { ⌜ Listable rows cols (now dirs) (now areas) (now labels) ⌝ }
+    ensures { λ r. ⌜ r ≡ length (linesBelow (grid rows cols (now (dirs .entry))) (now (areas .entry)) (now (labels .entry)) (rows * cols)) ⌝ }
+{
+    let n = rows * cols;
+    let mut count = 0;
+    for cell in 0..n {
+        if dirs[cell] == 0 {
+            continue;
+        }
+        count += cell_length(cell / cols, cell % cols, areas[cell], labels[cell]);
+    }
+    count
+}
+
+// Writes a text from a position on, and gives the position after it.
+fn put_text(text: &[u8], out: &mut [u8], at: usize) -> usize
+    requires { ⌜ at + length (now text) ≤ length (now out) ⌝ }
+    ensures { λ r. ⌜ Put (now (out .entry)) (now (out .exit)) at r (now (text .entry)) ⌝ }
+{
+    let mut i = 0;
+    while i < text.len() {
+        out[at + i] = text[i];
+        i += 1;
+    }
+    at + i
+}
+
+// Writes a value and the byte after it.
+fn put_field(value: u64, after: u8, out: &mut [u8], at: usize) -> usize
+    requires { ⌜ at + length (field value after) ≤ length (now out) ⌝ }
+    ensures { λ r. ⌜ Put (now (out .entry)) (now (out .exit)) at r (field value after) ⌝ }
+{
+    let Written::End(end) = decimal::write_decimal(value, out, at) else {
+        return at;
+    };
+    out[end] = after;
+    end + 1
+}
+
+// Writes the line of a cell.
+fn put_cell(row: usize, col: usize, area: u32, label: u64, out: &mut [u8], at: usize) -> usize
+    requires { ⌜ at + length (cellLine row col area label) ≤ length (now out) ⌝ }
+    ensures { λ r. ⌜ Put (now (out .entry)) (now (out .exit)) at r (cellLine row col area label) ⌝ }
+{
+    let col_at = put_field(row as u64, b',', out, at);
+    let area_at = put_field(col as u64, b',', out, col_at);
+    let label_at = put_field(area as u64, b',', out, area_at);
+    put_field(label, b'\n', out, label_at)
+}
+
+// Writes the lines of all inside cells.
+fn put_lines(
+    rows: usize,
+    cols: usize,
+    dirs: &[u8],
+    areas: &[u32],
+    labels: &[u64],
+    out: &mut [u8],
+    at: usize,
+) -> usize
+    requires { ⌜ Listable rows cols (now dirs) (now areas) (now labels) × (at + length (linesBelow (grid rows cols (now dirs)) (now areas) (now labels) (rows * cols)) ≤ length (now out)) ⌝ }
+    ensures { λ r. ⌜ Put (now (out .entry)) (now (out .exit)) at r (linesBelow (grid rows cols (now (dirs .entry))) (now (areas .entry)) (now (labels .entry)) (rows * cols)) ⌝ }
+{
+    let n = rows * cols;
+    let mut next = at;
+    for cell in 0..n {
+        let code = dirs[cell];
+        if code == 0 {
+            continue;
+        }
+        next = put_cell(
+            cell / cols,
+            cell % cols,
+            areas[cell],
+            labels[cell],
+            out,
+            next,
+        );
+    }
+    next
+}
+
+// Whether a sheet has 1 to 256 rows and columns.
+fn sizes_fit(rows: usize, cols: usize) -> bool
+    ensures { λ r. ⌜ r ≡ sizesFit rows cols ⌝ }
+{
+    if rows < 1 {
+        return false;
+    }
+    if 256 < rows {
+        return false;
+    }
+    if cols < 1 {
+        return false;
+    }
+    cols <= 256
+}
+
+// Writes the listing to the start of a buffer.
+pub fn write_listing(
+    rows: usize,
+    cols: usize,
+    dirs: &[u8],
+    areas: &[u32],
+    labels: &[u64],
+    out: &mut [u8],
+) -> Listing
+    ensures { λ r. ⌜ record { answer = r; buffer = now (out .exit) } ≡ listingInto (grid rows cols (now (dirs .entry))) (now (areas .entry)) (now (labels .entry)) (now (out .entry)) ⌝ }
+{
+    if sizes_fit(rows, cols) {
+        let n = rows * cols;
+        if dirs.len() < n {
+            return Listing::Refused(3);
+        }
+        if areas.len() < n {
+            return Listing::Refused(3);
+        }
+        if labels.len() < n {
+            return Listing::Refused(3);
+        }
+        let heading = b"row,col,area,label\n";
+        let length = heading.len() + lines_length(rows, cols, dirs, areas, labels);
+        if out.len() < length {
+            return Listing::Refused(3);
+        }
+        let at = put_text(heading, out, 0);
+        Listing::Bytes(put_lines(rows, cols, dirs, areas, labels, out, at))
+    } else {
+        Listing::Refused(1)
+    }
+}
+
+// Writes the two lines after a refusal to the start of a buffer.
+pub fn write_refusal(number: u8, place: usize, out: &mut [u8]) -> Listing
+    ensures { λ r. ⌜ record { answer = r; buffer = now (out .exit) } ≡ refusalInto number place (now (out .entry)) ⌝ }
+{
+    let heading = b"refused,place\n";
+    let number_digits = digit_count(number as u64);
+    let place_digits = digit_count(place as u64);
+    if out.len() < heading.len() + number_digits + place_digits + 2 {
+        return Listing::Refused(3);
+    }
+    let number_at = put_text(heading, out, 0);
+    let place_at = put_field(number as u64, b',', out, number_at);
+    Listing::Bytes(put_field(place as u64, b'\n', out, place_at))
+}

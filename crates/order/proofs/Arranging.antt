@@ -1,0 +1,72 @@
+-- The cells and sizes that stand in the work places are a layout of the sheet's network.
+use mathlib.Core.Path.{_≡_, refl, sym, _∙_, ap, subst}
+use mathlib.Core.Bool.{true}
+use mathlib.Core.List.{List}
+use Prim.Native.Nat.{ℕ, _+_, _*_, _≤_, _<_}
+use native.Mathlib.Nat.{mul-le-mul-right}
+use native.Mathlib.Omega.{arith}
+use lib.ListN.{length, getD, take, drop, length-drop}
+use lib.Seq.{length-take-le, getD-take, getD-drop}
+use borrow.Author.Tests.{le-leb}
+use Rattle.sheet.specs.Sheet.{Grid, cells, inside}
+use Rattle.sheet.specs.River.{network}
+use Rattle.sheet.specs.Label.{outlet}
+use Rattle.sheet.proofs.Cells.{cells-most, inside-lt}
+use Rattle.claims.proofs.GridLaws.{area-least}
+use Rattle.drainage.specs.Work.{placed, sizeAt}
+use Rattle.drainage.specs.Total.{size}
+use Rattle.order.specs.Places.{positionAt, cellsIn, sizesIn, Surveyed, Placed, Entered, Arranged}
+use Rattle.order.proofs.Preorder.{some}
+use Rattle.order.proofs.Layouts.{Filled, layout, layout-of}
+use Rattle.order.proofs.Sizes.{outlet-size}
+use Rattle.order.proofs.Queued.{whole, queue-most, place-of, queue-kept, preorder}
+
+module _ {G : Grid} {areas work now later : List ℕ} {queued : ℕ} (W : Surveyed G areas work queued) (same : length now ≡ length work) (P : Placed G work now queued queued)
+    (same′ : length later ≡ length now) (E : Entered (cells G) now later queued) where
+  abbrev n : ℕ
+  n = cells G
+
+  -- a part of n places of which the first `queued` are taken
+  part-length : (k : ℕ) → k ≤ 7 → length (take queued (drop (k * n) later)) ≡ queued
+  part-length k l =
+      let room : k * n ≤ 7 * n = mul-le-mul-right n l in
+      length-take-le queued (drop (k * n) later) (omega (arith, length-drop (k * n) later, W .room, queue-most W))
+
+  part-at : (k j : ℕ) → j < queued → getD (take queued (drop (k * n) later)) j 0 ≡ getD later (k * n + j) 0
+  part-at k j l = getD-take queued (drop (k * n) later) j 0 l ∙ getD-drop (k * n) later j 0
+
+  below : (c : ℕ) → inside G c ≡ true → positionAt n now c < queued
+  below c i =
+      let q = place-of W c i in
+      let b = rw (q .2) at (P .within (q .0) (q .1)) in
+      omega (arith, b, some (whole W) (preorder W same P) c i)
+
+  filled : Filled (λ c. inside G c ≡ true) (outlet G) (size G) (positionAt n now) (cellsIn n later queued) (sizesIn n later queued)
+  filled = record {
+    first = P .first;
+    long = part-length 5 (omega arith) ∙ sym (outlet-size (W .drained) (W .single));
+    sized = part-length 6 (omega arith) ∙ sym (part-length 5 (omega arith));
+    cell-is = λ c i.
+        let q = place-of W c i in
+        let e : placed now (q .0) ≡ c = queue-kept W same P (q .0) (q .1) ∙ q .2 in
+        part-at 5 (positionAt n now c) (below c i) ∙ (rw e at (E .cell-is (q .0) (q .1)));
+    size-is = λ c i.
+        let q = place-of W c i in
+        let e : placed now (q .0) ≡ c = queue-kept W same P (q .0) (q .1) ∙ q .2 in
+        part-at 6 (positionAt n now c) (below c i) ∙ (rw e at (E .size-is (q .0) (q .1))) ∙ P .kept (3 * n + c) (omega (arith, inside-lt G c i)) ∙ W .size-is c (inside-lt G c i);
+  }
+
+  pub arranged : Arranged G areas later queued
+  unfolding network
+  arranged =
+      let B = whole W in
+      let F = filled in
+      let i = B .outlet-inside in
+      record {
+        some = omega (arith, below (outlet G) i);
+        long = part-length 5 (omega arith);
+        layout = layout B (preorder W same P) F (cells-most (W .measured .sized .rows-most) (W .measured .sized .cols-most));
+        layout-of = layout-of B (preorder W same P) F areas 1 (λ c j. W .measured .area-is c (inside-lt G c j)) (λ c j. sym (le-leb _ _ (area-least G c j)));
+        outlet-first = rw (P .first) at (F .cell-is (outlet G) i);
+        whole = (rw (P .first) at (F .size-is (outlet G) i)) ∙ outlet-size (W .drained) (W .single);
+      }

@@ -1,0 +1,13 @@
+pub mod Intervals
+pub mod Preorder
+pub mod Laying
+pub mod Layouts
+pub mod Sizes
+pub mod Ascending
+pub mod Insertion
+pub mod Gathering
+pub mod Placing
+pub mod Entering
+pub mod Standing
+pub mod Queued
+pub mod Arranging

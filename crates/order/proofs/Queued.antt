@@ -1,0 +1,158 @@
+-- The queued cells get their positions one after the other.
+use mathlib.Core.Path.{_≡_, refl, sym, _∙_, ap, subst}
+use mathlib.Core.Bool.{true}
+use mathlib.Core.List.{List, List·Memᴰ}
+use mathlib.Core.Logic.{_≢_}
+use Prim.Native.Nat.{ℕ, suc, _+_, _*_, _-_, _≤_, _<_}
+use native.Mathlib.Numerals.{add-one}
+use native.Mathlib.Omega.{arith}
+use lib.ListN.{length, getD, set}
+use lib.Seq.{getD-set-same, getD-set-other}
+use Rattle.sheet.specs.declared.Next.{Next}
+use Rattle.sheet.specs.declared.Next.the-variants.{Outlet, To}
+use Rattle.sheet.specs.Sheet.{Grid, cells, inside, next}
+use Rattle.sheet.specs.River.{network, donors}
+use Rattle.sheet.specs.Label.{outlet}
+use Rattle.sheet.proofs.Cells.{cells-most, inside-lt, next-goes, outlet-not-to}
+use Rattle.claims.specs.Basin.{Basin}
+use Rattle.claims.proofs.Basins.{lawful}
+use Rattle.claims.proofs.Counts.{count-le}
+use Rattle.claims.proofs.Sheets.{outlet-is, is-outlet}
+use Rattle.drainage.specs.Work.{placed, rankOf, receiverOf, numbered, isReached, sizeAt}
+use Rattle.drainage.specs.Search.{Upstream}
+use Rattle.drainage.specs.Total.{size}
+use Rattle.order.specs.Positions.{Consecutive, Preorder}
+use Rattle.order.specs.Places.{positionAt, Surveyed, Standing, DonorsPlaced, Placed, Apart}
+use Rattle.order.proofs.Intervals.{between, moved}
+use Rattle.order.proofs.Preorder.{some, same-cell}
+use Rattle.order.proofs.Sizes.{basin, size-adds, outlet-size}
+use Rattle.order.proofs.Entering.{step-cases}
+
+module _ {G : Grid} {areas work : List ℕ} {queued : ℕ} (W : Surveyed G areas work queued) where
+  up : Upstream G work queued
+  up = W .drained .searched .upstream
+
+  pub whole : Basin (network G) (λ c. inside G c ≡ true) (outlet G)
+  whole = basin (W .drained) (W .single)
+
+  pub queue-inside : (i : ℕ) → i < queued → inside G (placed work i) ≡ true
+  queue-inside i l = up .is-inside i l
+
+  pub queue-most : queued ≤ cells G
+  queue-most = omega (arith, up .queue .counted, count-le (cells G) (isReached (cells G) work))
+
+  -- an inside cell's place in the queue
+  pub place-of : (c : ℕ) → inside G c ≡ true → (i : ℕ) × (i < queued) × (placed work i ≡ c)
+  place-of c i =
+      let r = W .drained .all c i in
+      let s = up .queue .stands c (inside-lt G c i) r in
+      (rankOf (cells G) work c - 1, omega (arith, s .most), s .place)
+
+  pub queue-once : (i j : ℕ) → i < queued → j < queued → placed work i ≡ placed work j → i ≡ j
+  queue-once i j l h e = omega (arith, up .queue .item i l .rank, up .queue .item j h .rank, ap (rankOf (cells G) work) e)
+
+  -- receivers stand before their donors
+  donor-later : (i j : ℕ) → i < queued → j < queued → next G (placed work i) ≡ To (placed work j) → j < i
+  donor-later i j l h e =
+      let b = up .queue .item i l .before (placed work j) (up .receiver i l ∙ ap numbered e ∙ sym (add-one _)) in
+      omega (arith, b .earlier, up .queue .item j h .rank)
+
+  goes : (c u : ℕ) → List·Memᴰ u (donors (network G) c) → next G u ≡ To c
+  unfolding network
+  goes c u m = lawful whole .donor-steps c u m
+
+  is-donor : (c u : ℕ) → next G u ≡ To c → List·Memᴰ u (donors (network G) c)
+  unfolding network
+  is-donor c u e = lawful whole .donors-complete c u e
+
+  pub placed-none : Placed G work (set work (4 * cells G + outlet G) 0) queued 0
+  placed-none = record {
+    kept = λ j l. getD-set-other work (4 * cells G + outlet G) j 0 0 (λ e. omega arith);
+    first = getD-set-same work (4 * cells G + outlet G) 0 0 (omega (arith, W .room, inside-lt G (outlet G) (whole .outlet-inside)));
+    follow = λ j l. absurd (omega arith);
+    within = λ j l. absurd (omega arith);
+  }
+
+  module _ {now : List ℕ} {i : ℕ} (P : Placed G work now queued i) (l : i < queued) where
+    abbrev n : ℕ
+    n = cells G
+
+    abbrev cell : ℕ
+    cell = placed work i
+
+    -- no position of the cell lies past the last
+    within-cell : (x : Next) → next G cell ≡ x → positionAt n now cell + size G cell ≤ queued
+    within-cell Outlet e =
+        let s : cell ≡ outlet G = W .single .only cell (is-outlet G cell (queue-inside i l) e) in
+        rw s (omega (arith, P .first, outlet-size (W .drained) (W .single)))
+    within-cell (To r) e =
+        let q = place-of r (next-goes G cell e .to-inside) in
+        let t : next G cell ≡ To (placed work (q .0)) = rw (q .2) e in
+        let j = donor-later i (q .0) l (q .1) t in
+        let b = between (P .follow (q .0) j) cell (is-donor (placed work (q .0)) cell t) in
+        omega (arith, b .upto, size-adds G whole (placed work (q .0)) (queue-inside (q .0) (q .1)), P .within (q .0) j)
+
+    -- the queue is as it was
+    cell-kept : placed now i ≡ cell
+    cell-kept = P .kept i (omega (arith, queue-most))
+
+    pub standing : length now ≡ length work → Standing G now (placed now i)
+    standing same = rw cell-kept (record {
+      basin = whole;
+      is-inside = queue-inside i l;
+      room = omega (arith, W .room);
+      size-is = λ c h. P .kept (3 * n + c) (omega arith) ∙ W .size-is c h;
+      within = omega (arith, within-cell (next G cell) refl, queue-most, cells-most (W .measured .sized .rows-most) (W .measured .sized .cols-most));
+    })
+
+    module _ {later : List ℕ} (placing : DonorsPlaced G now later (placed now i)) where
+      D : DonorsPlaced G now later cell
+      D = rw cell-kept at placing
+
+      -- the position of a cell that is no donor
+      stays : (u : ℕ) → (next G u ≡ To cell → ⊥) → positionAt n later u ≡ positionAt n now u
+      stays u d = D .kept (4 * n + u) (λ v m e. let s : u ≡ v = omega arith in d (rw s (goes cell v m)))
+
+      queue-stays : (j : ℕ) → j < i + 1 → positionAt n later (placed work j) ≡ positionAt n now (placed work j)
+      queue-stays j h = stays (placed work j) (λ e. let k = donor-later j i (omega arith) l e in omega arith)
+
+      donor-stays : (j : ℕ) → j < i → (u : ℕ) → List·Memᴰ u (donors (network G) (placed work j)) → positionAt n later u ≡ positionAt n now u
+      donor-stays j h u m =
+          let d = goes (placed work j) u m in
+          stays u (λ e. let s : placed work j ≡ cell = cc in let k = queue-once j i (omega arith) l s in omega arith)
+
+      pub placed-more : Placed G work later queued (i + 1)
+      placed-more = record {
+        kept = λ j h. D .kept j (λ u m e. omega arith) ∙ P .kept j h;
+        first = stays (outlet G) (λ e. outlet-not-to (sym ((outlet-is G (outlet G) (W .single .is-outlet)) .1) ∙ e)) ∙ P .first;
+        follow =
+            step-cases i (λ j h. rw (queue-stays j (omega arith)) (moved (P .follow j h) (donor-stays j h)))
+            (rw (queue-stays i (omega arith)) (D .follow));
+        within =
+            step-cases i (λ j h. omega (arith, queue-stays j (omega arith), P .within j h))
+            (omega (arith, queue-stays i (omega arith), within-cell (next G cell) refl));
+      }
+
+-- ---- all queued cells have their positions
+
+module _ {G : Grid} {areas work now : List ℕ} {queued : ℕ} (W : Surveyed G areas work queued) (same : length now ≡ length work) (P : Placed G work now queued queued) where
+  pub preorder : Preorder (network G) (λ c. inside G c ≡ true) (size G) (positionAt (cells G) now)
+  preorder = record {
+    adds = size-adds G (whole W);
+    follow = λ c i. let q = place-of W c i in rw (q .2) at (P .follow (q .0) (q .1));
+  }
+
+  -- the queue is as it was
+  pub queue-kept : (i : ℕ) → i < queued → placed now i ≡ placed work i
+  queue-kept i l = P .kept i (omega (arith, queue-most W))
+
+  pub apart : Apart (cells G) now queued
+  apart = record {
+    small = cells-most (W .measured .sized .rows-most) (W .measured .sized .cols-most);
+    room = omega (arith, W .room);
+    most = queue-most W;
+    on = λ i l. rw (queue-kept i l) (inside-lt G _ (queue-inside W i l));
+    below = λ i l. rw (queue-kept i l) (omega (arith, P .within i l, queue-most W, some (whole W) preorder (placed work i) (queue-inside W i l)));
+    apart = λ i j l h e.
+        queue-once W i j l h (same-cell (whole W) preorder (placed work i) (placed work j) (queue-inside W i l) (queue-inside W j h) (rw (queue-kept i l, queue-kept j h) at e));
+  }

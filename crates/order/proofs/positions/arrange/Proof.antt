@@ -1,0 +1,33 @@
+use Rattle.order.proofs.Queued.{apart}
+use Rattle.order.proofs.Arranging.{arranged}
+use borrow.Author.Needs.{needs}
+use Rattle.order.proofs.positions.arrange.Statement.{statement}
+use Rattle.order.proofs.positions.arrange.Tie as tie
+use Rattle.order.proofs.positions.arrange.Reads as reads
+use Rattle.order.proofs.positions.arrange.Lts as lts
+use Rattle.order.proofs.positions.enter_all.Reads as enter-all-reads
+use Rattle.order.proofs.positions.place_all.Reads as place-all-reads
+
+-- src/positions.rt:105:5
+place-all-requires : tie.Need-place-all-requires
+place-all-requires c κs = search needs
+
+-- src/positions.rt:106:15
+mul-enter-all : tie.Need-mul-enter-all
+mul-enter-all c = search needs
+
+-- src/positions.rt:106:5
+enter-all-requires : tie.Need-enter-all-requires
+enter-all-requires c κs = apart (c .before .before .before .before .before .before .before .before .pre) (c .before .before .before .place-all .kept .1 .1 .1 .1 .1 .0) (c .before .before .before .place-all .ensures)
+
+-- src/positions.rt:94:1
+same-length : tie.Need-same-length
+same-length c = search needs
+
+-- src/positions.rt:94:1
+returns : tie.Need-returns
+returns c = arranged (c .before .before .before .before .before .before .before .before .before .before .before .pre) (c .before .before .before .before .before .before .place-all .kept .1 .1 .1 .1 .1 .0) (c .before .before .before .before .before .before .place-all .ensures) (c .before .before .enter-all .kept .1 .1 .0) (c .before .before .enter-all .ensures)
+
+pub arrange-spec : {M : Type 1} → statement M
+arrange-spec =
+    tie.close (tie.spec place-all-requires mul-enter-all enter-all-requires same-length returns)

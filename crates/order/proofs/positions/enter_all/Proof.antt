@@ -1,0 +1,84 @@
+use mathlib.Core.Path.{_≡_, refl, _∙_}
+use Prim.Native.Nat.{ℕ, _-_, _≤_}
+use native.Mathlib.Omega.{arith}
+use lib.ListN.{length}
+use borrow.Author.Needs.{needs}
+use Rattle.order.specs.Places.{Entered}
+use Rattle.order.proofs.Entering.{entered-none, entered-more, cell-kept, at-kept}
+use Rattle.order.proofs.positions.enter_all.Statement.{statement}
+use Rattle.order.proofs.positions.enter_all.Tie as tie
+use Rattle.order.proofs.positions.enter_all.Reads as reads
+use Rattle.order.proofs.positions.enter_all.Lts as lts
+use Rattle.order.proofs.positions.enter.Reads as enter-reads
+
+abbrev Inv-loop : tie.InvT-loop
+Inv-loop n queued work₀ i₀ work i = (i ≤ queued) × (length work ≡ length work₀) × Entered n work₀ work i
+
+abbrev μ-loop : tie.MeasureT-loop
+μ-loop n queued work₀ i₀ work i = queued - i
+
+-- src/positions.rt:87:5
+loop-holds : tie.Need-loop-holds Inv-loop μ-loop
+loop-holds c = (omega arith, refl, entered-none)
+
+-- src/positions.rt:88:20
+mul-cell : tie.Need-mul-cell Inv-loop μ-loop
+mul-cell c = omega (arith, c .before .before .before .pre .most, c .before .before .before .pre .small)
+
+-- src/positions.rt:88:20
+slice-read-cell : tie.Need-slice-read-cell Inv-loop μ-loop
+slice-read-cell c = omega (arith, c .before .before .before .before .pre .most, c .before .before .before .before .pre .room)
+
+-- src/positions.rt:88:20
+cast-cell : tie.Need-cast-cell Inv-loop μ-loop
+cast-cell c = omega (arith, c .slice-known2 .given (c .before .before .loop .i))
+
+-- src/positions.rt:89:9
+enter-requires : tie.Need-enter-requires Inv-loop μ-loop
+enter-requires c κs =
+    let p = c .before .before .before .before .before .pre in
+    let l = c .before .before .before .loop in
+    let h = c .before .before .loop-test .taken in
+    (p .small, omega (arith, p .room, l .inv .1), omega (arith, cell-kept p (l .inv .1) (l .inv .2) h, p .on (l .i) h), omega (arith, at-kept p (l .inv .1) (l .inv .2) h, p .below (l .i) h))
+
+-- src/positions.rt:87:9
+add-i : tie.Need-add-i Inv-loop μ-loop
+add-i c = search needs
+
+-- src/positions.rt:87:5
+loop-less : tie.Need-loop-less Inv-loop μ-loop
+loop-less c = search needs
+
+-- src/positions.rt:87:5
+loop-again : tie.Need-loop-again Inv-loop μ-loop
+loop-again c =
+    let l = c .before .before .before .before .before .before .loop in
+    (omega arith, c .before .before .enter .kept .1 .1 .0 ∙ l .inv .1, rw (c .before .before .enter .ensures) (entered-more (c .before .before .before .before .before .before .before .before .pre) (l .inv .1) (l .inv .2) (c .before .before .before .before .before .loop-test .taken)))
+
+-- src/positions.rt:83:1
+same-length : tie.Need-same-length Inv-loop μ-loop
+same-length c = c .before .loop .inv .1
+
+-- src/positions.rt:83:1
+returns : tie.Need-returns Inv-loop μ-loop
+returns c =
+    let l = c .before .loop in
+    let e : l .i ≡ c .before .before .before .args .queued = omega arith in
+    rw e at (l .inv .2)
+
+pub enter-all-spec : {M : Type 1} → statement M
+enter-all-spec =
+    tie.close
+    (tie.spec
+    Inv-loop
+    μ-loop
+    loop-holds
+    mul-cell
+    slice-read-cell
+    cast-cell
+    enter-requires
+    add-i
+    loop-less
+    loop-again
+    same-length
+    returns)

@@ -1,0 +1,117 @@
+use mathlib.Core.Path.{_≡_, refl, sym, _∙_, ap, subst}
+use mathlib.Core.List.{List}
+use Prim.Native.Nat.{ℕ, _-_, _≤_, _<_, _*_, _+_}
+use native.Mathlib.Omega.{arith}
+use lib.ListN.{length, getD, set, length-set}
+use borrow.Author.Needs.{needs}
+use Rattle.sheet.specs.Sheet.{grid}
+use Rattle.sheet.specs.Label.{outlet}
+use Rattle.sheet.proofs.Cells.{cells-most, inside-lt}
+use Rattle.order.specs.Places.{Surveyed, Placed}
+use Rattle.order.proofs.Queued.{whole, queue-most, placed-none, standing, placed-more}
+use Rattle.order.proofs.positions.place_all.Statement.{statement}
+use Rattle.order.proofs.positions.place_all.Tie as tie
+use Rattle.order.proofs.positions.place_all.Reads as reads
+use Rattle.order.proofs.positions.place_all.Lts as lts
+use Rattle.order.proofs.positions.place_outlet.Reads as place-outlet-reads
+use Rattle.order.proofs.positions.place_upstream.Reads as place-upstream-reads
+
+abbrev Inv-loop : tie.InvT-loop
+Inv-loop dirs rows cols areas queued work₀ i₀ work i =
+    (i ≤ queued) × (length work ≡ length work₀)
+    × ((entry : List ℕ) → Surveyed (grid rows cols dirs) areas entry queued → work₀ ≡ set entry (4 * (rows * cols) + outlet (grid rows cols dirs)) 0
+    → Placed (grid rows cols dirs) entry work queued i)
+
+abbrev μ-loop : tie.MeasureT-loop
+μ-loop dirs rows cols areas queued work₀ i₀ work i = queued - i
+
+most : (c : tie.Start Inv-loop μ-loop) → c .args .rows * c .args .cols ≤ 65536
+most c = cells-most (c .pre .measured .sized .rows-most) (c .pre .measured .sized .cols-most)
+
+-- the outlet has its position
+outlet-placed : (c : tie.After-place-outlet Inv-loop μ-loop)
+    → c .place-outlet .last .1 .0 ≡ set (c .before .before .before .before .before .args .work .now) (4 * (c .before .before .before .before .before .args .rows * c .before .before .before .before .before .args .cols) + outlet (grid (c .before .before .before .before .before .args .rows) (c .before .before .before .before .before .args .cols) (c .before .before .before .before .before .args .dirs .now))) 0
+outlet-placed c = c .place-outlet .ensures ∙ (rw (c .before .before .before .before .before .pre .single .first))
+
+-- the first cells of the queue have been gone through
+present : (c : tie.At-loop Inv-loop μ-loop) → Placed (grid (c .before .before .before .before .before .before .before .before .args .rows) (c .before .before .before .before .before .before .before .before .args .cols) (c .before .before .before .before .before .before .before .before .args .dirs .now)) (c .before .before .before .before .before .before .before .before .args .work .now) (c .loop .work) (c .before .before .before .before .before .before .before .before .args .queued) (c .loop .i)
+present c = c .loop .inv .2 (c .before .before .before .before .before .before .before .before .args .work .now) (c .before .before .before .before .before .before .before .before .pre) (outlet-placed (c .before .before .before))
+
+length-kept : (c : tie.At-loop Inv-loop μ-loop) → length (c .loop .work) ≡ length (c .before .before .before .before .before .before .before .before .args .work .now)
+length-kept c = c .loop .inv .1 ∙ c .before .before .before .place-outlet .kept .1 .0
+
+-- src/positions.rt:73:18
+mul-place-outlet : tie.Need-mul-place-outlet Inv-loop μ-loop
+mul-place-outlet c = omega (arith, most (c .before .before .before))
+
+-- src/positions.rt:73:5
+place-outlet-requires : tie.Need-place-outlet-requires Inv-loop μ-loop
+place-outlet-requires c κs =
+    let p = c .before .before .before .before .pre in
+    (most (c .before .before .before .before), p .room, rw (p .single .first) (inside-lt _ _ (whole p .outlet-inside)))
+
+-- src/positions.rt:74:5
+loop-holds : tie.Need-loop-holds Inv-loop μ-loop
+loop-holds c = (omega arith, refl, λ w s e. rw e (placed-none s))
+
+-- src/positions.rt:75:20
+mul-cell : tie.Need-mul-cell Inv-loop μ-loop
+mul-cell c = omega (arith, queue-most (c .before .before .before .before .before .before .before .before .before .pre), most (c .before .before .before .before .before .before .before .before .before))
+
+-- src/positions.rt:75:20
+slice-read-cell : tie.Need-slice-read-cell Inv-loop μ-loop
+slice-read-cell c = omega (arith, queue-most (c .before .before .before .before .before .before .before .before .before .before .pre), length-kept (c .before .before), c .before .before .before .before .before .before .before .before .before .before .pre .room)
+
+-- src/positions.rt:75:20
+cast-cell : tie.Need-cast-cell Inv-loop μ-loop
+cast-cell c = omega (arith, c .slice-known3 .given (c .before .before .loop .i))
+
+-- src/positions.rt:76:9
+place-upstream-requires : tie.Need-place-upstream-requires Inv-loop μ-loop
+place-upstream-requires c κs = (c .before .before .before .before .before .before .before .before .before .before .before .pre .measured, standing (c .before .before .before .before .before .before .before .before .before .before .before .pre) (present (c .before .before .before)) (c .before .before .loop-test .taken) (length-kept (c .before .before .before)))
+
+-- src/positions.rt:74:9
+add-i : tie.Need-add-i Inv-loop μ-loop
+add-i c = search needs
+
+-- src/positions.rt:74:5
+loop-less : tie.Need-loop-less Inv-loop μ-loop
+loop-less c = search needs
+
+-- src/positions.rt:74:5
+loop-again : tie.Need-loop-again Inv-loop μ-loop
+loop-again c =
+    let l = c .before .before .before .before .before .before .loop in (
+      omega arith,
+      c .before .before .place-upstream .kept .1 .1 .1 .1 .1 .0 ∙ l .inv .1,
+      λ w s e. placed-more s (l .inv .2 w s e) (c .before .before .before .before .before .loop-test .taken) (c .before .before .place-upstream .ensures),
+    )
+
+-- src/positions.rt:62:1
+same-length : tie.Need-same-length Inv-loop μ-loop
+same-length c = length-kept (c .before)
+
+-- src/positions.rt:62:1
+returns : tie.Need-returns Inv-loop μ-loop
+returns c =
+    let e : c .before .loop .i ≡ c .before .before .before .before .before .before .before .before .before .args .queued = omega arith in
+    rw e at (present (c .before))
+
+pub place-all-spec : {M : Type 1} → statement M
+place-all-spec =
+    tie.close
+    (tie.spec
+    Inv-loop
+    μ-loop
+    mul-place-outlet
+    place-outlet-requires
+    loop-holds
+    mul-cell
+    slice-read-cell
+    cast-cell
+    place-upstream-requires
+    add-i
+    loop-less
+    loop-again
+    same-length
+    returns)

@@ -1,0 +1,98 @@
+use mathlib.Core.Path.{_≡_, refl, sym, _∙_}
+use Prim.Native.Nat.{_<_, _*_}
+use native.Mathlib.Omega.{arith}
+use Rattle.sheet.specs.Sheet.{grid}
+use Rattle.sheet.proofs.Cells.{inside-lt}
+use Rattle.order.proofs.Standing.{none-placed, fitting, donors-placed}
+use borrow.Author.Needs.{needs}
+use Rattle.order.proofs.positions.place_upstream.Statement.{statement}
+use Rattle.order.proofs.positions.place_upstream.Tie as tie
+use Rattle.order.proofs.positions.place_upstream.Reads as reads
+use Rattle.order.proofs.positions.place_upstream.Lts as lts
+use Rattle.order.proofs.donors.donors_of.Reads as donors-of-reads
+use Rattle.order.proofs.positions.place_donors.Reads as place-donors-reads
+
+on : (c : tie.Start) → c .args .cell < c .args .rows * c .args .cols
+on c = inside-lt _ _ (c .pre .1 .is-inside)
+
+-- src/positions.rt:42:13
+mul-n : tie.Need-mul-n
+mul-n c = search needs
+
+-- src/positions.rt:43:13
+mul-if1 : tie.Need-mul-if1
+mul-if1 c = search needs
+
+-- src/positions.rt:43:13
+add-if1 : tie.Need-add-if1
+add-if1 c = omega (arith, on (c .before .before .before), c .before .before .before .pre .1 .room)
+
+-- src/positions.rt:43:8
+mul-if1-2 : tie.Need-mul-if1-2
+mul-if1-2 c = omega (arith, on (c .before .before .before), c .before .before .before .pre .1 .room)
+
+-- src/positions.rt:43:8
+slice-read-if1 : tie.Need-slice-read-if1
+slice-read-if1 c = omega (arith, on (c .before .before .before .before), c .before .before .before .before .pre .1 .room)
+
+-- src/positions.rt:44:9
+returns : tie.Need-returns
+returns c = none-placed (c .before .before .before .before .before .pre .1) (c .if1 .taken)
+
+-- src/positions.rt:46:22
+mul-first : tie.Need-mul-first
+mul-first c = search needs
+
+-- src/positions.rt:46:22
+add-first : tie.Need-add-first
+add-first c = omega (arith, on (c .before .before .before .before .before), c .before .before .before .before .before .pre .1 .room)
+
+-- src/positions.rt:46:17
+mul-first-2 : tie.Need-mul-first-2
+mul-first-2 c = omega (arith, on (c .before .before .before .before .before), c .before .before .before .before .before .pre .1 .room)
+
+-- src/positions.rt:46:17
+slice-read-first : tie.Need-slice-read-first
+slice-read-first c = omega (arith, on (c .before .before .before .before .before .before), c .before .before .before .before .before .before .pre .1 .room)
+
+-- src/positions.rt:46:17
+add-first-2 : tie.Need-add-first-2
+add-first-2 c = search needs
+
+-- src/positions.rt:47:9
+donors-of-requires : tie.Need-donors-of-requires
+donors-of-requires c κs = search needs
+
+-- src/positions.rt:48:5
+place-donors-requires : tie.Need-place-donors-requires
+place-donors-requires c κs =
+    let d = c .before .donors-of .ensures in
+    (d .most, rw (d .are) (fitting (c .before .before .before .before .before .before .before .before .pre .0) (c .before .before .before .before .before .before .before .before .pre .1)))
+
+-- src/positions.rt:30:1
+same-length : tie.Need-same-length
+same-length c = search needs
+
+-- src/positions.rt:30:1
+returns-2 : tie.Need-returns-2
+returns-2 c = rw (c .before .before .place-donors .ensures, c .before .before .before .before .donors-of .ensures .are) (donors-placed (c .before .before .before .before .before .before .before .before .before .before .before .pre .0) (c .before .before .before .before .before .before .before .before .before .before .before .pre .1))
+
+pub place-upstream-spec : {M : Type 1} → statement M
+place-upstream-spec =
+    tie.close
+    (tie.spec
+    mul-n
+    mul-if1
+    add-if1
+    mul-if1-2
+    slice-read-if1
+    returns
+    mul-first
+    add-first
+    mul-first-2
+    slice-read-first
+    add-first-2
+    donors-of-requires
+    place-donors-requires
+    same-length
+    returns-2)

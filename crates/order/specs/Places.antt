@@ -1,0 +1,114 @@
+-- The work places of an order: parts of n places after those of a search and the sizes.
+use mathlib.Core.Path.{_≡_}
+use mathlib.Core.Bool.{true}
+use mathlib.Core.List.{List, [], _∷_, List·Memᴰ}
+use mathlib.Core.Logic.{_≢_}
+use Prim.Native.Nat.{ℕ, _+_, _*_, _<_, _≤_, _^_}
+use lib.ListN.{getD, length, set, take, drop}
+use Rattle.sheet.specs.Sheet.{Grid, Sized, cells, inside}
+use Rattle.sheet.specs.Area.{area}
+use Rattle.sheet.specs.River.{network, donors}
+use Rattle.sheet.specs.Label.{outlet}
+use Rattle.claims.specs.Basin.{Basin}
+use Rattle.claims.specs.Bounds.{sum}
+use Rattle.drainage.specs.Work.{placed, sizeAt}
+use Rattle.drainage.specs.Search.{Coded, Drained, SingleOutlet}
+use Rattle.drainage.specs.Total.{size}
+use Rattle.rivers.specs.Layout.{Layout, LayoutOf}
+use Rattle.order.specs.Keys.{cellOf}
+use Rattle.order.specs.Positions.{Consecutive}
+
+-- [4n, 5n): a queued cell's position
+abbrev pub positionAt : ℕ → List ℕ → ℕ → ℕ
+positionAt n work c = getD work (4 * n + c) 0
+
+-- [5n, 6n): the cell at each position
+abbrev pub cellsIn : ℕ → List ℕ → ℕ → List ℕ
+cellsIn n work queued = take queued (drop (5 * n) work)
+
+-- [6n, 7n): the size at each position
+abbrev pub sizesIn : ℕ → List ℕ → ℕ → List ℕ
+sizesIn n work queued = take queued (drop (6 * n) work)
+
+-- ---- what is given
+
+-- a sheet whose cells are a basin, with the areas of its cells
+pub record Measured (G : Grid) (areas : List ℕ) : Type 0 where
+  pub sized : Sized (G .rows) (G .cols) (G .dirs)
+  pub coded : Coded G
+  pub room : cells G ≤ length areas
+  pub area-is : (c : ℕ) → c < cells G → getD areas c 0 ≡ area G c
+
+-- a search that reached every inside cell from one outlet, areas and sizes
+pub record Surveyed (G : Grid) (areas work : List ℕ) (queued : ℕ) : Type 0 where
+  pub measured : Measured G areas
+  pub room : 8 * cells G ≤ length work
+  pub drained : Drained G work queued
+  pub single : SingleOutlet G work
+  pub size-is : (c : ℕ) → c < cells G → sizeAt (cells G) work c ≡ size G c
+
+-- ---- positions of donors
+
+-- the cells of keys get positions one after the other from `at` on
+unfoldable pub positioned : ℕ → ℕ → List ℕ → List ℕ → List ℕ
+positioned n at [] work = work
+positioned n at (x ∷ xs) work = positioned n (at + sizeAt n work (cellOf x)) xs (set work (4 * n + cellOf x) at)
+
+-- the cells of keys have places, and their positions fit 32 bits
+pub record Fitting (n at : ℕ) (keys work : List ℕ) : Type 0 where
+  pub small : n ≤ 65536
+  pub room : 8 * n ≤ length work
+  pub on : (x : ℕ) → List·Memᴰ x keys → cellOf x < n
+  pub fits : at + sum (λ x. sizeAt n work (cellOf x)) keys < 2 ^ 32
+
+-- an inside cell has its position
+pub record Standing (G : Grid) (work : List ℕ) (cell : ℕ) : Type 0 where
+  pub basin : Basin (network G) (λ c. inside G c ≡ true) (outlet G)
+  pub is-inside : inside G cell ≡ true
+  pub room : 8 * cells G ≤ length work
+  pub size-is : (c : ℕ) → c < cells G → sizeAt (cells G) work c ≡ size G c
+  pub within : positionAt (cells G) work cell + size G cell ≤ 65536
+
+-- the donors of a cell have got their positions, and no other place is written
+pub record DonorsPlaced (G : Grid) (work work′ : List ℕ) (cell : ℕ) : Type 0 where
+  pub follow : Consecutive (size G) (positionAt (cells G) work′) (positionAt (cells G) work cell + 1) (donors (network G) cell)
+  pub kept : (j : ℕ) → ((u : ℕ) → List·Memᴰ u (donors (network G) cell) → j ≢ 4 * cells G + u) → getD work′ j 0 ≡ getD work j 0
+
+-- the donors of the first i cells of the queue have their positions, and so has the outlet
+pub record Placed (G : Grid) (work work′ : List ℕ) (queued i : ℕ) : Type 0 where
+  pub kept : (j : ℕ) → j < 4 * cells G → getD work′ j 0 ≡ getD work j 0
+  pub first : positionAt (cells G) work′ (outlet G) ≡ 0
+  pub follow : (j : ℕ) → j < i → Consecutive (size G) (positionAt (cells G) work′) (positionAt (cells G) work′ (placed work j) + 1) (donors (network G) (placed work j))
+  pub within : (j : ℕ) → j < i → positionAt (cells G) work′ (placed work j) + size G (placed work j) ≤ queued
+
+-- ---- cells and sizes by position
+
+-- a cell and its size, written at its position
+unfoldable pub entered : ℕ → List ℕ → ℕ → List ℕ
+entered n work c = set (set work (5 * n + positionAt n work c) c) (6 * n + positionAt n work c) (sizeAt n work c)
+
+-- queued cells with different positions
+pub record Apart (n : ℕ) (work : List ℕ) (queued : ℕ) : Type 0 where
+  pub small : n ≤ 65536
+  pub room : 8 * n ≤ length work
+  pub most : queued ≤ n
+  pub on : (i : ℕ) → i < queued → placed work i < n
+  pub below : (i : ℕ) → i < queued → positionAt n work (placed work i) < n
+  pub apart : (i j : ℕ) → i < queued → j < queued → positionAt n work (placed work i) ≡ positionAt n work (placed work j) → i ≡ j
+
+-- the first i queued cells stand at their positions
+pub record Entered (n : ℕ) (work work′ : List ℕ) (i : ℕ) : Type 0 where
+  pub kept : (j : ℕ) → j < 5 * n → getD work′ j 0 ≡ getD work j 0
+  pub cell-is : (j : ℕ) → j < i → getD work′ (5 * n + positionAt n work (placed work j)) 0 ≡ placed work j
+  pub size-is : (j : ℕ) → j < i → getD work′ (6 * n + positionAt n work (placed work j)) 0 ≡ sizeAt n work (placed work j)
+
+-- ---- the order along rivers
+
+-- every queued cell stands at its position, with its size
+pub record Arranged (G : Grid) (areas work : List ℕ) (queued : ℕ) : Type 0 where
+  pub some : 0 < queued
+  pub long : length (cellsIn (cells G) work queued) ≡ queued
+  pub layout : Layout (cellsIn (cells G) work queued) (sizesIn (cells G) work queued) (cells G)
+  pub layout-of : LayoutOf (network G) (cellsIn (cells G) work queued) (sizesIn (cells G) work queued) areas 4 1
+  pub outlet-first : getD (cellsIn (cells G) work queued) 0 0 ≡ outlet G
+  pub whole : getD (sizesIn (cells G) work queued) 0 0 ≡ queued

@@ -1,0 +1,109 @@
+// Positions in the order along rivers, and the cell and the size at each.
+use crate::donors::Donors;
+use crate::donors::donors_of;
+ghost use mathlib.Core.Path.{_≡_};
+ghost use Prim.Native.Nat.{_+_, _*_, _<_, _≤_};
+ghost use lib.ListN.{length, set};
+ghost use Rattle.sheet.specs.Sheet.{grid};
+ghost use Rattle.drainage.specs.Work.{placed};
+ghost use Rattle.order.specs.Keys.{keysOf};
+ghost use Rattle.order.specs.Places.{positionAt, Measured, Surveyed, positioned, Fitting, Standing, DonorsPlaced, Placed, entered, Apart, Entered, Arranged};
+
+// Gives donors positions one after the other from `first` on.
+fn place_donors(n: usize, first: u32, d: Donors, work: &mut [u32])
+    requires { ⌜ (d .count ≤ 8) × Fitting n first (keysOf d) (now work) ⌝ }
+    ensures { λ _. ⌜ now (work .exit) ≡ positioned n first (keysOf d) (now (work .entry)) ⌝ }
+{
+    let keys = d.keys;
+    let count = d.count;
+    let sizes = 3 * n;
+    let positions = 4 * n;
+    let mut at = first;
+    for k in 0..count {
+        let cell = (keys[k] % 65536) as usize;
+        let size = work[sizes + cell];
+        work[positions + cell] = at;
+        at += size;
+    }
+}
+
+// Gives the donors of a cell their positions: the first stands next after the cell.
+fn place_upstream(
+    dirs: &[u8],
+    rows: usize,
+    cols: usize,
+    areas: &[u32],
+    cell: usize,
+    work: &mut [u32],
+)
+    requires { ⌜ Measured (grid rows cols (now dirs)) (now areas) ⌝ }
+    requires { ⌜ Standing (grid rows cols (now dirs)) (now work) cell ⌝ }
+    ensures { λ _. ⌜ DonorsPlaced (grid rows cols (now (dirs .entry))) (now (work .entry)) (now (work .exit)) cell ⌝ }
+{
+    let n = rows * cols;
+    if work[3 * n + cell] == 1 {
+        return;
+    }
+    let first = work[4 * n + cell] + 1;
+    let d = donors_of(dirs, rows, cols, areas, cell);
+    place_donors(n, first, d, work);
+}
+
+// Gives the outlet, which stands first in the queue, the first position.
+fn place_outlet(n: usize, work: &mut [u32])
+    requires { ⌜ (n ≤ 65536) × (8 * n ≤ length (now work)) × (placed (now work) 0 < n) ⌝ }
+    ensures { λ _. ⌜ now (work .exit) ≡ set (now (work .entry)) (4 * n + placed (now (work .entry)) 0) 0 ⌝ }
+{
+    let cell = work[0] as usize;
+    work[4 * n + cell] = 0;
+}
+
+// Gives every queued cell its position. A cell's receiver stands before it in the queue.
+fn place_all(dirs: &[u8], rows: usize, cols: usize, areas: &[u32], queued: usize, work: &mut [u32])
+    requires { ⌜ Surveyed (grid rows cols (now dirs)) (now areas) (now work) queued ⌝ }
+    ensures { λ _. ⌜ Placed (grid rows cols (now (dirs .entry))) (now (work .entry)) (now (work .exit)) queued queued ⌝ }
+{
+    place_outlet(rows * cols, work);
+    for i in 0..queued {
+        let cell = work[i] as usize;
+        place_upstream(dirs, rows, cols, areas, cell, work);
+    }
+}
+
+// Writes a cell and its size at its position.
+fn enter(n: usize, cell: usize, work: &mut [u32])
+    requires { ⌜ (n ≤ 65536) × (8 * n ≤ length (now work)) × (cell < n) × (positionAt n (now work) cell < n) ⌝ }
+    ensures { λ _. ⌜ now (work .exit) ≡ entered n (now (work .entry)) cell ⌝ }
+{
+    let at = work[4 * n + cell] as usize;
+    let size = work[3 * n + cell];
+    work[5 * n + at] = cell as u32;
+    work[6 * n + at] = size;
+}
+
+// Writes every queued cell and its size at its position.
+fn enter_all(n: usize, queued: usize, work: &mut [u32])
+    requires { ⌜ Apart n (now work) queued ⌝ }
+    ensures { λ _. ⌜ Entered n (now (work .entry)) (now (work .exit)) queued ⌝ }
+{
+    for i in 0..queued {
+        let cell = work[i] as usize;
+        enter(n, cell, work);
+    }
+}
+
+// The order of the queued cells along rivers, with the size at each position.
+pub fn arrange(
+    dirs: &[u8],
+    rows: usize,
+    cols: usize,
+    areas: &[u32],
+    queued: usize,
+    work: &mut [u32],
+)
+    requires { ⌜ Surveyed (grid rows cols (now dirs)) (now areas) (now work) queued ⌝ }
+    ensures { λ _. ⌜ Arranged (grid rows cols (now (dirs .entry))) (now (areas .entry)) (now (work .exit)) queued ⌝ }
+{
+    place_all(dirs, rows, cols, areas, queued, work);
+    enter_all(rows * cols, queued, work);
+}

@@ -1,0 +1,310 @@
+-- `rivers::units::label_run` and `rivers::units::label_river`, which call each other, meet their contracts.
+-- The measure is the digits left, and then the run's length.
+use mathlib.Core.Path.{_≡_, refl, _∙_}
+use Prim.Native.Nat.{ℕ, _+_, _-_, _*_, _≤_, _<_}
+use native.Mathlib.Omega.{arith}
+use lib.ListN.{length, getD}
+use borrow.Fn.Kinds.{In}
+use borrow.Fn.PlainCycle.{Measures, is, falls, and}
+use Rattle.rivers.specs.UnitAt.{UnitAt}
+use Rattle.rivers.specs.Labelled.{unitLabelled}
+use Rattle.rivers.proofs.Labelling.{filled-zero, filled-finished}
+use Rattle.rivers.proofs.Progress.{Progress, river-unit, progress-none, progress-stem, progress-skip, progress-take, progress-room, progress-unit, progress-last, progress-last-room, progress-last-unit}
+use Rattle.rivers.proofs.Bounds.{measure, measure-digit, measure-length, room-step, room-fits, places-at}
+use Rattle.rivers.proofs.heaviest.heaviest.Reads as heaviest-reads
+use Rattle.rivers.proofs.heaviest.key_at.Reads as key-at-reads
+use Rattle.rivers.proofs.units.fill.Reads as fill-reads
+use Rattle.rivers.proofs.units.label_river.Reads as label-river
+use Rattle.rivers.proofs.units.label_river.Kinds as label-river-kinds
+use Rattle.rivers.proofs.units.+label_river+label_run.Lts-label_river as label-river-lts
+use Rattle.rivers.proofs.units.label_run.Reads as label-run
+use Rattle.rivers.proofs.units.label_run.Kinds as label-run-kinds
+use Rattle.rivers.proofs.units.+label_river+label_run.Lts-label_run as label-run-lts
+use Rattle.rivers.proofs.units.+label_river+label_run.{statement}
+use Rattle.rivers.proofs.units.+label_river+label_run.Tie.{close}
+
+abbrev μ-label-river : Measures 4 label-river-kinds.ps ℕ
+μ-label-river κs a = measure (a .1 .0) (getD (a .1 .1 .1 .1 .1 .0 .now) (a .0) 0 + 1)
+
+abbrev μ-label-run : Measures 4 label-run-kinds.ps ℕ
+μ-label-run κs a = measure (a .1 .1 .1 .0) (a .1 .0 - a .0)
+
+abbrev label-river-at : ℕ → In 4 label-river-kinds.ps
+label-river-at t =
+    and 4 label-river-kinds.ps (is 4 label-river-kinds.ps μ-label-river t) label-river.Pre
+
+abbrev label-river-below : ℕ → In 4 label-river-kinds.ps
+label-river-below t =
+    and 4 label-river-kinds.ps (falls 4 label-river-kinds.ps _<_ μ-label-river t) label-river.Pre
+
+abbrev label-run-at : ℕ → In 4 label-run-kinds.ps
+label-run-at t = and 4 label-run-kinds.ps (is 4 label-run-kinds.ps μ-label-run t) label-run.Pre
+
+abbrev label-run-below : ℕ → In 4 label-run-kinds.ps
+label-run-below t =
+    and 4 label-run-kinds.ps (falls 4 label-run-kinds.ps _<_ μ-label-run t) label-run.Pre
+
+abbrev river-calls : ℕ → label-river-lts.Claims
+river-calls t = (label-run-below t, label-run.Post)
+
+abbrev run-calls : ℕ → label-run-lts.Claims
+run-calls t = (
+  fill-reads.Asked,
+  fill-reads.Learnt,
+  heaviest-reads.Asked,
+  heaviest-reads.Learnt,
+  key-at-reads.Asked,
+  key-at-reads.Learnt,
+  label-run-below t,
+  label-run.Post,
+  label-river-below t,
+  label-river.Post,
+)
+
+river-mul-end : (t : ℕ) → label-river-lts.Need-mul-end (river-calls t) (label-river-at t) label-river.Post
+river-mul-end t c = omega arith
+
+river-shared-slice-read-end : (t : ℕ) → label-river-lts.Need-shared-slice-read-end (river-calls t) (label-river-at t) label-river.Post
+river-shared-slice-read-end t c = omega (arith, c .before .before .before .before .before .pre .1 .1 .1 .0 .for-areas .sized)
+
+river-cast-end : (t : ℕ) → label-river-lts.Need-cast-end (river-calls t) (label-river-at t) label-river.Post
+river-cast-end t c = omega (arith, c .shared-slice-known4 .given (c .before .before .before .before .before .args .j))
+
+river-add-end : (t : ℕ) → label-river-lts.Need-add-end (river-calls t) (label-river-at t) label-river.Post
+river-add-end t c = omega (arith, c .before .before .before .before .before .pre .1 .1 .1 .0 .for-areas .within (c .before .before .before .before .before .args .j) (c .before .before .before .before .before .pre .1 .0))
+
+river-label-run-requires : (t : ℕ) → label-river-lts.Need-label-run-requires (river-calls t) (label-river-at t) label-river.Post
+river-label-run-requires t c κs =
+    let s = c .before .before .before .before .before .before in
+    let y = s .pre .1 .1 .1 .0 in
+    (rw (← s .pre .0) (measure-length _ (omega arith)), (river-unit (y .for-areas) (s .pre .1 .1 .0) (s .args .j) (s .pre .1 .0), (y, s .pre .1 .1 .1 .1)))
+
+river-same-length : (t : ℕ) → label-river-lts.Need-same-length (river-calls t) (label-river-at t) label-river.Post
+river-same-length t c = c .before .before .label-run .kept .1 .1 .1 .1 .1 .1 .1 .1 .1 .0
+
+river-returns : (t : ℕ) → label-river-lts.Need-returns (river-calls t) (label-river-at t) label-river.Post
+unfolding river-unit
+river-returns t c =
+    let s = c .before .before .before .before .before .before .before .before .before in
+    λ n. c .before .before .label-run .ensures (river-unit (s .pre .1 .1 .1 .0 .for-areas) n (s .args .j) (s .pre .1 .0))
+
+abbrev Inv : label-run-lts.InvT-loop
+Inv lo hi end digits prefix rule cell size area labels₀ key left number₀ start₀ j₀ labels number start j =
+    (length labels ≡ length labels₀)
+    × ((u : UnitAt cell size area (rule .split) (rule .least) end lo hi)
+    → Progress (u .of .network) (u .run) cell size end hi left prefix (unitLabelled (u .of .network) (u .run) digits prefix labels₀) labels number start j)
+
+abbrev μ : label-run-lts.MeasureT-loop
+μ lo hi end digits prefix rule cell size area labels₀ key left number₀ start₀ j₀ labels number start j = hi - j
+
+run-fill-requires : (t : ℕ) → label-run-lts.Need-fill-requires (run-calls t) (label-run-at t) label-run.Post Inv μ
+run-fill-requires t c κs =
+    let s = c .before .before .before .before .before .before in (omega (arith, s .pre .1 .0 .before-end, s .pre .1 .0 .end-within), s .pre .1 .1 .0 .for-labels .on)
+
+run-same-length : (t : ℕ) → label-run-lts.Need-same-length (run-calls t) (label-run-at t) label-run.Post Inv μ
+run-same-length t c = c .before .before .fill .kept .1 .1 .1 .1 .0
+
+run-returns : (t : ℕ) → label-run-lts.Need-returns (run-calls t) (label-run-at t) label-run.Post Inv μ
+run-returns t c = λ u. filled-zero (c .before .before .before .before .before .before .before .before .before .pre .1 .1 .0 .for-labels) u _ _ _ (c .before .before .fill .ensures) (c .before .before .before .before .if1 .taken)
+
+run-heaviest-requires : (t : ℕ) → label-run-lts.Need-heaviest-requires (run-calls t) (label-run-at t) label-run.Post Inv μ
+run-heaviest-requires t c κs =
+    let s = c .before .before .before .before .before in
+    let y = s .pre .1 .1 .0 in
+    (omega (arith, s .pre .1 .0 .before-end, s .pre .1 .0 .end-within), (y .for-areas, (y .split-some, y .split-most)))
+
+run-fill-requires-2 : (t : ℕ) → label-run-lts.Need-fill-requires-2 (run-calls t) (label-run-at t) label-run.Post Inv μ
+run-fill-requires-2 t c κs =
+    let s = c .before .before .before .before .before .before .before .before in (omega (arith, s .pre .1 .0 .before-end, s .pre .1 .0 .end-within), s .pre .1 .1 .0 .for-labels .on)
+
+run-same-length-2 : (t : ℕ) → label-run-lts.Need-same-length-2 (run-calls t) (label-run-at t) label-run.Post Inv μ
+run-same-length-2 t c = c .before .before .fill2 .kept .1 .1 .1 .1 .0
+
+run-returns-2 : (t : ℕ) → label-run-lts.Need-returns-2 (run-calls t) (label-run-at t) label-run.Post Inv μ
+run-returns-2 t c =
+    λ u. filled-finished (c .before .before .before .before .before .before .before .before .before .before .before .pre .1 .1 .0 .for-labels) u _ _ _ (c .before .before .fill2 .ensures) (c .before .before .before .before .before .heaviest .ensures u .finishes ∙ c .before .before .before .before .if2 .taken)
+
+run-sub-left : (t : ℕ) → label-run-lts.Need-sub-left (run-calls t) (label-run-at t) label-run.Post Inv μ
+run-sub-left t c = omega (arith, c .before .before .if1 .left)
+
+run-mul-number : (t : ℕ) → label-run-lts.Need-mul-number (run-calls t) (label-run-at t) label-run.Post Inv μ
+run-mul-number t c = omega (arith, room-fits _ _ (c .before .before .before .before .before .before .before .pre .1 .1 .1) (c .before .before .if1 .left))
+
+run-add-number : (t : ℕ) → label-run-lts.Need-add-number (run-calls t) (label-run-at t) label-run.Post Inv μ
+run-add-number t c = omega (arith, room-fits _ _ (c .before .before .before .before .before .before .before .pre .1 .1 .1) (c .before .before .if1 .left))
+
+run-loop-holds : (t : ℕ) → label-run-lts.Need-loop-holds (run-calls t) (label-run-at t) label-run.Post Inv μ
+run-loop-holds t c =
+    (refl, λ u. progress-none (c .before .before .before .before .before .before .before .pre .1 .1 .0 .for-areas) u (c .before .before .if1 .left) (c .before .heaviest .ensures u .finishes ∙ c .if2 .left) (c .before .before .before .before .before .before .before .pre .1 .1 .0 .split-most) refl)
+
+-- the position is within the layout, and so is its subtree
+on : (t : ℕ) (c : label-run-lts.In-loop (run-calls t) (label-run-at t) label-run.Post Inv μ) → c .before .loop .j < length (c .before .before .before .before .before .before .before .before .before .args .cell .now)
+on t c = omega (arith, c .before .before .before .before .before .before .before .before .before .pre .1 .0 .before-end, c .before .before .before .before .before .before .before .before .before .pre .1 .0 .end-within, c .loop-test .taken)
+
+within : (t : ℕ) (c : label-run-lts.In-loop (run-calls t) (label-run-at t) label-run.Post Inv μ) → c .before .loop .j + getD (c .before .before .before .before .before .before .before .before .before .args .size .now) (c .before .loop .j) 0 ≤ length (c .before .before .before .before .before .before .before .before .before .args .cell .now)
+within t c = c .before .before .before .before .before .before .before .before .before .pre .1 .1 .0 .for-areas .within (c .before .loop .j) (on t c)
+
+run-mul-s : (t : ℕ) → label-run-lts.Need-mul-s (run-calls t) (label-run-at t) label-run.Post Inv μ
+run-mul-s t c = omega (arith, on t c)
+
+run-shared-slice-read-s : (t : ℕ) → label-run-lts.Need-shared-slice-read-s (run-calls t) (label-run-at t) label-run.Post Inv μ
+run-shared-slice-read-s t c = omega (arith, on t (c .before), c .before .before .before .before .before .before .before .before .before .before .pre .1 .1 .0 .for-areas .sized)
+
+run-cast-s : (t : ℕ) → label-run-lts.Need-cast-s (run-calls t) (label-run-at t) label-run.Post Inv μ
+run-cast-s t c = omega (arith, c .shared-slice-known4 .given (c .before .before .loop .j))
+
+run-add-if3 : (t : ℕ) → label-run-lts.Need-add-if3 (run-calls t) (label-run-at t) label-run.Post Inv μ
+run-add-if3 t c = omega (arith, within t (c .before))
+
+run-add-j : (t : ℕ) → label-run-lts.Need-add-j (run-calls t) (label-run-at t) label-run.Post Inv μ
+run-add-j t c = omega (arith, on t (c .before .before))
+
+run-loop-less : (t : ℕ) → label-run-lts.Need-loop-less (run-calls t) (label-run-at t) label-run.Post Inv μ
+run-loop-less t c = omega (arith, c .before .before .loop-test .taken)
+
+run-loop-again : (t : ℕ) → label-run-lts.Need-loop-again (run-calls t) (label-run-at t) label-run.Post Inv μ
+run-loop-again t c =
+    (c .before .before .before .loop .inv .0, λ u. progress-stem (c .before .before .before .before .before .before .before .before .before .before .before .pre .1 .1 .0 .for-areas) u (c .before .before .loop-test .taken) (c .if3 .taken) (c .before .before .before .loop .inv .1 u))
+
+run-key-at-requires : (t : ℕ) → label-run-lts.Need-key-at-requires (run-calls t) (label-run-at t) label-run.Post Inv μ
+run-key-at-requires t c κs = (on t (c .before .before), c .before .before .before .before .before .before .before .before .before .before .before .pre .1 .1 .0 .for-areas .on (c .before .before .before .loop .j) (on t (c .before .before)))
+
+run-add-j-2 : (t : ℕ) → label-run-lts.Need-add-j-2 (run-calls t) (label-run-at t) label-run.Post Inv μ
+run-add-j-2 t c = omega (arith, within t (c .before .before .before .before))
+
+run-loop-less-2 : (t : ℕ) → label-run-lts.Need-loop-less-2 (run-calls t) (label-run-at t) label-run.Post Inv μ
+run-loop-less-2 t c = omega (arith, c .before .before .before .before .loop-test .taken, c .before .before .before .before .before .before .before .before .before .before .before .before .before .pre .1 .1 .0 .for-areas .some (c .before .before .before .before .before .loop .j) (on t (c .before .before .before .before)))
+
+run-loop-again-2 : (t : ℕ) → label-run-lts.Need-loop-again-2 (run-calls t) (label-run-at t) label-run.Post Inv μ
+run-loop-again-2 t c = (
+  c .before .before .before .before .before .loop .inv .0,
+  λ u.
+      progress-skip (c .before .before .before .before .before .before .before .before .before .before .before .before .before .pre .1 .1 .0 .for-areas) u (c .before .before .before .before .before .before .before .heaviest .ensures u) (c .before .before .before .before .loop-test .taken) (c .before .before .if3 .left) (c .before .key-at .ensures) (c .before .before .before .before .before .loop .inv .1 u) (c .if4 .taken),
+)
+
+-- at a mouth that is taken
+taking-room : (t : ℕ) (c : label-run-lts.Else4 (run-calls t) (label-run-at t) label-run.Post Inv μ) → c .before .before .before .before .before .loop .number + 2 ≤ c .before .before .before .before .before .before .before .before .before .before .before .before .before .args .prefix * 10 + 9
+taking-room t c =
+    let u = c .before .before .before .before .before .before .before .before .before .before .before .before .before .pre .1 .0 in progress-room (c .before .before .before .before .before .before .before .before .before .before .before .before .before .pre .1 .1 .0 .for-areas) u (c .before .before .before .before .before .before .before .heaviest .ensures u) (c .before .before .before .before .loop-test .taken) (c .before .before .if3 .left) (c .before .key-at .ensures) (c .before .before .before .before .before .loop .inv .1 u) (c .if4 .left)
+
+taking-unit : (t : ℕ) (c : label-run-lts.Else4 (run-calls t) (label-run-at t) label-run.Post Inv μ) → UnitAt (c .before .before .before .before .before .before .before .before .before .before .before .before .before .args .cell .now) (c .before .before .before .before .before .before .before .before .before .before .before .before .before .args .size .now) (c .before .before .before .before .before .before .before .before .before .before .before .before .before .args .area .now) (c .before .before .before .before .before .before .before .before .before .before .before .before .before .args .rule .split) (c .before .before .before .before .before .before .before .before .before .before .before .before .before .args .rule .least) (c .before .before .before .before .before .before .before .before .before .before .before .before .before .args .end) (c .before .before .before .before .before .loop .start) (c .before .before .before .before .before .loop .j)
+taking-unit t c =
+    let u = c .before .before .before .before .before .before .before .before .before .before .before .before .before .pre .1 .0 in progress-unit (c .before .before .before .before .before .before .before .before .before .before .before .before .before .pre .1 .1 .0 .for-areas) u (c .before .before .before .before .before .before .before .heaviest .ensures u) (c .before .before .before .before .loop-test .taken) (c .before .before .if3 .left) (c .before .key-at .ensures) (c .before .before .before .before .before .loop .inv .1 u) (c .if4 .left)
+
+run-label-run-requires : (t : ℕ) → label-run-lts.Need-label-run-requires (run-calls t) (label-run-at t) label-run.Post Inv μ
+run-label-run-requires t c κs =
+    let s = c .before .before .before .before .before .before .before .before .before .before .before .before .before .before in
+    let d = c .before .before .before .before .before .before .before .before .before .if1 .left in (
+      rw (← s .pre .0) (measure-digit _ _ _ _ (omega (arith, d)) (omega (arith, on t (c .before .before .before .before .before)))),
+      (taking-unit t (c .before), (places-at (c .before .before .before .before .before .before .loop .inv .0) (s .pre .1 .1 .0), room-step _ _ _ _ (s .pre .1 .1 .1) (omega (arith, d)) (omega (arith, taking-room t (c .before))))),
+    )
+
+run-add-label-river : (t : ℕ) → label-run-lts.Need-add-label-river (run-calls t) (label-run-at t) label-run.Post Inv μ
+run-add-label-river t c = omega (arith, taking-room t (c .before .before .before .before), room-fits _ _ (c .before .before .before .before .before .before .before .before .before .before .before .before .before .before .before .before .before .pre .1 .1 .1) (c .before .before .before .before .before .before .before .before .before .before .before .before .if1 .left))
+
+run-label-river-requires : (t : ℕ) → label-run-lts.Need-label-river-requires (run-calls t) (label-run-at t) label-run.Post Inv μ
+run-label-river-requires t c κs =
+    let s = c .before .before .before .before .before .before .before .before .before .before .before .before .before .before .before .before .before .before in
+    let d = c .before .before .before .before .before .before .before .before .before .before .before .before .before .if1 .left in (
+      rw (← s .pre .0) (measure-digit _ _ _ _ (omega (arith, d)) (omega (arith, within t (c .before .before .before .before .before .before .before .before .before)))),
+      (
+        on t (c .before .before .before .before .before .before .before .before .before),
+        (
+          s .pre .1 .0 .of,
+          (
+            places-at (c .before .before .before .label-run .kept .1 .1 .1 .1 .1 .1 .1 .1 .1 .0 ∙ c .before .before .before .before .before .before .before .before .before .before .loop .inv .0) (s .pre .1 .1 .0),
+            room-step _ _ _ _ (s .pre .1 .1 .1) (omega (arith, d)) (omega (arith, taking-room t (c .before .before .before .before .before))),
+          ),
+        ),
+      ),
+    )
+
+run-add-number-2 : (t : ℕ) → label-run-lts.Need-add-number-2 (run-calls t) (label-run-at t) label-run.Post Inv μ
+run-add-number-2 t c = omega (arith, taking-room t (c .before .before .before .before .before .before .before .before), room-fits _ _ (c .before .before .before .before .before .before .before .before .before .before .before .before .before .before .before .before .before .before .before .before .before .pre .1 .1 .1) (c .before .before .before .before .before .before .before .before .before .before .before .before .before .before .before .before .if1 .left))
+
+run-add-j-3 : (t : ℕ) → label-run-lts.Need-add-j-3 (run-calls t) (label-run-at t) label-run.Post Inv μ
+run-add-j-3 t c = omega (arith, within t (c .before .before .before .before .before .before .before .before .before .before .before .before), c .before .before .before .before .before .before .before .before .before .before .before .before .before .before .before .before .before .before .before .before .before .good .1 .1 .1 .1 .1 .1 .0)
+
+run-loop-less-3 : (t : ℕ) → label-run-lts.Need-loop-less-3 (run-calls t) (label-run-at t) label-run.Post Inv μ
+run-loop-less-3 t c = omega (arith, c .before .before .before .before .before .before .before .before .before .before .before .before .loop-test .taken, c .before .before .before .before .before .before .before .before .before .before .before .before .before .before .before .before .before .before .before .before .before .pre .1 .1 .0 .for-areas .some (c .before .before .before .before .before .before .before .before .before .before .before .before .before .loop .j) (on t (c .before .before .before .before .before .before .before .before .before .before .before .before)))
+
+run-loop-again-3 : (t : ℕ) → label-run-lts.Need-loop-again-3 (run-calls t) (label-run-at t) label-run.Post Inv μ
+run-loop-again-3 t c =
+    let e = c .before .before .before .before .before .before .before .before in (
+      c .before .before .label-river .kept .1 .1 .1 .1 .1 .1 .1 .0 ∙ c .before .before .before .before .before .before .label-run .kept .1 .1 .1 .1 .1 .1 .1 .1 .1 .0 ∙ c .before .before .before .before .before .before .before .before .before .before .before .before .before .loop .inv .0,
+      λ u.
+          progress-take (e .before .before .before .before .before .before .before .before .before .before .before .before .before .pre .1 .1 .0 .for-areas) u (e .before .before .before .before .before .before .before .heaviest .ensures u) (e .before .before .before .before .loop-test .taken) (e .before .before .if3 .left) (e .before .key-at .ensures) (e .before .before .before .before .before .loop .inv .1 u) (e .if4 .left)
+          (c .before .before .before .before .before .before .label-run .ensures) (c .before .before .label-river .ensures),
+    )
+
+-- after the last mouth that is taken
+last-room : (t : ℕ) (c : label-run-lts.After-loop (run-calls t) (label-run-at t) label-run.Post Inv μ) → c .before .loop .number ≤ c .before .before .before .before .before .before .before .before .before .args .prefix * 10 + 9
+last-room t c =
+    let u = c .before .before .before .before .before .before .before .before .before .pre .1 .0 in progress-last-room (c .before .before .before .before .before .before .before .before .before .pre .1 .1 .0 .for-areas) u (c .loop-test .left) (c .before .loop .inv .1 u)
+
+run-label-run-requires-2 : (t : ℕ) → label-run-lts.Need-label-run-requires-2 (run-calls t) (label-run-at t) label-run.Post Inv μ
+run-label-run-requires-2 t c κs =
+    let s = c .before .before .before .before .before .before .before .before .before .before in
+    let d = c .before .before .before .before .before .if1 .left in (
+      rw (← s .pre .0) (measure-digit _ _ _ _ (omega (arith, d)) (omega arith)),
+      (
+        progress-last-unit (s .pre .1 .1 .0 .for-areas) (s .pre .1 .0) (c .before .loop-test .left) (c .before .before .loop .inv .1 (s .pre .1 .0)),
+        (places-at (c .before .before .loop .inv .0) (s .pre .1 .1 .0), room-step _ _ _ _ (s .pre .1 .1 .1) (omega (arith, d)) (last-room t (c .before))),
+      ),
+    )
+
+run-same-length-3 : (t : ℕ) → label-run-lts.Need-same-length-3 (run-calls t) (label-run-at t) label-run.Post Inv μ
+run-same-length-3 t c = c .before .before .label-run2 .kept .1 .1 .1 .1 .1 .1 .1 .1 .1 .0 ∙ c .before .before .before .before .before .loop .inv .0
+
+run-returns-3 : (t : ℕ) → label-run-lts.Need-returns-3 (run-calls t) (label-run-at t) label-run.Post Inv μ
+run-returns-3 t c =
+    λ u. progress-last (c .before .before .before .before .before .before .before .before .before .before .before .before .before .pre .1 .1 .0 .for-areas) u (c .before .before .before .before .loop-test .left) (c .before .before .before .before .before .loop .inv .1 u) (c .before .before .label-run2 .ensures)
+
+pub +label-river+label-run-spec : {M : Type 1} → statement M
++label-river+label-run-spec = close μ-label-river μ-label-run (λ t. label-river-lts.spec (river-calls t)
+    (label-river-at t)
+    label-river.Post
+    (river-mul-end t)
+    (river-shared-slice-read-end t)
+    (river-cast-end t)
+    (river-add-end t)
+    (river-label-run-requires t)
+    (river-same-length t)
+    (river-returns t))
+    λ t. label-run-lts.spec (run-calls t)
+    (label-run-at t)
+    label-run.Post
+    Inv
+    μ
+    (run-fill-requires t)
+    (run-same-length t)
+    (run-returns t)
+    (run-heaviest-requires t)
+    (run-fill-requires-2 t)
+    (run-same-length-2 t)
+    (run-returns-2 t)
+    (run-sub-left t)
+    (run-mul-number t)
+    (run-add-number t)
+    (run-loop-holds t)
+    (run-mul-s t)
+    (run-shared-slice-read-s t)
+    (run-cast-s t)
+    (run-add-if3 t)
+    (run-add-j t)
+    (run-loop-less t)
+    (run-loop-again t)
+    (run-key-at-requires t)
+    (run-add-j-2 t)
+    (run-loop-less-2 t)
+    (run-loop-again-2 t)
+    (run-label-run-requires t)
+    (run-add-label-river t)
+    (run-label-river-requires t)
+    (run-add-number-2 t)
+    (run-add-j-3 t)
+    (run-loop-less-3 t)
+    (run-loop-again-3 t)
+    (run-label-run-requires-2 t)
+    (run-same-length-3 t)
+    (run-returns-3 t)

@@ -1,0 +1,4 @@
+pub mod Layout
+pub mod Labelled
+pub mod UnitAt
+pub mod Cut

@@ -1,0 +1,3 @@
+// Rivers: the labelling of units and rivers over a layout.
+pub mod heaviest;
+pub mod units;

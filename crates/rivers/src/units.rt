@@ -1,0 +1,115 @@
+// The labelling of units and rivers, which call each other.
+ghost use Prim.Native.Nat.{ℕ, _+_, _-_, _≤_, _<_};
+ghost use mathlib.Core.Path.{_≡_};
+ghost use lib.ListN.{length, getD};
+ghost use Rattle.sheet.specs.River.{river};
+ghost use Rattle.sheet.specs.Label.{holds, label, number};
+ghost use Rattle.rivers.specs.Labelled.{relabelled, unitLabelled, stands, Room};
+ghost use Rattle.rivers.specs.UnitAt.{NetworkOf, UnitAt, Places};
+use crate::heaviest::Rule;
+use crate::heaviest::heaviest;
+use crate::heaviest::key_at;
+
+// Gives the cells at positions lo to hi the same label.
+fn fill(lo: usize, hi: usize, prefix: u64, cell: &[u32], labels: &mut [u64])
+    requires { ⌜ hi ≤ length (now cell) ⌝ }
+    requires { ⌜ ((j : ℕ) → j < length (now cell) → getD (now cell) j 0 < length (now labels)) ⌝ }
+    ensures { λ _. ⌜ now (labels .exit) ≡ relabelled (stands (now (cell .entry)) lo (hi - lo)) (λ c. prefix) (now (labels .entry)) ⌝ }
+{
+    let mut j = lo;
+    while j < hi {
+        let at = cell[j] as usize;
+        labels[at] = prefix;
+        j += 1;
+    }
+}
+
+// Labels the cells of the unit at positions lo to hi of a river that ends at `end`, with at most `digits` digits after `prefix`.
+fn label_run(
+    lo: usize,
+    hi: usize,
+    end: usize,
+    digits: usize,
+    prefix: u64,
+    rule: Rule,
+    cell: &[u32],
+    size: &[u32],
+    area: &[u32],
+    labels: &mut [u64],
+)
+    requires { ⌜ UnitAt (now cell) (now size) (now area) (rule .split) (rule .least) end lo hi ⌝ }
+    requires { ⌜ Places (now cell) (now size) (length (now area)) (length (now labels)) (rule .split) ⌝ }
+    requires { ⌜ Room prefix digits ⌝ }
+    ensures { λ _. ⌜ ((u : UnitAt (now (cell .entry)) (now (size .entry)) (now (area .entry)) (rule .split) (rule .least) end lo hi) → now (labels .exit) ≡ unitLabelled (u .of .network) (u .run) digits prefix (now (labels .entry))) ⌝ }
+{
+    if digits == 0 {
+        fill(lo, hi, prefix, cell, labels);
+        return;
+    }
+    let cut = heaviest(lo, hi, end, rule, cell, size, area);
+    if cut.finished {
+        fill(lo, hi, prefix, cell, labels);
+        return;
+    }
+    let key = cut.key;
+    let left = digits - 1;
+    let mut number = prefix * 10 + 1;
+    let mut start = lo;
+    let mut j = lo;
+    while j < hi {
+        let s = size[j] as usize;
+        if j + s == end {
+            j += 1;
+        } else if key_at(j, cell, area) < key {
+            j += s;
+        } else {
+            label_run(start, j, end, left, number, rule, cell, size, area, labels);
+            label_river(j, left, number + 1, rule, cell, size, area, labels);
+            number += 2;
+            j += s;
+            start = j;
+        }
+    }
+    label_run(start, hi, end, left, number, rule, cell, size, area, labels);
+}
+
+// Labels the cells of the river whose mouth stands at position j.
+pub fn label_river(
+    j: usize,
+    digits: usize,
+    prefix: u64,
+    rule: Rule,
+    cell: &[u32],
+    size: &[u32],
+    area: &[u32],
+    labels: &mut [u64],
+)
+    requires { ⌜ j < length (now cell) ⌝ }
+    requires { ⌜ NetworkOf (now cell) (now size) (now area) (rule .split) (rule .least) ⌝ }
+    requires { ⌜ Places (now cell) (now size) (length (now area)) (length (now labels)) (rule .split) ⌝ }
+    requires { ⌜ Room prefix digits ⌝ }
+    ensures { λ _. ⌜ ((n : NetworkOf (now (cell .entry)) (now (size .entry)) (now (area .entry)) (rule .split) (rule .least)) → now (labels .exit) ≡ unitLabelled (n .network) (river (n .network) (getD (now (cell .entry)) j 0)) digits prefix (now (labels .entry))) ⌝ }
+{
+    let end = j + size[j] as usize;
+    label_run(j, end, end, digits, prefix, rule, cell, size, area, labels);
+}
+
+// Labels the cells of the river whose mouth stands first in the layout, to the depth given.
+pub fn label_basin(
+    depth: usize,
+    split: usize,
+    least: u32,
+    cell: &[u32],
+    size: &[u32],
+    area: &[u32],
+    labels: &mut [u64],
+)
+    requires { ⌜ depth ≤ 18 ⌝ }
+    requires { ⌜ 0 < length (now cell) ⌝ }
+    requires { ⌜ NetworkOf (now cell) (now size) (now area) split least ⌝ }
+    requires { ⌜ Places (now cell) (now size) (length (now area)) (length (now labels)) split ⌝ }
+    ensures { λ _. ⌜ ((n : NetworkOf (now (cell .entry)) (now (size .entry)) (now (area .entry)) split least) → now (labels .exit) ≡ relabelled (holds (n .network) (river (n .network) (getD (now (cell .entry)) 0 0))) (λ c. number (label (n .network) depth (river (n .network) (getD (now (cell .entry)) 0 0)) c)) (now (labels .entry))) ⌝ }
+{
+    let rule = Rule { split, least };
+    label_river(0, depth, 0, rule, cell, size, area, labels);
+}

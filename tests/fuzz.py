@@ -1,0 +1,229 @@
+#!/usr/bin/env python3
+"""Compares the program with tests/reference.py, byte for byte, on made sheets and damaged files.
+
+The input goes through a pipe in pieces cut at odd places. Seeded: the same --seed and --files make the same files.
+Prints each difference with the file that shows it, and at the end 'N passed, M failed'."""
+import argparse
+import os
+import random
+import subprocess
+import sys
+import time
+
+sys.path.insert(0, os.path.dirname(os.path.abspath(__file__)))
+import reference
+
+CODES = list(reference.STEPS)
+SIZE_NAMES = [b'rows', b'cols', b'depth']
+CELL_NAMES = [b'row', b'col', b'dir']
+
+
+# Sheets, as lists of direction bytes.
+
+def neighbours(rows, cols, cell):
+    """Pairs (neighbour, code of its step onto the cell)."""
+    row, col = divmod(cell, cols)
+    for code, (row_step, col_step) in reference.STEPS.items():
+        r, c = row - row_step, col - col_step
+        if 0 <= r < rows and 0 <= c < cols:
+            yield r * cols + c, code
+
+
+def outward(rng, rows, cols, cell, dirs):
+    """A code whose step from the cell leaves the sheet or ends on an outside cell."""
+    inward = {code for other, code in neighbours(rows, cols, cell)}
+    row, col = divmod(cell, cols)
+    leaving = []
+    for code, (row_step, col_step) in reference.STEPS.items():
+        r, c = row + row_step, col + col_step
+        if not (0 <= r < rows and 0 <= c < cols) or dirs[r * cols + c] == 0:
+            leaving.append(code)
+    return rng.choice(leaving) if leaving else rng.choice(sorted(inward))
+
+
+def grown(rng, rows, cols):
+    """A basin grown from its outlet: by the newest cell, by any cell, or by filling a cell's neighbours first."""
+    n = rows * cols
+    dirs = [0] * n
+    outlet = rng.randrange(n)
+    if rng.random() < 0.7:
+        outlet = rng.choice([c for c in range(n) if c < cols or c % cols == 0])
+    dirs[outlet] = outward(rng, rows, cols, outlet, dirs)
+    end = None
+    row, col = divmod(outlet, cols)
+    row_step, col_step = reference.STEPS[dirs[outlet]]
+    if 0 <= row + row_step < rows and 0 <= col + col_step < cols:
+        end = (row + row_step) * cols + col + col_step  # stays outside
+    style = rng.choice(['newest', 'any', 'oldest'])
+    wanted = rng.randint(1, n)
+    border = [outlet]
+    count = 1
+    while border and count < wanted:
+        at = {'newest': -1, 'any': rng.randrange(len(border)), 'oldest': 0}[style]
+        cell = border[at]
+        free = [(other, code) for other, code in neighbours(rows, cols, cell) if dirs[other] == 0 and other != end]
+        if not free:
+            border.pop(at)
+            continue
+        other, code = rng.choice(free)
+        dirs[other] = code
+        border.append(other)
+        count += 1
+    return dirs
+
+
+def comb(rng, rows, cols):
+    """A river along row 0 with a tributary from each column: many equal areas."""
+    return [16 if cell < cols else 64 for cell in range(rows * cols)]
+
+
+def snake(rng, rows, cols):
+    dirs = []
+    for row in range(rows):
+        for col in range(cols):
+            first = col == 0 if row % 2 == 0 else col == cols - 1
+            dirs.append(64 if first else 16 if row % 2 == 0 else 1)
+    return dirs
+
+
+def northwest(rng, rows, cols):
+    """Each cell flows west, northwest or north, by chance."""
+    return [16 if cell < cols else 64 if cell % cols == 0 else rng.choice([16, 32, 64]) for cell in range(rows * cols)]
+
+
+def by_chance(rng, rows, cols):
+    """Any codes: circles and many outlets."""
+    share = rng.random()
+    return [rng.choice(CODES) if rng.random() < share else 0 for _ in range(rows * cols)]
+
+
+def spoiled(rng, rows, cols):
+    """A basin with one or two bytes changed: a circle, a second outlet, a cell taken out."""
+    dirs = grown(rng, rows, cols)
+    for _ in range(rng.randint(1, 2)):
+        dirs[rng.randrange(rows * cols)] = rng.choice(CODES + [0])
+    return dirs
+
+
+SHAPES = [grown, grown, grown, comb, snake, northwest, by_chance, spoiled, spoiled]
+
+
+# Files.
+
+def line(values):
+    return b','.join(value if isinstance(value, bytes) else b'%d' % value for value in values)
+
+
+def sheet_lines(rng):
+    rows, cols = rng.choice([(rng.randint(1, 6), rng.randint(1, 6)), (rng.randint(1, 12), rng.randint(1, 12)),
+                             (rng.randint(1, 45), rng.randint(1, 45)), (1, rng.randint(1, 256)), (rng.randint(1, 256), rng.randint(1, 8))])
+    if rows * cols > reference.LENT and rng.random() < 0.8:
+        rows, cols = 32, 64
+    depth = rng.choice([1, 2, 3, 4, 6, 18, rng.randint(1, 18)])
+    dirs = rng.choice(SHAPES)(rng, rows, cols)
+    sizes = dict(zip(SIZE_NAMES, (rows, cols, depth)))
+    size_names, cell_names = rng.sample(SIZE_NAMES, 3), rng.sample(CELL_NAMES, 3)
+    cells = []
+    for cell, code in enumerate(dirs):
+        if code != 0 or rng.random() < 0.1:
+            cells.append(dict(zip(CELL_NAMES, (cell // cols, cell % cols, code))))
+    if rng.random() < 0.3:
+        rng.shuffle(cells)
+    return [line(size_names), line(sizes[name] for name in size_names), line(cell_names)] + [line(cell[name] for name in cell_names) for cell in cells]
+
+
+def damaged(rng, lines):
+    """Lines with one thing wrong, or that may be wrong."""
+    lines = list(lines)
+    at = rng.randrange(len(lines)) if rng.random() < 0.6 else rng.randrange(min(4, len(lines)))
+    kind = rng.randrange(9)
+    if kind == 0:
+        lines[at] = lines[rng.randrange(len(lines))]
+    elif kind == 1:
+        lines.insert(at, rng.choice([b'', b',', b'0,0,0', b'0,0,1', b'row,col,dir', b'rows,cols,depth', b'1' * 80, b'1' * 81, b' ']))
+    elif kind == 2:
+        del lines[at]
+    elif kind == 3:
+        text = bytearray(lines[at])
+        for _ in range(rng.randint(1, 3)):
+            place = rng.randrange(len(text) + 1)
+            text[place:place + rng.randint(0, 1)] = bytes([rng.choice([32, 13, 44, 45, 46, 48, 49, 57, 0, 9, 47, 58, 255, rng.randrange(256)])])
+        lines[at] = bytes(text)
+    elif kind == 4:
+        fields = lines[at].split(b',')
+        fields[rng.randrange(len(fields))] = rng.choice([b'0', b'00', b'01', b'19', b'256', b'257', b'99999', b'100000', b'3', b'128', b'255', b'', b'-1', b'+1', b'1 ', b' 1'])
+        lines[at] = b','.join(fields)
+    elif kind == 5:
+        lines = lines[:at]
+    elif kind == 6:
+        lines.append(rng.choice(lines))
+    elif kind == 7:
+        fields = lines[at].split(b',')
+        rng.shuffle(fields)
+        lines[at] = b','.join(fields[:rng.randint(1, 3)] + [b'7'] * rng.randint(0, 1))
+    else:
+        lines[at] = lines[at].upper() if rng.random() < 0.5 else lines[at] + b'\r'
+    return lines
+
+
+def a_file(rng):
+    if rng.random() < 0.02:
+        return bytes(rng.randrange(256) for _ in range(rng.randint(0, 300)))
+    lines = sheet_lines(rng)
+    if rng.random() < 0.45:
+        lines = damaged(rng, lines)
+    data = b'\n'.join(lines)
+    ends = rng.random()
+    return data + (b'\n' if ends < 0.7 else b'' if ends < 0.97 else b'\n\n')
+
+
+# Running.
+
+def pieces(rng, data):
+    """The input cut at odd places; few cuts, so that a run of many files stays short."""
+    cuts = sorted({rng.randrange(len(data) + 1) for _ in range(rng.choice([0, 1, 2, 5, 17]))})
+    return [data[a:b] for a, b in zip([0] + cuts, cuts + [len(data)]) if a < b]
+
+
+def run(program, rng, data):
+    process = subprocess.Popen([program], stdin=subprocess.PIPE, stdout=subprocess.PIPE, stderr=subprocess.PIPE)
+    waits = rng.random() < 0.1
+    try:
+        for piece in pieces(rng, data):
+            os.write(process.stdin.fileno(), piece)
+            if waits:
+                time.sleep(0.0005)
+    except BrokenPipeError:
+        pass
+    out, err = process.communicate()
+    return out, err
+
+
+def main():
+    parser = argparse.ArgumentParser(description=__doc__, formatter_class=argparse.RawDescriptionHelpFormatter)
+    parser.add_argument('--files', type=int, default=1000)
+    parser.add_argument('--seed', type=int, default=1)
+    parser.add_argument('--program', default=os.path.join(os.path.dirname(os.path.abspath(__file__)), '..', 'target', 'bin', 'pfafstetter'))
+    options = parser.parse_args()
+    passed = failed = 0
+    kinds = {}
+    for number in range(options.files):
+        rng = random.Random(options.seed * 1000003 + number)
+        data = a_file(rng)
+        expected = reference.report(data)
+        out, err = run(options.program, rng, data)
+        kind = expected.split(b'\n')[1].split(b',')[0].decode() if expected.startswith(b'refused') else 'listing'
+        kinds[kind] = kinds.get(kind, 0) + 1
+        if out == expected and err == b'':
+            passed += 1
+            continue
+        failed += 1
+        if failed <= 5:
+            print('file %d differs:\n input %r\n expected %r\n printed %r\n error %r' % (number, data[:2000], expected[:500], out[:500], err[:200]))
+    print('answers: ' + ', '.join('%s %d' % item for item in sorted(kinds.items())))
+    print('%d passed, %d failed' % (passed, failed))
+    return 0 if failed == 0 and passed > 0 else 1
+
+
+if __name__ == '__main__':
+    sys.exit(main())

@@ -100,12 +100,30 @@ const STEPS: [Step; 8] = [
     },
 ];
 
+// The k-th step of the table. Each entry is named by its number: compiled, that is a look-up in fixed memory, where an index that is
+// not known would have the table built anew at each call.
+fn step_at(k: usize) -> Step
+    requires { ⌜ k < 8 ⌝ }
+    ensures { λ r. ⌜ r ≡ stepAt k ⌝ }
+{
+    match k {
+        0 => STEPS[0],
+        1 => STEPS[1],
+        2 => STEPS[2],
+        3 => STEPS[3],
+        4 => STEPS[4],
+        5 => STEPS[5],
+        6 => STEPS[6],
+        _ => STEPS[7],
+    }
+}
+
 // The step of a code; of any other byte, the step that stays in place.
 pub fn step_of(code: u8) -> Step
     ensures { λ r. ⌜ r ≡ stepOf code ⌝ }
 {
     for k in 0..8 {
-        let s = STEPS[k];
+        let s = step_at(k);
         if s.code == code {
             return s;
         }
@@ -179,10 +197,11 @@ pub fn donor_at(dirs: &[u8], rows: usize, cols: usize, row: usize, col: usize, k
     requires { ⌜ Sized rows cols (now dirs) × OnSheet rows cols row col × (k < 8) ⌝ }
     ensures { λ r. ⌜ r ≡ donorAgainst (grid rows cols (now (dirs .entry))) row col k ⌝ }
 {
-    match step_end(rows, cols, row, col, STEPS[(k + 4) % 8]) {
+    let back = step_at((k + 4) % 8);
+    match step_end(rows, cols, row, col, back) {
         End::Off => End::Off,
         End::At(t) => {
-            let s = STEPS[k];
+            let s = step_at(k);
             if dirs[t] == s.code {
                 End::At(t)
             } else {

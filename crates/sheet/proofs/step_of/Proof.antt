@@ -20,16 +20,14 @@ loop-holds : tie.Need-loop-holds Inv-loop μ-loop
 unfolding stepOf
 loop-holds c = (omega arith, refl)
 
-mul-s : tie.Need-mul-s Inv-loop μ-loop
-mul-s c = search needs
-
-array-copy-out-s : tie.Need-array-copy-out-s Inv-loop μ-loop
-array-copy-out-s c = search needs
+step-at-requires : tie.Need-step-at-requires Inv-loop μ-loop
+step-at-requires c κs = search needs
 
 returns : tie.Need-returns Inv-loop μ-loop
 returns c =
     let l = c .before .before .before .before .loop in
-    sym (l .inv .1 ∙ step-in (l .k) _ (omega arith) ∙ simp (eq-eqb _ _ (c .if1 .taken)))
+    let e = c .before .before .step-at .ensures in
+    e ∙ sym (l .inv .1 ∙ step-in (l .k) _ (omega arith) ∙ simp (eq-eqb _ _ (rw e at (c .if1 .taken))))
 
 add-k : tie.Need-add-k Inv-loop μ-loop
 add-k c = search needs
@@ -40,7 +38,8 @@ loop-less c = search needs
 loop-again : tie.Need-loop-again Inv-loop μ-loop
 loop-again c =
     let l = c .before .before .before .before .loop in
-    (omega arith, l .inv .1 ∙ step-in (l .k) _ (omega arith) ∙ simp (ne-eqb _ _ (c .if1 .left)))
+    let e = c .before .before .step-at .ensures in
+    (omega arith, l .inv .1 ∙ step-in (l .k) _ (omega arith) ∙ simp (ne-eqb _ _ (rw e at (c .if1 .left))))
 
 returns-2 : tie.Need-returns-2 Inv-loop μ-loop
 unfolding stepIn
@@ -50,4 +49,4 @@ returns-2 c =
 
 pub step-of-spec : {M : Type 1} → statement M
 step-of-spec =
-    tie.close (tie.spec Inv-loop μ-loop loop-holds mul-s array-copy-out-s returns add-k loop-less loop-again returns-2)
+    tie.close (tie.spec Inv-loop μ-loop loop-holds step-at-requires returns add-k loop-less loop-again returns-2)

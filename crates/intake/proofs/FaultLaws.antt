@@ -5,11 +5,12 @@ use mathlib.Core.List.{List, [], _∷_}
 use Prim.Native.Nat.{ℕ, _<_, _≤_}
 use native.Mathlib.Omega.{arith}
 use lib.Dec.{leb, ltb, eqb}
-use borrow.Author.Tests.{leb-true, ltb-true, le-leb, lt-leb, eqb-true}
+use borrow.Author.Tests.{leb-true, ltb-true, eqb-true}
 use Rattle.sheet.specs.declared.Step.{Step}
 use Rattle.sheet.specs.Direction.{steps, stepIn, stepOf, isCode}
 use Rattle.sheet.specs.Refusal.{both, within, sizesFit, depthFits}
 use Rattle.sheet.proofs.Cells.{cells-most, cell-lt}
+use Rattle.sheet.proofs.Within.{within-both}
 use Rattle.intake.specs.declared.Sizes.{Sizes}
 use Rattle.intake.specs.declared.Cell.{Cell}
 use Rattle.intake.specs.Faults.{cellCount, sizesFault, onSheet, cellNumber, cellFault}
@@ -22,21 +23,6 @@ both-true false b e = absurd (false≢true e)
 passed : (t : Bool) (rest number : ℕ) → 0 < number → cond t rest number ≡ 0 → (t ≡ true) × (rest ≡ 0)
 passed true rest number some e = (refl, e)
 passed false rest number some e = absurd (omega arith)
-
--- ---- from 1 to most
-
-module _ (most x : ℕ) where
-  pub within-below : x < 1 → within most x ≡ false
-  unfolding within
-  within-below h = rw (lt-leb 1 x h)
-
-  pub within-from : 1 ≤ x → within most x ≡ leb x most
-  unfolding within
-  within-from h = rw (le-leb 1 x h)
-
-  within-both : within most x ≡ true → (1 ≤ x) × (x ≤ most)
-  unfolding within
-  within-both e = let w = both-true (leb 1 x) (leb x most) e in (leb-true 1 x (w .0), leb-true x most (w .1))
 
 pub rows-cols-most : (rows cols : ℕ) → sizesFit rows cols ≡ true → (rows ≤ 256) × (cols ≤ 256)
 unfolding sizesFit

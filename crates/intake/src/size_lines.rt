@@ -5,7 +5,6 @@ ghost use Prim.Native.Nat.{_≤_};
 ghost use lib.ListN.{length, drop, replicate};
 ghost use Rattle.lines.specs.Values.{valuesLine};
 ghost use Rattle.lines.specs.declared.values.ValuesLine.{ValuesLine};
-ghost use Rattle.sheet.specs.Refusal.{within, sizesFit, depthFits};
 ghost use Rattle.intake.specs.Faults.{sizesIn, sizesFault};
 ghost use Rattle.intake.specs.Intake.{onSizes};
 use super::Outcome;
@@ -18,31 +17,8 @@ use lines::names::Columns;
 use lines::values::Values;
 use lines::values::ValuesLine;
 use lines::values::value_of;
-
-// From 1 to most.
-fn is_within(most: usize, x: usize) -> bool
-    ensures { λ r. ⌜ r ≡ within most x ⌝ }
-{
-    if x < 1 {
-        return false;
-    }
-    x <= most
-}
-
-fn sizes_fit(rows: usize, cols: usize) -> bool
-    ensures { λ r. ⌜ r ≡ sizesFit rows cols ⌝ }
-{
-    if is_within(256, rows) {
-        return is_within(256, cols);
-    }
-    false
-}
-
-fn depth_fits(depth: usize) -> bool
-    ensures { λ r. ⌜ r ≡ depthFits depth ⌝ }
-{
-    is_within(18, depth)
-}
+use sheet::depth_fits;
+use sheet::sizes_fit;
 
 // The refusal of sizes by 1, 2, 3, or 0, where `lent` direction bytes are lent.
 pub fn sizes_fault(sizes: Sizes, lent: usize) -> u8

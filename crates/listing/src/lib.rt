@@ -4,11 +4,11 @@ ghost use Prim.Native.Nat.{_+_, _*_, _≤_};
 ghost use lib.ListN.{length};
 ghost use Rattle.decimal.specs.Text.{decimalText};
 ghost use Rattle.sheet.specs.Sheet.{grid};
-ghost use Rattle.sheet.specs.Refusal.{sizesFit};
 ghost use Rattle.listing.specs.Listing.{field, cellLine, linesBelow};
 ghost use Rattle.listing.specs.Writing.{listingInto, refusalInto};
 ghost use Rattle.listing.specs.Steps.{Listable, Put};
 use decimal::Written;
+use sheet::sizes_fit;
 
 // The answer of a call that writes a text: the count of its bytes, or document 01's number of a refusal.
 pub enum Listing {
@@ -120,22 +120,6 @@ fn put_lines(
         );
     }
     next
-}
-
-// Whether a sheet has 1 to 256 rows and columns.
-fn sizes_fit(rows: usize, cols: usize) -> bool
-    ensures { λ r. ⌜ r ≡ sizesFit rows cols ⌝ }
-{
-    if rows < 1 {
-        return false;
-    }
-    if 256 < rows {
-        return false;
-    }
-    if cols < 1 {
-        return false;
-    }
-    cols <= 256
 }
 
 // Writes the listing to the start of a buffer.

@@ -122,16 +122,20 @@ fn step_at(k: usize) -> Step
 pub fn step_of(code: u8) -> Step
     ensures { λ r. ⌜ r ≡ stepOf code ⌝ }
 {
-    for k in 0..8 {
-        let s = step_at(k);
-        if s.code == code {
-            return s;
-        }
-    }
-    Step {
-        code: 0,
-        row: 0,
-        col: 0,
+    match code {
+        1 => STEPS[0],
+        2 => STEPS[1],
+        4 => STEPS[2],
+        8 => STEPS[3],
+        16 => STEPS[4],
+        32 => STEPS[5],
+        64 => STEPS[6],
+        128 => STEPS[7],
+        _ => Step {
+            code: 0,
+            row: 0,
+            col: 0,
+        },
     }
 }
 

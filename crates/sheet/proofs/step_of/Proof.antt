@@ -1,52 +1,104 @@
--- `step_of` meets its contract: what is left of the table has the step, as the whole table has.
-use mathlib.Core.Path.{_≡_, refl, sym, _∙_}
-use Prim.Native.Nat.{_≤_, _-_}
-use native.Mathlib.Omega.{arith}
+-- `step_of` meets its contract: code by code.
+use mathlib.Core.Path.{_≡_, refl, sym}
+use mathlib.Core.Bool.{false}
+use mathlib.Core.Logic.{_≢_}
+use Prim.Native.Nat.{ℕ}
+use lib.Dec.{eqb}
 use borrow.Author.Needs.{needs}
-use borrow.Author.Tests.{eq-eqb, ne-eqb}
-use lib.ListN.{drop}
-use Rattle.sheet.specs.Direction.{steps, stepIn, stepOf}
-use Rattle.sheet.proofs.Steps.{step-in}
+use borrow.Author.Tests.{ne-eqb}
+use Rattle.sheet.specs.Direction.{noStep, stepOf}
 use Rattle.sheet.proofs.step_of.Statement.{statement}
 use Rattle.sheet.proofs.step_of.Tie as tie
+use Rattle.sheet.proofs.step_of.Reads as reads
+use Rattle.sheet.proofs.step_of.Lts as lts
 
-abbrev Inv-loop : tie.InvT-loop
-Inv-loop code k₀ k = (k ≤ 8) × (stepOf code ≡ stepIn (drop k steps) code)
+other : {a b : ℕ} → b ≢ a → eqb a b ≡ false
+other {a} {b} n = ne-eqb a b (λ e. n (sym e))
 
-abbrev μ-loop : tie.MeasureT-loop
-μ-loop code k₀ k = 8 - k
-
-loop-holds : tie.Need-loop-holds Inv-loop μ-loop
+-- a byte that is none of the eight codes has the step that stays in place
+no-step : (b : ℕ) → b ≢ 1 → b ≢ 2 → b ≢ 4 → b ≢ 8 → b ≢ 16 → b ≢ 32 → b ≢ 64 → b ≢ 128 → noStep ≡ stepOf b
 unfolding stepOf
-loop-holds c = (omega arith, refl)
+no-step b s t u v w x y z = rw (other s, other t, other u, other v, other w, other x, other y, other z)
 
-step-at-requires : tie.Need-step-at-requires Inv-loop μ-loop
-step-at-requires c κs = search needs
+array-copy-out-result : tie.Need-array-copy-out-result
+array-copy-out-result c = search needs
 
-returns : tie.Need-returns Inv-loop μ-loop
-returns c =
-    let l = c .before .before .before .before .loop in
-    let e = c .before .before .step-at .ensures in
-    e ∙ sym (l .inv .1 ∙ step-in (l .k) _ (omega arith) ∙ simp (eq-eqb _ _ (rw e at (c .if1 .taken))))
+array-copy-out-result-2 : tie.Need-array-copy-out-result-2
+array-copy-out-result-2 c = search needs
 
-add-k : tie.Need-add-k Inv-loop μ-loop
-add-k c = search needs
+array-copy-out-result-3 : tie.Need-array-copy-out-result-3
+array-copy-out-result-3 c = search needs
 
-loop-less : tie.Need-loop-less Inv-loop μ-loop
-loop-less c = search needs
+array-copy-out-result-4 : tie.Need-array-copy-out-result-4
+array-copy-out-result-4 c = search needs
 
-loop-again : tie.Need-loop-again Inv-loop μ-loop
-loop-again c =
-    let l = c .before .before .before .before .loop in
-    let e = c .before .before .step-at .ensures in
-    (omega arith, l .inv .1 ∙ step-in (l .k) _ (omega arith) ∙ simp (ne-eqb _ _ (rw e at (c .if1 .left))))
+array-copy-out-result-5 : tie.Need-array-copy-out-result-5
+array-copy-out-result-5 c = search needs
 
-returns-2 : tie.Need-returns-2 Inv-loop μ-loop
-unfolding stepIn
-returns-2 c =
-    let e : c .before .loop .k ≡ 8 = omega arith in
-    sym (rw e at (c .before .loop .inv .1))
+array-copy-out-result-6 : tie.Need-array-copy-out-result-6
+array-copy-out-result-6 c = search needs
+
+array-copy-out-result-7 : tie.Need-array-copy-out-result-7
+array-copy-out-result-7 c = search needs
+
+array-copy-out-result-8 : tie.Need-array-copy-out-result-8
+array-copy-out-result-8 c = search needs
+
+returns : tie.Need-returns
+unfolding stepOf
+returns c = rw (c .before .match .keys1) refl
+
+returns-2 : tie.Need-returns-2
+unfolding stepOf
+returns-2 c = rw (c .before .match .keys2) refl
+
+returns-3 : tie.Need-returns-3
+unfolding stepOf
+returns-3 c = rw (c .before .match .keys3) refl
+
+returns-4 : tie.Need-returns-4
+unfolding stepOf
+returns-4 c = rw (c .before .match .keys4) refl
+
+returns-5 : tie.Need-returns-5
+unfolding stepOf
+returns-5 c = rw (c .before .match .keys5) refl
+
+returns-6 : tie.Need-returns-6
+unfolding stepOf
+returns-6 c = rw (c .before .match .keys6) refl
+
+returns-7 : tie.Need-returns-7
+unfolding stepOf
+returns-7 c = rw (c .before .match .keys7) refl
+
+returns-8 : tie.Need-returns-8
+unfolding stepOf
+returns-8 c = rw (c .before .match .keys8) refl
+
+returns-9 : tie.Need-returns-9
+returns-9 c =
+    let r = c .match .rest in
+    no-step (c .before .args .code) (r .0 .0 .0 .0 .0 .0 .0 .1) (r .0 .0 .0 .0 .0 .0 .1) (r .0 .0 .0 .0 .0 .1) (r .0 .0 .0 .0 .1) (r .0 .0 .0 .1) (r .0 .0 .1) (r .0 .1) (r .1)
 
 pub step-of-spec : {M : Type 1} → statement M
 step-of-spec =
-    tie.close (tie.spec Inv-loop μ-loop loop-holds step-at-requires returns add-k loop-less loop-again returns-2)
+    tie.close
+    (tie.spec
+    array-copy-out-result
+    array-copy-out-result-2
+    array-copy-out-result-3
+    array-copy-out-result-4
+    array-copy-out-result-5
+    array-copy-out-result-6
+    array-copy-out-result-7
+    array-copy-out-result-8
+    returns
+    returns-2
+    returns-3
+    returns-4
+    returns-5
+    returns-6
+    returns-7
+    returns-8
+    returns-9)

@@ -1,3 +1,4 @@
 pub mod Labels
 pub mod Steps
 pub mod Calls
+pub mod Demand

@@ -1,0 +1,113 @@
+-- The most bytes that a report can have.
+use mathlib.Core.Path.{_≡_, refl, ap, _∙_}
+use mathlib.Core.Bool.{Bool, true, false}
+use mathlib.Core.List.{List, [], _∷_}
+use Prim.Native.Nat.{ℕ, suc, _+_, _*_, _^_, _<_, _≤_}
+use native.Mathlib.Nat.{pow-le-pow-right, mul-le-mul-right}
+use native.Mathlib.Omega.{arith}
+use lib.Dec.{eqb}
+use lib.ListN.{length, length-append}
+use Rattle.sheet.specs.declared.Outcome.the-variants.{Accepted as Labelled}
+use Rattle.sheet.specs.Sheet.{Sheet, cells, inside}
+use Rattle.sheet.specs.Area.{area}
+use Rattle.sheet.specs.Label.{areasOf, labelOf, labelDigits, labelsOf}
+use Rattle.sheet.specs.Refusal.{Lent, written, outcome}
+use Rattle.sheet.proofs.Cells.{cells-most}
+use Rattle.sheet.proofs.Digits.{number-bound}
+use Rattle.intake.specs.declared.Intake.{Intake}
+use Rattle.intake.proofs.Laws.{line-length}
+use Rattle.claims.proofs.Counts.{count-le}
+use Rattle.claims.proofs.GridLaws.{area-most}
+use Rattle.claims.proofs.Sheets.{accepted-passed}
+use Rattle.claims.proofs.Written.{length-list, written-at, one-to-nine, at-most-depth, depth-most}
+use Rattle.labelling.specs.Labelling.{sheet}
+use Rattle.lines.specs.Fields.{longer}
+use Rattle.listing.specs.Listing.{listingText, refusalText}
+use Rattle.listing.specs.Writing.{textInto, accepted}
+use Rattle.listing.proofs.Answers.{rows-cols-most, text-into}
+use Rattle.listing.proofs.Lengths.{refusal-most, listing-written, listing-most-18-digits}
+use Rattle.reading.specs.Lines.{linesOf}
+use Rattle.reading.specs.Report.{report}
+use Rattle.reading.specs.Conditions.{Takes, takes-none, takes-line, Ending, line-refused, end-refused, labelling-refused, listed}
+use Rattle.reading.proofs.Numbers.{line-number, end-number, label-number}
+use Rattle.reading.proofs.ReportLaws.{dirs-long}
+use Rattle.reading.proofs.Endings.{report-ending}
+
+-- ---- lines
+
+longer-length : (b : ℕ) (ls : List (List ℕ)) → length (longer b ls) ≤ suc (length ls)
+longer-length b [] = omega arith
+longer-length b (l ∷ ls) = omega arith
+
+-- a file has at most as many lines as bytes
+pub lines-most : (bytes : List ℕ) → length (linesOf bytes) ≤ length bytes
+unfolding linesOf
+lines-most [] = omega arith
+lines-most (b ∷ s) = go (eqb b 10) refl (lines-most s)
+  where
+    go : (t : Bool) → eqb b 10 ≡ t → length (linesOf s) ≤ length s → length (linesOf (b ∷ s)) ≤ suc (length s)
+    go true e h = rw e (omega arith)
+    go false e h = rw e (omega (arith, longer-length b (linesOf s)))
+
+takes-length : {i j : Intake} {dirs d : List ℕ} {lines : List (List ℕ)} → Takes i dirs lines j d → length d ≡ length dirs
+takes-length takes-none = refl
+takes-length (takes-line {i} {j} {dirs} line e t) = takes-length t ∙ line-length i line dirs
+
+-- ---- the listing of an accepted sheet
+
+module _ (S : Sheet) (L : Lent) (accepted : outcome S L ≡ Labelled) where
+  area-small : cells (S .grid) ≤ 65536 → (c : ℕ) → area (S .grid) c ≤ 65536
+  unfolding area
+  area-small most c = go (inside (S .grid) c) refl
+    where
+      go : (t : Bool) → inside (S .grid) c ≡ t → area (S .grid) c ≤ 65536
+      go true e = omega (arith, area-most (S .grid) c e, count-le (cells (S .grid)) (inside (S .grid)))
+      go false e = rw e (omega arith)
+
+  label-small : (c : ℕ) → labelOf S c < 10 ^ 18
+  unfolding labelOf
+  label-small c = go (inside (S .grid) c) refl
+    where
+      go : (t : Bool) → inside (S .grid) c ≡ t → labelOf S c < 10 ^ 18
+      go true e =
+          let few : length (labelDigits S c) ≤ 18 = omega (arith, at-most-depth S L accepted c, depth-most S L accepted) in
+          rw e (omega (arith, number-bound (labelDigits S c) (one-to-nine S L accepted c e), pow-le-pow-right {n = 10} (omega arith) few))
+      go false e = rw e (omega arith)
+
+  pub listed-most : length (listingText (S .grid) (areasOf (S .grid)) (labelsOf S)) ≤ 19 + cells (S .grid) * 33
+  unfolding areasOf labelsOf
+  listed-most =
+      let n = cells (S .grid) in
+      let most = rows-cols-most (S .grid .rows) (S .grid .cols) (accepted-passed S L accepted .sizes) in
+      rw (← listing-written (S .grid) (areasOf (S .grid)) (labelsOf S) [] [] (length-list (area (S .grid)) 0 n) (length-list (labelOf S) 0 n))
+      (listing-most-18-digits (S .grid) (written (areasOf (S .grid)) []) (written (labelsOf S) []) (most .0) (most .1)
+      (λ c l. rw (written-at (area (S .grid)) n c [] l) (area-small (cells-most (most .0) (most .1)) c))
+      (λ c l. rw (written-at (labelOf S) n c [] l) (label-small c)))
+
+-- ---- the report
+
+module _ (dirs : List ℕ) (L : Lent) (bytes : List ℕ) (few : length bytes < 18446744073709551615) (most : ℕ) (refusal : 39 ≤ most) (listing : 19 + length dirs * 33 ≤ most) where
+  refusal-fits : (number place : ℕ) → number ≤ 15 → place < 2 ^ 64 → length (refusalText number place) ≤ most
+  refusal-fits number place h g = omega (arith, refusal-most number place (omega arith) g)
+
+  ending-most : (text : List ℕ) → Ending dirs L bytes text → length text ≤ most
+  ending-most text (line-refused before after line i d number parts t r is) =
+      rw is
+      (refusal-fits number (suc (length before)) (line-number i line d number r)
+      (omega (arith, lines-most bytes, ap length parts ∙ length-append before (line ∷ after))))
+  ending-most text (end-refused i d number t r is) = rw is (refusal-fits number (suc (length (linesOf bytes))) (end-number i number r) (omega (arith, lines-most bytes)))
+  ending-most text (labelling-refused i d z number place t e o is) =
+      let small = label-number (sheet (z .rows) (z .cols) (z .depth) d) L number place o in
+      rw is (refusal-fits number place (small .0) (omega (arith, small .1)))
+  ending-most text (listed i d z t e o is) =
+      let S : Sheet = sheet (z .rows) (z .cols) (z .depth) d in
+      let room : cells (S .grid) ≤ length dirs = omega (arith, dirs-long S L o, takes-length t) in
+      rw is (omega (arith, listed-most S L o, mul-le-mul-right 33 room))
+
+  pub report-most : length (report dirs L bytes) ≤ most
+  report-most = ending-most (report dirs L bytes) (report-ending dirs L bytes)
+
+-- the program lends 2,048 direction bytes and a buffer of 19 + 2,048 × 33 bytes: no report is longer
+pub program-report : (dirs : List ℕ) (L : Lent) (bytes buffer : List ℕ) → length bytes < 18446744073709551615 → length dirs ≡ 2048 → length buffer ≡ 67603 → textInto (report dirs L bytes) buffer ≡ accepted (report dirs L bytes) buffer
+program-report dirs L bytes buffer few lent room =
+    text-into (report dirs L bytes) buffer (rw room (report-most dirs L bytes few 67603 (omega arith) (omega arith)))

@@ -1,0 +1,55 @@
+-- `feed_byte` meets its contract.
+use borrow.Author.Tests.{eq-eqb, ne-eqb, lt-ltb, le-ltb}
+use Rattle.reading.specs.Feed.{keepByte, byteAfter}
+use borrow.Author.Needs.{needs}
+use Rattle.reading.proofs.feed_byte.Statement.{statement}
+use Rattle.reading.proofs.feed_byte.Tie as tie
+
+enum-told : tie.Need-enum-told
+enum-told c = search needs
+
+enum-told-2 : tie.Need-enum-told-2
+enum-told-2 c = search needs
+
+returns : tie.Need-returns
+unfolding byteAfter
+returns c = simp (c .enum-told2 .given .1)
+
+line-end-requires : tie.Need-line-end-requires
+line-end-requires c κs = search needs
+
+same-length : tie.Need-same-length
+same-length c = search needs
+
+returns-2 : tie.Need-returns-2
+unfolding byteAfter
+returns-2 c = simp (c .before .before .before .before .before .before .enum-told .given .1, eq-eqb _ _ (c .before .before .before .before .before .if1 .taken), c .before .before .line-end .ensures)
+
+element-write-line : tie.Need-element-write-line
+element-write-line c = search needs
+
+add-t14 : tie.Need-add-t14
+add-t14 c = search needs
+
+returns-3 : tie.Need-returns-3
+unfolding byteAfter keepByte
+returns-3 c = simp (c .before .before .before .enum-told .given .1, ne-eqb _ _ (c .before .before .if1 .left), lt-ltb _ _ (c .if2 .taken))
+
+returns-4 : tie.Need-returns-4
+unfolding byteAfter keepByte
+returns-4 c = simp (c .before .before .before .enum-told .given .1, ne-eqb _ _ (c .before .before .if1 .left), le-ltb _ _ (c .if2 .left))
+
+pub feed-byte-spec : {M : Type 1} → statement M
+feed-byte-spec =
+    tie.close
+    (tie.spec
+    enum-told
+    enum-told-2
+    returns
+    line-end-requires
+    same-length
+    returns-2
+    element-write-line
+    add-t14
+    returns-3
+    returns-4)

@@ -1,0 +1,51 @@
+-- A file's lines, and what the intake makes of them.
+use mathlib.Core.Bool.{cond}
+use mathlib.Core.List.{List, [], _∷_}
+use Prim.Native.Nat.{ℕ, suc}
+use lib.Dec.{eqb}
+use Rattle.intake.specs.declared.Intake.{Intake}
+use Rattle.intake.specs.declared.Outcome.{Outcome}
+use Rattle.intake.specs.declared.Outcome.the-variants.{Accepted as Took, Refused as RefusedBy}
+use Rattle.intake.specs.Intake.{After, lineAfter, endTaken, newIntake}
+use Rattle.lines.specs.Fields.{longer}
+use Rattle.reading.specs.declared.Read.{Read}
+use Rattle.reading.specs.declared.Read.the-variants.{Refused, Ended}
+
+-- The bytes of a file parted at each line feed, byte 10. The last line may lack its line feed: "a" and "a" with a line feed are one
+-- line, a line feed alone is an empty line, and no bytes are no line.
+unfoldable pub linesOf : List ℕ → List (List ℕ)
+linesOf [] = []
+linesOf (b ∷ s) =
+    let later : List (List ℕ) = linesOf s in
+    cond (eqb b 10) ([] ∷ later) (longer b later)
+
+-- what reading a file leaves: how it ended, and the direction bytes
+pub record FileRead : Type 0 where
+  pub read : Read
+  pub dirs : List ℕ
+
+abbrev pub refusedRead : ℕ → ℕ → List ℕ → FileRead
+refusedRead number place dirs = record { read = Refused number place; dirs = dirs }
+
+-- go on where a line or an end was accepted; else it was refused with a number
+unfoldable pub onOutcome : {A : Type 0} → Outcome → A → (ℕ → A) → A
+onOutcome Took next refused = next
+onOutcome (RefusedBy number) next refused = refused number
+
+-- the end of the file; if it is refused, then at the place
+unfoldable pub endAfter : Intake → ℕ → Read
+unfolding onOutcome
+endAfter i place = onOutcome (endTaken i .outcome) (Ended (endTaken i .intake)) (λ number. Refused number place)
+
+-- The lines after n lines, and the end: "Place is the line number, from 1, if the intake refused a line; lines read plus 1 if it
+-- refused the end".
+unfoldable pub readFrom : Intake → ℕ → List ℕ → List (List ℕ) → FileRead
+unfolding onOutcome
+readFrom i n dirs [] = record { read = endAfter i (suc n); dirs = dirs }
+readFrom i n dirs (line ∷ lines) =
+    let a : After = lineAfter i line dirs in
+    onOutcome (a .taken .outcome) (readFrom (a .taken .intake) (suc n) (a .dirs) lines) (λ number. refusedRead number (suc n) (a .dirs))
+
+-- a whole file, where these direction bytes are lent
+unfoldable pub readFile : List ℕ → List ℕ → FileRead
+readFile dirs bytes = readFrom newIntake 0 dirs (linesOf bytes)

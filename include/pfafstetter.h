@@ -1,4 +1,4 @@
-/* The C interface of the catchment coding core: Pfafstetter labels of a single river basin. README.md says what the numbers mean.
+/* The C interface: Pfafstetter labels of a single river basin. README.md says what the numbers mean.
    A slice is a pointer and the number of its places; no place beyond that number is touched. The slices of one call must not overlap. */
 #ifndef PFAFSTETTER_H
 #define PFAFSTETTER_H

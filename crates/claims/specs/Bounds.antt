@@ -24,7 +24,7 @@ pub record NeverComes (G : Grid) (c : ℕ) : Type 0 where
   pub is-inside : inside G c ≡ true
   pub never : ¬ ComesToOutlet G c
 
--- the fuel of the tests is enough, on every grid
+-- to follow water for as many cells as the sheet has (the fuel of the tests) is enough, on every grid
 pub record FuelIsEnough (G : Grid) : Type 0 where
   pub passes-is : (q p : ℕ) → inside G q ≡ true → (passes (next G) (cells G) q p ≡ true) ↔ Passes (next G) q p
   pub undrained-is : (c : ℕ) → (undrained G c ≡ true) ↔ NeverComes G c

@@ -1,4 +1,4 @@
-// The calls for hosts in C, Rust and Python; include/pfafstetter.h declares them. Each only calls proved functions.
+// The calls for hosts in C and in languages that call C; include/pfafstetter.h declares them. Each only calls proved functions.
 use sheet::Outcome;
 ghost use mathlib.Core.Path.{_≡_};
 ghost use Prim.Native.Nat.{_<_};

@@ -2,3 +2,4 @@ pub mod Labels
 pub mod Steps
 pub mod Calls
 pub mod Demand
+pub mod Cases

@@ -1,5 +1,5 @@
 // Reads a grid file from standard input and prints its report on standard output: the listing of its sheet, or the two lines after a
-// refusal. It only moves bytes: what is printed is the report that crate reading proves.
+// refusal. It only moves bytes: the report is written by crate reading, whose contract fixes it.
 use listing::Listing;
 use reading::Read;
 use reading::Reader;
@@ -78,14 +78,14 @@ fn print_report(
     }
 }
 
-// 2,048 direction bytes, areas and labels are lent, 8 work places a cell, and 40 bytes of text a cell beside the heading.
+// 2,048 direction bytes, areas and labels are lent, 8 work places a cell, and 33 bytes of text a cell beside the heading.
 fn main() {
     let mut line = [0u8; 80];
     let mut dirs = [0u8; 2048];
     let mut areas = [0u32; 2048];
     let mut labels = [0u64; 2048];
     let mut work = [0u32; 16384];
-    let mut out = [0u8; 81939];
+    let mut out = [0u8; 67603];
     match read_all(&mut line, &mut dirs) {
         Input::End(reader) => {
             let read = reader.finish(&line, &mut dirs);

@@ -18,7 +18,7 @@ pub record Case : Type 0 where
 abbrev case : List ℕ → List ℕ → Case
 case computed stated = record { computed = computed; stated = stated }
 
--- sample A at a depth
+-- sample A: rows, columns and directions
 abbrev pub sampleA : Grid
 sampleA = grid 3 4 (0 ∷ 4 ∷ 16 ∷ 8 ∷ 16 ∷ 16 ∷ 16 ∷ 16 ∷ 64 ∷ 64 ∷ 32 ∷ 64 ∷ [])
 

@@ -70,7 +70,7 @@ unfoldable pub stepEnd : ℕ → ℕ → ℕ → ℕ → Step → End
 unfolding movedBy cellAt
 stepEnd rows cols row col s = cellAt cols (movedBy row (s .row) rows) (movedBy col (s .col) cols)
 
--- a row or a column of at most 256, and a step of at most one
+-- a row or a column below 256, and a step of at most one
 pub record Near (at : ℕ) (z : ℤ) : Type 0 where
   pub small : at < 256
   pub short : mag z < 2

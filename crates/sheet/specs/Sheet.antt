@@ -89,7 +89,7 @@ pub record OnSheet (rows cols row col : ℕ) : Type 0 where
   pub row-on : row < rows
   pub col-on : col < cols
 
--- a sheet of 1 to 256 rows and columns, with a byte for each cell
+-- a sheet of at most 256 rows and 1 to 256 columns, with a byte for each cell
 pub record Sized (rows cols : ℕ) (dirs : List ℕ) : Type 0 where
   pub rows-most : rows ≤ 256
   pub cols-most : cols ≤ 256

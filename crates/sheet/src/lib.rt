@@ -32,7 +32,7 @@ pub enum Found {
     Nothing,
 }
 
-// What a search looks for: a byte that is none of the nine codes, an inside cell, an inside cell that a search upstream
+// What a search in reading order looks for, be it a fault or not: a byte that is none of the nine codes, an inside cell, an inside cell that a search upstream
 // did not reach, an outlet from a cell on.
 pub enum Fault {
     BadCode,

@@ -172,7 +172,7 @@ module _ (N : Network) where
 
 module _ {N : Network} {heavier : ℕ → ℕ → Bool} (O : Lawful N heavier) (root : ℕ) (depth : ℕ) (p q : ℕ)
     (p-in : Passes (N .next) p root) (q-in : Passes (N .next) q root) where
-  -- (c) at any depth: does q pass the outlet of the unit that p's label names?
+  -- at any depth: does q pass the outlet of the unit that p's label names?
   pub outlet-rule : (label N depth (river N root) p ≡ label N depth (river N root) q)
       ⊎ (Parted (label N depth (river N root) p) (label N depth (river N root) q)
       × (Passes (N .next) q (unitOutlet N depth (river N root) p) ↔ Rule (label N depth (river N root) p) (label N depth (river N root) q)))
@@ -182,7 +182,7 @@ module _ {N : Network} {heavier : ℕ → ℕ → Bool} (O : Lawful N heavier) (
       depth (river N root) q (river-headed O root) (river-covers O root p p-in) (river-covers O root q q-in)))
       [ inl e ↦ inl e | inr k ↦ inr (k .0, k .1 tt) ]
 
-  -- (a) does q pass p? The unit of p must be finished
+  -- does q pass p? The unit of p must be finished
   module _ (ends : (R : Run) → finished N R ≡ true → (v : ℕ) → MouthOf R v → ⊥) where
     pub cell-rule : (label N depth (river N root) p ≡ label N depth (river N root) q)
         ⊎ (Parted (label N depth (river N root) p) (label N depth (river N root) q)

@@ -26,7 +26,7 @@ pub record OneOutlet (next : ℕ → Next) (inside : ℕ → Type 0) (digits : �
 pub record DemandThree (next : ℕ → Next) (inside : ℕ → Type 0) (depth : ℕ) (digits : ℕ → List ℕ) : Type 0 where
   -- every two different labels of inside cells part
   pub labels-part : (p q : ℕ) → inside p → inside q → digits p ≢ digits q → (i : ℕ) × PartAt (digits p) (digits q) i
-  -- water from q passes p exactly if, where their labels part, p's digit is smaller and p's digits from there on are all odd, for labels of p that were not cut
+  -- water from q passes p exactly if, where their labels part, p's digit is smaller and p's digits from there on are all odd; for a label of p that is shorter than the depth
   pub cell-rule : (p q : ℕ) → inside p → inside q → length (digits p) < depth
       → (i : ℕ) → PartAt (digits p) (digits q) i → Passes next q p ↔ RuleAt (digits p) (digits q) i
   -- the cells that share leading digits drain, through cells that share them, to exactly one of them

@@ -13,8 +13,7 @@ use Rattle.claims.specs.Bounds.{sum}
 use Rattle.claims.proofs.Basins.{lawful}
 use Rattle.drainage.specs.Work.{sizeAt}
 use Rattle.drainage.specs.Total.{size}
-use Rattle.order.specs.declared.donors.Donors.{Donors}
-use Rattle.order.specs.Keys.{keyIn, cellOf, keysOf, Holds}
+use Rattle.order.specs.Keys.{keyIn, cellOf, Holds}
 use Rattle.order.specs.Positions.{Consecutive, none}
 use Rattle.order.specs.Places.{positionAt, positioned, Measured, Fitting, Standing, DonorsPlaced}
 use Rattle.order.proofs.Sizes.{size-adds}

@@ -1,25 +1,21 @@
 // Positions in the order along rivers, and the cell and the size at each.
-use crate::donors::Donors;
 use crate::donors::donors_of;
 ghost use mathlib.Core.Path.{_≡_};
 ghost use Prim.Native.Nat.{_+_, _*_, _<_, _≤_};
 ghost use lib.ListN.{length, set};
 ghost use Rattle.sheet.specs.Sheet.{grid};
 ghost use Rattle.drainage.specs.Work.{placed};
-ghost use Rattle.order.specs.Keys.{keysOf};
 ghost use Rattle.order.specs.Places.{positionAt, Measured, Surveyed, positioned, Fitting, Standing, DonorsPlaced, Placed, entered, Apart, Entered, Arranged};
 
-// Gives donors positions one after the other from `first` on.
-fn place_donors(n: usize, first: u32, d: Donors, work: &mut [u32])
-    requires { ⌜ (d .count ≤ 8) × Fitting n first (keysOf d) (now work) ⌝ }
-    ensures { λ _. ⌜ now (work .exit) ≡ positioned n first (keysOf d) (now (work .entry)) ⌝ }
+// Gives the cells of keys positions one after the other from `first` on.
+fn place_donors(n: usize, first: u32, keys: &[u64], work: &mut [u32])
+    requires { ⌜ Fitting n first (now keys) (now work) ⌝ }
+    ensures { λ _. ⌜ now (work .exit) ≡ positioned n first (now (keys .entry)) (now (work .entry)) ⌝ }
 {
-    let keys = d.keys;
-    let count = d.count;
     let sizes = 3 * n;
     let positions = 4 * n;
     let mut at = first;
-    for k in 0..count {
+    for k in 0..keys.len() {
         let cell = (keys[k] % 65536) as usize;
         let size = work[sizes + cell];
         work[positions + cell] = at;
@@ -45,8 +41,9 @@ fn place_upstream(
         return;
     }
     let first = work[4 * n + cell] + 1;
-    let d = donors_of(dirs, rows, cols, areas, cell);
-    place_donors(n, first, d, work);
+    let mut keys = [0u64; 8];
+    let count = donors_of(dirs, rows, cols, areas, cell, &mut keys);
+    place_donors(n, first, &keys[..count], work);
 }
 
 // Gives the outlet, which stands first in the queue, the first position.

@@ -1,14 +1,15 @@
 use mathlib.Core.Path.{_≡_, refl, sym, _∙_}
 use Prim.Native.Nat.{ℕ, _-_, _≤_, _<_, _*_, _+_, _^_}
 use native.Mathlib.Omega.{arith}
+use native.Mathlib.Numerals.{add-one}
 use mathlib.Core.List.{_∷_, List·Memᴰ·head}
-use lib.ListN.{length, getD, take, drop, length-set}
+use lib.ListN.{length, getD, drop, length-set}
+use lib.Seq.{drop-cons, drop-length}
 use borrow.Author.Needs.{needs}
 use Rattle.claims.specs.Bounds.{sum}
 use Rattle.drainage.specs.Work.{sizeAt}
-use Rattle.order.specs.Keys.{cellOf, keysOf}
+use Rattle.order.specs.Keys.{cellOf}
 use Rattle.order.specs.Places.{positioned, Fitting}
-use Rattle.order.proofs.Insertion.{rest-at, rest-none}
 use Rattle.order.proofs.Placing.{fitting-next}
 use Rattle.order.proofs.positions.place_donors.Statement.{statement}
 use Rattle.order.proofs.positions.place_donors.Tie as tie
@@ -16,105 +17,102 @@ use Rattle.order.proofs.positions.place_donors.Reads as reads
 use Rattle.order.proofs.positions.place_donors.Lts as lts
 
 abbrev Inv-loop : tie.InvT-loop
-Inv-loop n first work₀ keys count sizes positions at₀ k₀ work at k =
-    (k ≤ count) × (length work ≡ length work₀) × Fitting n at (drop k (take count keys)) work
-    × (positioned n at (drop k (take count keys)) work ≡ positioned n first (take count keys) work₀)
+Inv-loop n first keys work₀ sizes positions at₀ k₀ k-end work at k =
+    (k ≤ length keys) × (length work ≡ length work₀) × Fitting n at (drop k keys) work
+    × (positioned n at (drop k keys) work ≡ positioned n first keys work₀)
 
 abbrev μ-loop : tie.MeasureT-loop
-μ-loop n first work₀ keys count sizes positions at₀ k₀ work at k = count - k
-
--- the array holds eight keys
-long : (c : tie.In-loop Inv-loop μ-loop) → length (c .before .before .before .args .d .keys) ≡ 8
-long c = search needs
+μ-loop n first keys work₀ sizes positions at₀ k₀ k-end work at k = length keys - k
 
 -- the key at the place k, and those after it
-rest : (c : tie.In-loop Inv-loop μ-loop) → drop (c .before .loop .k) (keysOf (c .before .before .before .args .d)) ≡ getD (c .before .before .before .args .d .keys) (c .before .loop .k) 0 ∷ drop (c .before .loop .k + 1) (keysOf (c .before .before .before .args .d))
-rest c = rest-at (c .before .before .before .args .d .count) (c .before .before .before .args .d .keys) (c .before .loop .k) (omega (arith, long c, c .before .before .before .pre .0)) (c .loop-test .taken)
+rest : (c : tie.In-loop Inv-loop μ-loop) → drop (c .before .loop .k) (c .before .before .args .keys .now) ≡ getD (c .before .before .args .keys .now) (c .before .loop .k) 0 ∷ drop (c .before .loop .k + 1) (c .before .before .args .keys .now)
+rest c = rw (add-one (c .before .loop .k)) (drop-cons (c .before .before .args .keys .now) (c .before .loop .k) 0 (c .loop-test .taken))
 
-fitted : (c : tie.In-loop Inv-loop μ-loop) → Fitting (c .before .before .before .args .n) (c .before .loop .at) (getD (c .before .before .before .args .d .keys) (c .before .loop .k) 0 ∷ drop (c .before .loop .k + 1) (keysOf (c .before .before .before .args .d))) (c .before .loop .work)
+fitted : (c : tie.In-loop Inv-loop μ-loop) → Fitting (c .before .before .args .n) (c .before .loop .at) (getD (c .before .before .args .keys .now) (c .before .loop .k) 0 ∷ drop (c .before .loop .k + 1) (c .before .before .args .keys .now)) (c .before .loop .work)
 fitted c = rw (rest c) at (c .before .loop .inv .2)
 
-on : (c : tie.In-loop Inv-loop μ-loop) → cellOf (getD (c .before .before .before .args .d .keys) (c .before .loop .k) 0) < c .before .before .before .args .n
+on : (c : tie.In-loop Inv-loop μ-loop) → cellOf (getD (c .before .before .args .keys .now) (c .before .loop .k) 0) < c .before .before .args .n
 on c = fitted c .on _ (List·Memᴰ·head refl)
 
-fits : (c : tie.In-loop Inv-loop μ-loop) → c .before .loop .at + sizeAt (c .before .before .before .args .n) (c .before .loop .work) (cellOf (getD (c .before .before .before .args .d .keys) (c .before .loop .k) 0)) < 2 ^ 32
+fits : (c : tie.In-loop Inv-loop μ-loop) → c .before .loop .at + sizeAt (c .before .before .args .n) (c .before .loop .work) (cellOf (getD (c .before .before .args .keys .now) (c .before .loop .k) 0)) < 2 ^ 32
 unfolding sum
 fits c = let f = fitted c .fits in omega arith
 
--- src/positions.rt:18:17
+-- src/positions.rt:15:17
 mul-sizes : tie.Need-mul-sizes Inv-loop μ-loop
 mul-sizes c = search needs
 
--- src/positions.rt:19:21
+-- src/positions.rt:16:21
 mul-positions : tie.Need-mul-positions Inv-loop μ-loop
 mul-positions c = search needs
 
--- src/positions.rt:21:5
+-- src/positions.rt:18:5
 loop-holds : tie.Need-loop-holds Inv-loop μ-loop
-loop-holds c = (omega arith, refl, c .before .pre .1, refl)
+loop-holds c = (omega arith, refl, c .pre, refl)
 
--- src/positions.rt:22:21
+-- src/positions.rt:19:21
 mul-cell : tie.Need-mul-cell Inv-loop μ-loop
 mul-cell c = search needs
 
--- src/positions.rt:22:21
-array-read-cell : tie.Need-array-read-cell Inv-loop μ-loop
-array-read-cell c = search needs
+-- src/positions.rt:19:21
+shared-slice-read-cell : tie.Need-shared-slice-read-cell Inv-loop μ-loop
+shared-slice-read-cell c = search needs
 
--- src/positions.rt:23:25
+-- src/positions.rt:20:25
 add-size : tie.Need-add-size Inv-loop μ-loop
-add-size c = omega (arith, on c, fitted c .room, fitted c .small)
+add-size c = omega (arith, on (c .before), fitted (c .before) .room, fitted (c .before) .small)
 
--- src/positions.rt:23:20
+-- src/positions.rt:20:20
 mul-size : tie.Need-mul-size Inv-loop μ-loop
-mul-size c = omega (arith, on c, fitted c .room, fitted c .small)
+mul-size c = omega (arith, on (c .before), fitted (c .before) .room, fitted (c .before) .small)
 
--- src/positions.rt:23:20
+-- src/positions.rt:20:20
 slice-read-size : tie.Need-slice-read-size Inv-loop μ-loop
-slice-read-size c = omega (arith, on (c .before), fitted (c .before) .room, fitted (c .before) .small)
+slice-read-size c = omega (arith, on (c .before .before), fitted (c .before .before) .room, fitted (c .before .before) .small)
 
--- src/positions.rt:24:14
+-- src/positions.rt:21:14
 add-work : tie.Need-add-work Inv-loop μ-loop
-add-work c = omega (arith, on (c .before), fitted (c .before) .room, fitted (c .before) .small)
-
--- src/positions.rt:24:9
-mul-work : tie.Need-mul-work Inv-loop μ-loop
-mul-work c = omega (arith, on (c .before), fitted (c .before) .room, fitted (c .before) .small)
-
--- src/positions.rt:24:9
-slice-write-work : tie.Need-slice-write-work Inv-loop μ-loop
-slice-write-work c = omega (arith, on (c .before), fitted (c .before) .room, fitted (c .before) .small)
-
--- src/positions.rt:25:9
-add-at : tie.Need-add-at Inv-loop μ-loop
-add-at c = record { fits = fits (c .before) }
+add-work c = omega (arith, on (c .before .before), fitted (c .before .before) .room, fitted (c .before .before) .small)
 
 -- src/positions.rt:21:9
+mul-work : tie.Need-mul-work Inv-loop μ-loop
+mul-work c = omega (arith, on (c .before .before), fitted (c .before .before) .room, fitted (c .before .before) .small)
+
+-- src/positions.rt:21:9
+slice-write-work : tie.Need-slice-write-work Inv-loop μ-loop
+slice-write-work c = omega (arith, on (c .before .before), fitted (c .before .before) .room, fitted (c .before .before) .small)
+
+-- src/positions.rt:22:9
+add-at : tie.Need-add-at Inv-loop μ-loop
+add-at c = record { fits = fits (c .before .before) }
+
+-- src/positions.rt:18:9
 add-k : tie.Need-add-k Inv-loop μ-loop
 add-k c = search needs
 
--- src/positions.rt:21:5
+-- src/positions.rt:18:5
 loop-less : tie.Need-loop-less Inv-loop μ-loop
 loop-less c = search needs
 
--- src/positions.rt:21:5
+-- src/positions.rt:18:5
 loop-again : tie.Need-loop-again Inv-loop μ-loop
 unfolding positioned
 loop-again c =
-    let l = c .before .before .loop in
-    (omega arith, simp length-set (l .inv .1), fitting-next (fitted (c .before)), (rw (rest (c .before)) at (l .inv .3)))
+    let l = c .before .before .before .loop in
+    (omega arith, simp length-set (l .inv .1), fitting-next (fitted (c .before .before)), (rw (rest (c .before .before)) at (l .inv .3)))
 
--- src/positions.rt:12:1
+-- src/positions.rt:11:1
 same-length : tie.Need-same-length Inv-loop μ-loop
 same-length c = search needs
 
--- src/positions.rt:12:1
+-- src/positions.rt:11:1
 returns : tie.Need-returns Inv-loop μ-loop
 unfolding positioned
 returns c =
     let l = c .before .loop in
-    let e : l .k ≡ c .before .before .before .args .d .count = omega arith in
-    rw (e, rest-none (c .before .before .before .args .d .count) (c .before .before .before .args .d .keys)) at (l .inv .3)
+    let keys = c .before .before .args .keys .now in
+    let e : l .k ≡ length keys = omega arith in
+    rw (e, drop-length keys) at (l .inv .3)
 
 pub place-donors-spec : {M : Type 1} → statement M
 place-donors-spec =
@@ -126,7 +124,7 @@ place-donors-spec =
     mul-positions
     loop-holds
     mul-cell
-    array-read-cell
+    shared-slice-read-cell
     add-size
     mul-size
     slice-read-size

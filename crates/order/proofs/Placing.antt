@@ -8,7 +8,8 @@ use lib.ListN.{length, getD, set, length-set}
 use lib.Seq.{getD-set-same, getD-set-other}
 use Rattle.claims.specs.Bounds.{sum}
 use Rattle.drainage.specs.Work.{sizeAt}
-use Rattle.order.specs.Keys.{keyIn, cellOf}
+use Rattle.rivers.specs.Cut.{keyIn}
+use Rattle.order.specs.Keys.{cellOf}
 use Rattle.order.specs.Positions.{Consecutive, none, next}
 use Rattle.order.specs.Places.{positionAt, positioned, Fitting}
 use Rattle.order.proofs.Ascending.{Ascending, least}

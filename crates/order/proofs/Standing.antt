@@ -13,7 +13,8 @@ use Rattle.claims.specs.Bounds.{sum}
 use Rattle.claims.proofs.Basins.{lawful}
 use Rattle.drainage.specs.Work.{sizeAt}
 use Rattle.drainage.specs.Total.{size}
-use Rattle.order.specs.Keys.{keyIn, cellOf, Holds}
+use Rattle.rivers.specs.Cut.{keyIn}
+use Rattle.order.specs.Keys.{cellOf, Holds}
 use Rattle.order.specs.Positions.{Consecutive, none}
 use Rattle.order.specs.Places.{positionAt, positioned, Measured, Fitting, Standing, DonorsPlaced}
 use Rattle.order.proofs.Sizes.{size-adds}

@@ -16,7 +16,7 @@ use Rattle.rivers.specs.Layout.{Laid, Layout}
 use Rattle.rivers.specs.UnitAt.{UnitAt}
 use Rattle.rivers.specs.Cut.{keyBy, keyAt, CutOf}
 use Rattle.rivers.proofs.Positions.{goes-stem, goes-mouth, goes-end, mouth-stands}
-use Rattle.rivers.proofs.Keys.{above, counted-key, rank-key}
+use Rattle.rivers.proofs.KeyOrder.{above, counted-key, rank-key}
 
 -- Of w keys above x, r are still to come. Level i: t is above x if i or more of those that came are, and not if fewer are.
 pub data Level (i r w x t : ℕ) : Type 0 where

@@ -1,6 +1,6 @@
 pub mod Relabelled
 pub mod Positions
-pub mod Keys
+pub mod KeyOrder
 pub mod Largest
 pub mod Labelling
 pub mod Progress

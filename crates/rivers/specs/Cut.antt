@@ -13,9 +13,13 @@ use Rattle.claims.proofs.Runs.{MouthOf}
 abbrev pub keyBy : (ℕ → ℕ) → ℕ → ℕ
 keyBy area c = area c * 65536 + c
 
+-- the key of a cell by a list of the areas of all cells
+abbrev pub keyIn : List ℕ → ℕ → ℕ
+keyIn area c = keyBy (λ c. getD area c 0) c
+
 -- the key of the cell at a position
 abbrev pub keyAt : List ℕ → List ℕ → ℕ → ℕ
-keyAt cell area j = keyBy (λ c. getD area c 0) (getD cell j 0)
+keyAt cell area j = keyIn area (getD cell j 0)
 
 -- `done`: the unit is finished; `key`: the least key that is taken
 pub record CutOf (N : Network) (R : Run) (done : Bool) (key : ℕ) : Type 0 where

@@ -6,30 +6,10 @@ ghost use mathlib.Core.List.{[], _∷_};
 ghost use lib.ListN.{length, getD};
 ghost use Rattle.rivers.specs.Layout.{Layout};
 ghost use Rattle.rivers.specs.UnitAt.{UnitAt};
-ghost use Rattle.rivers.specs.Cut.{keyAt, CutOf};
-
-// The key of the cell at a position.
-pub fn key_at(j: usize, cell: &[u32], area: &[u32]) -> u64
-    requires { ⌜ j < length (now cell) ⌝ }
-    requires { ⌜ getD (now cell) j 0 < length (now area) ⌝ }
-    ensures { λ r. ⌜ r ≡ keyAt (now (cell .entry)) (now (area .entry)) j ⌝ }
-{
-    let c = cell[j];
-    let a = area[c as usize];
-    (a as u64) * 65536 + (c as u64)
-}
-
-fn larger(a: u64, b: u64) -> u64
-    ensures { λ r. ⌜ r ≡ max a b ⌝ }
-{
-    if a < b { b } else { a }
-}
-
-fn smaller(a: u64, b: u64) -> u64
-    ensures { λ r. ⌜ r ≡ min a b ⌝ }
-{
-    if a < b { a } else { b }
-}
+ghost use Rattle.rivers.specs.Cut.{CutOf};
+use crate::keys::key_at;
+use crate::keys::larger;
+use crate::keys::smaller;
 
 // Whether no mouth that counts was met, and the four largest keys of those that were, the largest first; where there are fewer,
 // the least key that counts.

@@ -1,3 +1,4 @@
 // Rivers: the labelling of units and rivers over a layout.
 pub mod heaviest;
+pub mod keys;
 pub mod units;

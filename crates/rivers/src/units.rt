@@ -8,7 +8,7 @@ ghost use Rattle.rivers.specs.Labelled.{relabelled, unitLabelled, stands
 ghost use Rattle.rivers.specs.UnitAt.{NetworkOf, UnitAt, Places};
 use crate::heaviest::Rule;
 use crate::heaviest::heaviest;
-use crate::heaviest::key_at;
+use crate::keys::key_at;
 
 // Gives the cells at positions lo to hi the same label.
 fn fill(lo: usize, hi: usize, prefix: u64, cell: &[u32], labels: &mut [u64])

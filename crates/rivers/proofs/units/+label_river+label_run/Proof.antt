@@ -12,7 +12,7 @@ use Rattle.rivers.proofs.Labelling.{filled-zero, filled-finished}
 use Rattle.rivers.proofs.Progress.{Progress, river-unit, progress-none, progress-stem, progress-skip, progress-take, progress-room, progress-unit, progress-last, progress-last-room, progress-last-unit}
 use Rattle.rivers.proofs.Bounds.{measure, measure-digit, measure-length, room-step, room-fits, places-at}
 use Rattle.rivers.proofs.heaviest.heaviest.Reads as heaviest-reads
-use Rattle.rivers.proofs.heaviest.key_at.Reads as key-at-reads
+use Rattle.rivers.proofs.keys.key_at.Reads as key-at-reads
 use Rattle.rivers.proofs.units.fill.Reads as fill-reads
 use Rattle.rivers.proofs.units.label_river.Reads as label-river
 use Rattle.rivers.proofs.units.label_river.Kinds as label-river-kinds

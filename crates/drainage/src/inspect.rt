@@ -16,9 +16,9 @@ fn second_outlet(dirs: &[u8], rows: usize, cols: usize, reached: &[u32]) -> Foun
     requires { ⌜ Sized rows cols (now dirs) × (rows * cols ≤ length (now reached)) ⌝ }
     ensures { λ r. ⌜ r ≡ secondOutlet (grid rows cols (now (dirs .entry))) ⌝ }
 {
-    match sheet::first_fault(dirs, rows, cols, reached, Fault::OutletFrom(0)) {
+    match checks::first_fault(dirs, rows, cols, reached, Fault::OutletFrom(0)) {
         Found::Nothing => Found::Nothing,
-        Found::At(c) => sheet::first_fault(dirs, rows, cols, reached, Fault::OutletFrom(c + 1)),
+        Found::At(c) => checks::first_fault(dirs, rows, cols, reached, Fault::OutletFrom(c + 1)),
     }
 }
 
@@ -53,14 +53,14 @@ pub fn inspect(dirs: &[u8], rows: usize, cols: usize, work: &mut [u32]) -> Inspe
 {
     let n = rows * cols;
     let end = 2 * n;
-    if let Found::At(c) = sheet::first_fault(dirs, rows, cols, &work[n..end], Fault::BadCode) {
+    if let Found::At(c) = checks::first_fault(dirs, rows, cols, &work[n..end], Fault::BadCode) {
         return refused(4, c);
     }
-    let Found::At(_) = sheet::first_fault(dirs, rows, cols, &work[n..end], Fault::Inside) else {
+    let Found::At(_) = checks::first_fault(dirs, rows, cols, &work[n..end], Fault::Inside) else {
         return refused(5, 0);
     };
     let queued = search(dirs, rows, cols, work);
-    let unreached = sheet::first_fault(dirs, rows, cols, &work[n..end], Fault::Unreached);
+    let unreached = checks::first_fault(dirs, rows, cols, &work[n..end], Fault::Unreached);
     let second = second_outlet(dirs, rows, cols, &work[n..end]);
     Inspection {
         outcome: refused_by(6, unreached, 7, second),

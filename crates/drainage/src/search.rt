@@ -29,7 +29,7 @@ fn is_outlet(dirs: &[u8], rows: usize, cols: usize, row: usize, col: usize) -> b
     if code == 0 {
         return false;
     }
-    match sheet::step_end(rows, cols, row, col, sheet::step_of(code)) {
+    match directions::step_end(rows, cols, row, col, directions::step_of(code)) {
         End::Off => true,
         End::At(t) => dirs[t] == 0,
     }
@@ -101,7 +101,7 @@ fn push_donor(
     ensures { λ r. ⌜ DonorsPushed (grid rows cols (now (dirs .entry))) (now (work .entry)) end (now (work .exit)) r row col k (k + 1) ⌝ }
 {
     let n = rows * cols;
-    let End::At(donor) = sheet::donor_at(dirs, rows, cols, row, col, k) else {
+    let End::At(donor) = directions::donor_at(dirs, rows, cols, row, col, k) else {
         return end;
     };
     if work[n + donor] == 0 {

@@ -42,7 +42,7 @@ fn is_dir(dir: u32) -> bool
     ensures { λ r. ⌜ r ≡ isCode dir ⌝ }
 {
     if dir < 256 {
-        return sheet::is_code(dir as u8);
+        return directions::is_code(dir as u8);
     }
     false
 }

@@ -12,13 +12,13 @@ use super::Sizes;
 use super::Stage;
 use super::Taken;
 use super::answer;
+use checks::depth_fits;
+use checks::sizes_fit;
 use lines::names::Column;
 use lines::names::Columns;
 use lines::values::Values;
 use lines::values::ValuesLine;
 use lines::values::value_of;
-use sheet::depth_fits;
-use sheet::sizes_fit;
 
 // The refusal of sizes by 1, 2, 3, or 0, where `lent` direction bytes are lent.
 pub fn sizes_fault(sizes: Sizes, lent: usize) -> u8

@@ -150,8 +150,8 @@ pub fn label(
     ensures outcome { λ r. ⌜ r ≡ outcome (sheet rows cols depth (now (dirs .entry))) (lent (now (areas .entry)) (now (labels .entry)) (now (work .entry))) ⌝ }
     ensures lent { λ _. ⌜ lent (now (areas .exit)) (now (labels .exit)) (now (work .exit)) ≡ lentAfter (sheet rows cols depth (now (dirs .entry))) (lent (now (areas .entry)) (now (labels .entry)) (now (work .entry))) ⌝ }
 {
-    if sheet::sizes_fit(rows, cols) {
-        if sheet::depth_fits(depth) {
+    if checks::sizes_fit(rows, cols) {
+        if checks::depth_fits(depth) {
             let n = rows * cols;
             if slices_fit(n, dirs.len(), areas.len(), labels.len(), work.len()) {
                 let places = 8 * n;

@@ -1,5 +1,5 @@
 // A label as one decimal number, and its digits, the most significant first.
-use sheet::depth_fits;
+use checks::depth_fits;
 ghost use mathlib.Core.Path.{_≡_};
 ghost use Prim.Native.Nat.{_≤_, _<_, _^_};
 ghost use lib.ListN.{length};

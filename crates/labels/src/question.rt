@@ -2,9 +2,9 @@
 use crate::digits::count_digits;
 use crate::digits::is_label;
 use crate::digits::put_digits;
+use checks::depth_fits;
 use sheet::Flow;
 use sheet::Found;
-use sheet::depth_fits;
 ghost use mathlib.Core.Path.{_≡_};
 ghost use Prim.Native.Nat.{_<_};
 ghost use lib.ListN.{length, drop};

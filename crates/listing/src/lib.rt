@@ -7,8 +7,8 @@ ghost use Rattle.sheet.specs.Sheet.{grid};
 ghost use Rattle.listing.specs.Listing.{field, cellLine, linesBelow};
 ghost use Rattle.listing.specs.Writing.{listingInto, refusalInto};
 ghost use Rattle.listing.specs.Steps.{Listable, Put};
+use checks::sizes_fit;
 use decimal::Written;
-use sheet::sizes_fit;
 
 // The answer of a call that writes a text: the count of its bytes, or document 01's number of a refusal.
 pub enum Listing {

@@ -14,8 +14,8 @@ use Rattle.labelling.proofs.label.Reads as reads
 use Rattle.labelling.proofs.label.Lts as lts
 use Rattle.labelling.proofs.label_fitting.Reads as label-fitting-reads
 use Rattle.labelling.proofs.slices_fit.Reads as slices-fit-reads
-use Rattle.sheet.proofs.depth_fits.Reads as depth-fits-reads
-use Rattle.sheet.proofs.sizes_fit.Reads as sizes-fit-reads
+use Rattle.checks.proofs.depth_fits.Reads as depth-fits-reads
+use Rattle.checks.proofs.sizes_fit.Reads as sizes-fit-reads
 
 sizes-fit-requires : tie.Need-sizes-fit-requires
 sizes-fit-requires c κs = search needs

@@ -1,9 +1,9 @@
 -- `is_within` meets its contract.
 use native.Mathlib.Omega.{arith}
 use mathlib.Core.Path.{sym}
 use Rattle.sheet.proofs.Within.{within-below, within-from}
-use Rattle.sheet.proofs.is_within.Statement.{statement}
-use Rattle.sheet.proofs.is_within.Tie as tie
+use Rattle.checks.proofs.is_within.Statement.{statement}
+use Rattle.checks.proofs.is_within.Tie as tie
 
 returns : tie.Need-returns
 returns c = sym (within-below (c .before .args .most) (c .before .args .x) (omega arith))

@@ -1,10 +1,10 @@
 -- `has_fault` meets its contract.
 use mathlib.Core.Path.{sym, _∙_, ap}
 use borrow.Author.Needs.{needs}
 use Rattle.sheet.specs.Sheet.{goesNowhere}
 use Rattle.sheet.proofs.Faults.{bad-code, is-inside, unreached-outside, unreached-inside, outlet-before, outlet-outside, outlet-inside}
-use Rattle.sheet.proofs.has_fault.Statement.{statement}
-use Rattle.sheet.proofs.has_fault.Tie as tie
+use Rattle.checks.proofs.has_fault.Statement.{statement}
+use Rattle.checks.proofs.has_fault.Tie as tie
 
 shared-slice-read-code : tie.Need-shared-slice-read-code
 shared-slice-read-code c = search needs

@@ -5,11 +5,11 @@ use Prim.Native.Nat.{_<_, _*_}
 use native.Mathlib.Omega.{arith}
 use native.Mathlib.Nat.{mod-lt}
 use borrow.Author.Needs.{needs}
 use Rattle.sheet.specs.Sheet.{Grid, grid, endOf, inside}
 use Rattle.sheet.proofs.Steps.{step-short}
 use Rattle.sheet.proofs.Cells.{row-lt, end-lt, inside-no, inside-yes, next-outside, next-off, next-out, next-to}
-use Rattle.sheet.proofs.next_of.Statement.{statement}
-use Rattle.sheet.proofs.next_of.Tie as tie
+use Rattle.directions.proofs.next_of.Statement.{statement}
+use Rattle.directions.proofs.next_of.Tie as tie
 
 shared-slice-read-code : tie.Need-shared-slice-read-code
 shared-slice-read-code c = search needs

@@ -1,8 +1,8 @@
 -- `is_code` meets its contract.
 use borrow.Author.Needs.{needs}
 use Rattle.sheet.specs.Direction.{isCode}
-use Rattle.sheet.proofs.is_code.Statement.{statement}
-use Rattle.sheet.proofs.is_code.Tie as tie
+use Rattle.directions.proofs.is_code.Statement.{statement}
+use Rattle.directions.proofs.is_code.Tie as tie
 
 step-of-requires : tie.Need-step-of-requires
 step-of-requires c κs = search needs

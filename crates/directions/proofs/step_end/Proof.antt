@@ -3,11 +3,11 @@ use mathlib.Core.Path.{_≡_, sym, _∙_}
 use Prim.Native.Nat.{_<_, _+_, _*_}
 use native.Mathlib.Omega.{arith}
 use borrow.Author.Needs.{needs}
 use Rattle.sheet.specs.Direction.{movedBy}
 use Rattle.sheet.proofs.Signed.{read-step}
 use Rattle.sheet.proofs.Cells.{cells-most, cell-lt, moved-lt, end-off-row, end-off-col, end-at}
-use Rattle.sheet.proofs.step_end.Statement.{statement}
-use Rattle.sheet.proofs.step_end.Tie as tie
+use Rattle.directions.proofs.step_end.Statement.{statement}
+use Rattle.directions.proofs.step_end.Tie as tie
 
 moved-requires : tie.Need-moved-requires
 moved-requires c κs = search needs

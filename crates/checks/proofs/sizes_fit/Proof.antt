@@ -1,9 +1,9 @@
 -- `sizes_fit` meets its contract.
 use mathlib.Core.Path.{sym, _∙_}
 use Rattle.sheet.specs.Refusal.{sizesFit}
 use borrow.Author.Needs.{needs}
-use Rattle.sheet.proofs.sizes_fit.Statement.{statement}
-use Rattle.sheet.proofs.sizes_fit.Tie as tie
+use Rattle.checks.proofs.sizes_fit.Statement.{statement}
+use Rattle.checks.proofs.sizes_fit.Tie as tie
 
 is-within-requires : tie.Need-is-within-requires
 is-within-requires c κs = search needs

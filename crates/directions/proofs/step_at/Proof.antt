@@ -4,10 +4,10 @@ use mathlib.Core.Logic.{_≢_}
 use Prim.Native.Nat.{ℕ, _<_, _≤_}
 use native.Mathlib.Omega.{arith}
 use borrow.Author.Needs.{needs}
-use Rattle.sheet.proofs.step_at.Statement.{statement}
-use Rattle.sheet.proofs.step_at.Tie as tie
-use Rattle.sheet.proofs.step_at.Reads as reads
-use Rattle.sheet.proofs.step_at.Lts as lts
+use Rattle.directions.proofs.step_at.Statement.{statement}
+use Rattle.directions.proofs.step_at.Tie as tie
+use Rattle.directions.proofs.step_at.Reads as reads
+use Rattle.directions.proofs.step_at.Lts as lts
 
 from-four : (k : ℕ) → k ≢ 0 → k ≢ 1 → k ≢ 2 → k ≢ 3 → 4 ≤ k
 from-four k a b c d = omega arith

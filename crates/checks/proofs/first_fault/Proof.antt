@@ -4,13 +4,13 @@ use Prim.Native.Nat.{_+_, _*_, _-_, _<_, _≤_}
 use native.Mathlib.Omega.{arith}
 use borrow.Author.Count.{below-more}
 use borrow.Author.Needs.{needs}
 use Rattle.sheet.specs.declared.Found.the-variants.{Nothing}
 use Rattle.sheet.specs.Sheet.{grid}
 use Rattle.sheet.specs.Refusal.{faultAt}
 use Rattle.sheet.proofs.Cells.{cells-most, cell-lt, row-end}
 use Rattle.sheet.proofs.First.{NoneBelow, first-none, first-at}
-use Rattle.sheet.proofs.first_fault.Statement.{statement}
-use Rattle.sheet.proofs.first_fault.Tie as tie
+use Rattle.checks.proofs.first_fault.Statement.{statement}
+use Rattle.checks.proofs.first_fault.Tie as tie
 
 abbrev Inv-loop : tie.InvT-loop
 Inv-loop dirs rows cols reached fault found₀ row col₀ found col =

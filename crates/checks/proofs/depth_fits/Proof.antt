@@ -1,8 +1,8 @@
 -- `depth_fits` meets its contract.
 use Rattle.sheet.specs.Refusal.{depthFits}
 use borrow.Author.Needs.{needs}
-use Rattle.sheet.proofs.depth_fits.Statement.{statement}
-use Rattle.sheet.proofs.depth_fits.Tie as tie
+use Rattle.checks.proofs.depth_fits.Statement.{statement}
+use Rattle.checks.proofs.depth_fits.Tie as tie
 
 is-within-requires : tie.Need-is-within-requires
 is-within-requires c κs = search needs

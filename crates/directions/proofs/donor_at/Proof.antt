@@ -2,13 +2,13 @@
 use mathlib.Core.Path.{_≡_, sym, _∙_}
 use native.Mathlib.Omega.{arith}
 use borrow.Author.Needs.{needs}
 use Rattle.sheet.specs.declared.End.the-variants.{At}
 use Rattle.sheet.specs.Sheet.{grid}
 use Rattle.sheet.proofs.Steps.{table-short, back}
 use Rattle.sheet.proofs.Cells.{end-lt}
 use Rattle.sheet.proofs.Donors.{stepBack, donor-off, donor-no, donor-yes}
-use Rattle.sheet.proofs.donor_at.Statement.{statement}
-use Rattle.sheet.proofs.donor_at.Tie as tie
+use Rattle.directions.proofs.donor_at.Statement.{statement}
+use Rattle.directions.proofs.donor_at.Tie as tie
 
 -- the step back ends on the cell
 ends : (c : tie.After-known-told) → let a = c .before .before .before .before .before .before .args in stepBack (grid (a .rows) (a .cols) (a .dirs .now)) (a .row) (a .col) (a .k) ≡ At (c .before .t .given .0 .0)

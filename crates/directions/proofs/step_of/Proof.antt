@@ -6,11 +6,11 @@ use Prim.Native.Nat.{ℕ}
 use lib.Dec.{eqb}
 use borrow.Author.Needs.{needs}
 use borrow.Author.Tests.{ne-eqb}
 use Rattle.sheet.specs.Direction.{noStep, stepOf}
-use Rattle.sheet.proofs.step_of.Statement.{statement}
-use Rattle.sheet.proofs.step_of.Tie as tie
-use Rattle.sheet.proofs.step_of.Reads as reads
-use Rattle.sheet.proofs.step_of.Lts as lts
+use Rattle.directions.proofs.step_of.Statement.{statement}
+use Rattle.directions.proofs.step_of.Tie as tie
+use Rattle.directions.proofs.step_of.Reads as reads
+use Rattle.directions.proofs.step_of.Lts as lts
 
 other : {a b : ℕ} → b ≢ a → eqb a b ≡ false
 other {a} {b} n = ne-eqb a b (λ e. n (sym e))

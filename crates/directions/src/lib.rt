@@ -1,0 +1,167 @@
+// The fixed table of steps, where a cell's water goes, and donors.
+use sheet::End;
+use sheet::Next;
+use sheet::Step;
+ghost use mathlib.Core.Path.{_≡_};
+ghost use Prim.Native.Nat.{_*_, _<_};
+ghost use Rattle.sheet.specs.Direction.{stepAt, stepOf, isCode, Near, Short, movedBy, stepEnd};
+ghost use Rattle.sheet.specs.Sheet.{grid, OnSheet, Sized, next, donorAgainst};
+
+// The eight codes from east on, each an eighth of a turn clockwise from the one before: the step back is four entries on.
+const STEPS: [Step; 8] = [
+    Step {
+        code: 1,
+        row: 0,
+        col: 1,
+    },
+    Step {
+        code: 2,
+        row: 1,
+        col: 1,
+    },
+    Step {
+        code: 4,
+        row: 1,
+        col: 0,
+    },
+    Step {
+        code: 8,
+        row: 1,
+        col: -1,
+    },
+    Step {
+        code: 16,
+        row: 0,
+        col: -1,
+    },
+    Step {
+        code: 32,
+        row: -1,
+        col: -1,
+    },
+    Step {
+        code: 64,
+        row: -1,
+        col: 0,
+    },
+    Step {
+        code: 128,
+        row: -1,
+        col: 1,
+    },
+];
+
+// The k-th step of the table. Each entry is named by its number: compiled, that is a look-up in fixed memory, where an index that is
+// not known would have the table built anew at each call.
+fn step_at(k: usize) -> Step
+    requires { ⌜ k < 8 ⌝ }
+    ensures { λ r. ⌜ r ≡ stepAt k ⌝ }
+{
+    match k {
+        0 => STEPS[0],
+        1 => STEPS[1],
+        2 => STEPS[2],
+        3 => STEPS[3],
+        4 => STEPS[4],
+        5 => STEPS[5],
+        6 => STEPS[6],
+        _ => STEPS[7],
+    }
+}
+
+// The step of a code; of any other byte, the step that stays in place.
+pub fn step_of(code: u8) -> Step
+    ensures { λ r. ⌜ r ≡ stepOf code ⌝ }
+{
+    match code {
+        1 => STEPS[0],
+        2 => STEPS[1],
+        4 => STEPS[2],
+        8 => STEPS[3],
+        16 => STEPS[4],
+        32 => STEPS[5],
+        64 => STEPS[6],
+        128 => STEPS[7],
+        _ => Step {
+            code: 0,
+            row: 0,
+            col: 0,
+        },
+    }
+}
+
+// Whether a byte is one of the nine codes.
+pub fn is_code(byte: u8) -> bool
+    ensures { λ r. ⌜ r ≡ isCode byte ⌝ }
+{
+    let s = step_of(byte);
+    s.code == byte
+}
+
+// The row or column that a signed step leads to, of count many.
+fn moved(at: usize, step: i32, count: usize) -> End
+    requires { ⌜ Near at step ⌝ }
+    ensures { λ r. ⌜ r ≡ movedBy at step count ⌝ }
+{
+    let x = (at as i32) + step;
+    if x < 0 {
+        End::Off
+    } else {
+        let y = x as usize;
+        if y < count { End::At(y) } else { End::Off }
+    }
+}
+
+// The cell that a step from a row and a column ends on.
+pub fn step_end(rows: usize, cols: usize, row: usize, col: usize, s: Step) -> End
+    requires { ⌜ OnSheet rows cols row col × Short s ⌝ }
+    ensures { λ r. ⌜ r ≡ stepEnd rows cols row col s ⌝ }
+{
+    let End::At(to_row) = moved(row, s.row, rows) else {
+        return End::Off;
+    };
+    let End::At(to_col) = moved(col, s.col, cols) else {
+        return End::Off;
+    };
+    End::At(to_row * cols + to_col)
+}
+
+// Where a cell's water goes.
+pub fn next_of(dirs: &[u8], rows: usize, cols: usize, cell: usize) -> Next
+    requires { ⌜ Sized rows cols (now dirs) × (cell < rows * cols) ⌝ }
+    ensures { λ r. ⌜ r ≡ next (grid rows cols (now (dirs .entry))) cell ⌝ }
+{
+    let code = dirs[cell];
+    if code == 0 {
+        return Next::Outlet;
+    }
+    match step_end(rows, cols, cell / cols, cell % cols, step_of(code)) {
+        End::Off => Next::Outlet,
+        End::At(t) => {
+            if dirs[t] == 0 {
+                Next::Outlet
+            } else {
+                Next::To(t)
+            }
+        }
+    }
+}
+
+// The donor of a cell against the k-th step of the table: the cell one step back, if that step is its own.
+pub fn donor_at(dirs: &[u8], rows: usize, cols: usize, row: usize, col: usize, k: usize) -> End
+    requires { ⌜ Sized rows cols (now dirs) × OnSheet rows cols row col × (k < 8) ⌝ }
+    ensures { λ r. ⌜ r ≡ donorAgainst (grid rows cols (now (dirs .entry))) row col k ⌝ }
+{
+    let back = step_at((k + 4) % 8);
+    match step_end(rows, cols, row, col, back) {
+        End::Off => End::Off,
+        End::At(t) => {
+            let s = step_at(k);
+            if dirs[t] == s.code {
+                End::At(t)
+            } else {
+                End::Off
+            }
+        }
+    }
+}

@@ -3,23 +3,25 @@ use sheet::Fault;
 use sheet::Found;
 use sheet::Next;
 ghost use mathlib.Core.Path.{_≡_};
-ghost use Prim.Native.Nat.{_*_, _<_, _≤_};
+ghost use Prim.Native.Nat.{_+_, _*_, _≤_};
 ghost use lib.ListN.{length};
-ghost use Rattle.sheet.specs.Sheet.{grid, Sized, first};
+ghost use Rattle.sheet.specs.Sheet.{grid, OnSheet, Sized, first};
 ghost use Rattle.sheet.specs.Refusal.{within, sizesFit, depthFits, faultAt};
 
-// Whether a cell has a fault.
+// Whether the cell in a row and a column has a fault.
 fn has_fault(
     dirs: &[u8],
     rows: usize,
     cols: usize,
     reached: &[u32],
     fault: Fault,
-    cell: usize,
+    row: usize,
+    col: usize,
 ) -> bool
-    requires { ⌜ Sized rows cols (now dirs) × (cell < rows * cols) × (rows * cols ≤ length (now reached)) ⌝ }
-    ensures { λ r. ⌜ r ≡ faultAt (grid rows cols (now (dirs .entry))) (now (reached .entry)) fault cell ⌝ }
+    requires { ⌜ Sized rows cols (now dirs) × OnSheet rows cols row col × (rows * cols ≤ length (now reached)) ⌝ }
+    ensures { λ r. ⌜ r ≡ faultAt (grid rows cols (now (dirs .entry))) (now (reached .entry)) fault (row * cols + col) ⌝ }
 {
+    let cell = row * cols + col;
     let code = dirs[cell];
     match fault {
         Fault::BadCode => !directions::is_code(code),
@@ -37,7 +39,7 @@ fn has_fault(
             if code == 0 {
                 return false;
             }
-            match directions::next_of(dirs, rows, cols, cell) {
+            match directions::next_at(dirs, rows, cols, row, col) {
                 Next::Outlet => true,
                 Next::To(_) => false,
             }
@@ -53,9 +55,8 @@ pub fn first_fault(dirs: &[u8], rows: usize, cols: usize, reached: &[u32], fault
     let mut found = Found::Nothing;
     'rows: for row in 0..rows {
         for col in 0..cols {
-            let cell = row * cols + col;
-            if has_fault(dirs, rows, cols, reached, fault, cell) {
-                found = Found::At(cell);
+            if has_fault(dirs, rows, cols, reached, fault, row, col) {
+                found = Found::At(row * cols + col);
                 break 'rows;
             }
         }
@@ -64,7 +65,7 @@ pub fn first_fault(dirs: &[u8], rows: usize, cols: usize, reached: &[u32], fault
 }
 
 // From 1 to most.
-pub fn is_within(most: usize, x: usize) -> bool
+fn is_within(most: usize, x: usize) -> bool
     ensures { λ r. ⌜ r ≡ within most x ⌝ }
 {
     if x < 1 {

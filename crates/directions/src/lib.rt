@@ -3,7 +3,7 @@ use sheet::End;
 use sheet::Next;
 use sheet::Step;
 ghost use mathlib.Core.Path.{_≡_};
-ghost use Prim.Native.Nat.{_*_, _<_};
+ghost use Prim.Native.Nat.{_+_, _*_, _<_};
 ghost use Rattle.sheet.specs.Direction.{stepAt, stepOf, isCode, Near, Short, movedBy, stepEnd};
 ghost use Rattle.sheet.specs.Sheet.{grid, OnSheet, Sized, next, donorAgainst};
 
@@ -70,7 +70,7 @@ fn step_at(k: usize) -> Step
 }
 
 // The step of a code; of any other byte, the step that stays in place.
-pub fn step_of(code: u8) -> Step
+fn step_of(code: u8) -> Step
     ensures { λ r. ⌜ r ≡ stepOf code ⌝ }
 {
     match code {
@@ -113,7 +113,7 @@ fn moved(at: usize, step: i32, count: usize) -> End
 }
 
 // The cell that a step from a row and a column ends on.
-pub fn step_end(rows: usize, cols: usize, row: usize, col: usize, s: Step) -> End
+fn step_end(rows: usize, cols: usize, row: usize, col: usize, s: Step) -> End
     requires { ⌜ OnSheet rows cols row col × Short s ⌝ }
     ensures { λ r. ⌜ r ≡ stepEnd rows cols row col s ⌝ }
 {
@@ -126,16 +126,16 @@ pub fn step_end(rows: usize, cols: usize, row: usize, col: usize, s: Step) -> En
     End::At(to_row * cols + to_col)
 }
 
-// Where a cell's water goes.
-pub fn next_of(dirs: &[u8], rows: usize, cols: usize, cell: usize) -> Next
-    requires { ⌜ Sized rows cols (now dirs) × (cell < rows * cols) ⌝ }
-    ensures { λ r. ⌜ r ≡ next (grid rows cols (now (dirs .entry))) cell ⌝ }
+// Where the water of the cell in a row and a column goes.
+pub fn next_at(dirs: &[u8], rows: usize, cols: usize, row: usize, col: usize) -> Next
+    requires { ⌜ Sized rows cols (now dirs) × OnSheet rows cols row col ⌝ }
+    ensures { λ r. ⌜ r ≡ next (grid rows cols (now (dirs .entry))) (row * cols + col) ⌝ }
 {
-    let code = dirs[cell];
+    let code = dirs[row * cols + col];
     if code == 0 {
         return Next::Outlet;
     }
-    match step_end(rows, cols, cell / cols, cell % cols, step_of(code)) {
+    match step_end(rows, cols, row, col, step_of(code)) {
         End::Off => Next::Outlet,
         End::At(t) => {
             if dirs[t] == 0 {

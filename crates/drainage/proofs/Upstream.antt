@@ -2,19 +2,15 @@
 use mathlib.Core.Path.{_≡_, refl, sym, _∙_, ap, subst}
 use mathlib.Core.Bool.{Bool, true, false, cond, true≢false}
 use mathlib.Core.List.{List}
-use Prim.Native.Nat.{ℕ, _+_, _*_, _-_, _<_}
+use Prim.Native.Nat.{ℕ, _+_, _-_, _<_}
 use native.Mathlib.Decide.{ℕ-discrete}
 use native.Mathlib.Numerals.{add-one}
 use native.Mathlib.Omega.{arith}
-use lib.Dec.{eqb}
-use borrow.Author.Tests.{eq-eqb, ne-eqb}
-use Rattle.sheet.specs.declared.End.the-variants.{Off, At}
 use Rattle.sheet.specs.declared.Next.{Next}
 use Rattle.sheet.specs.declared.Next.the-variants.{Outlet, To}
-use Rattle.sheet.specs.Direction.{stepOf, stepEnd}
-use Rattle.sheet.specs.Sheet.{Grid, cells, dirAt, inside, endOf, isOutlet, goesNowhere, next}
+use Rattle.sheet.specs.Sheet.{Grid, cells, inside, isOutlet, goesNowhere, next}
 use Rattle.sheet.specs.Water.{Passes, here, there}
-use Rattle.sheet.proofs.Cells.{cell-row, cell-col, inside-no, inside-yes, inside-lt, next-off, next-out, next-to, next-goes, next-to-lt}
+use Rattle.sheet.proofs.Cells.{inside-lt, next-goes, next-to-lt}
 use Rattle.drainage.specs.Work.{placed, rankOf, receiverOf, numbered, pushed}
 use Rattle.drainage.specs.Search.{Before, Upstream}
 use Rattle.drainage.proofs.Queues.{place-on, end-on, grown-push, queue-push, push-place, push-receiver, push-receiver-other}
@@ -47,7 +43,7 @@ is-outlet G c i e = go (inside G c) (next G c) i e
     go : (b : Bool) (x : Next) → b ≡ true → x ≡ Outlet → cond b (goesNowhere x) false ≡ true
     go b x i e = rw (i, e)
 
--- ---- an outlet by its step
+-- ---- a cell that is no outlet
 
 module _ (G : Grid) (c : ℕ) where
   pub outlet-outside : inside G c ≡ false → false ≡ isOutlet G c
@@ -57,28 +53,13 @@ module _ (G : Grid) (c : ℕ) where
       go : (b n : Bool) → b ≡ false → false ≡ cond b n false
       go b n e = rw e
 
-  pub outlet-off : inside G c ≡ true → endOf G c ≡ Off → true ≡ isOutlet G c
-  outlet-off i e = sym (is-outlet G c i (sym (next-off G c i e)))
-
-  outlet-to : {r : ℕ} → next G c ≡ To r → false ≡ isOutlet G c
+  pub outlet-to : {r : ℕ} → next G c ≡ To r → false ≡ isOutlet G c
   unfolding isOutlet
   outlet-to {r} e = go (inside G c) (next G c) e
     where
       go : (b : Bool) (x : Next) → x ≡ To r → false ≡ cond b (goesNowhere x) false
       go true x e = rw e
       go false x e = refl
-
-  pub outlet-at : {t : ℕ} → inside G c ≡ true → endOf G c ≡ At t → t < cells G → eqb (dirAt G t) 0 ≡ isOutlet G c
-  outlet-at {t} i e l = elim (ℕ-discrete (dirAt G t) 0) [
-    | yes z ↦ eq-eqb (dirAt G t) 0 z ∙ sym (is-outlet G c i (sym (next-out G c i e (inside-no G t z))))
-    | no d ↦ ne-eqb (dirAt G t) 0 d ∙ outlet-to (sym (next-to G c (record { from-inside = i; ends = e; to-inside = inside-yes G t l d })))
-  ]
-
--- the step of the cell in a row and a column
-pub end-of : (G : Grid) (row col : ℕ) → col < G .cols
-    → endOf G (row * G .cols + col) ≡ stepEnd (G .rows) (G .cols) row col (stepOf (dirAt G (row * G .cols + col)))
-unfolding endOf
-end-of G row col l = rw (cell-row row l, cell-col row l)
 
 pub outlet-lt : (G : Grid) (c : ℕ) → isOutlet G c ≡ true → c < cells G
 outlet-lt G c e = inside-lt G c (outlet-is G c e .0)

@@ -1,5 +1,6 @@
 // The search upstream from the outlets: a queue of cells, each after the cell that its water goes to.
 use sheet::End;
+use sheet::Next;
 ghost use mathlib.Core.Path.{_≡_};
 ghost use Prim.Native.Nat.{_+_, _*_, _/_, _%_, _<_, _≤_};
 ghost use lib.ListN.{length};
@@ -25,13 +26,12 @@ fn is_outlet(dirs: &[u8], rows: usize, cols: usize, row: usize, col: usize) -> b
     requires { ⌜ Sized rows cols (now dirs) × OnSheet rows cols row col ⌝ }
     ensures { λ r. ⌜ r ≡ isOutlet (grid rows cols (now (dirs .entry))) (row * cols + col) ⌝ }
 {
-    let code = dirs[row * cols + col];
-    if code == 0 {
+    if dirs[row * cols + col] == 0 {
         return false;
     }
-    match directions::step_end(rows, cols, row, col, directions::step_of(code)) {
-        End::Off => true,
-        End::At(t) => dirs[t] == 0,
+    match directions::next_at(dirs, rows, cols, row, col) {
+        Next::Outlet => true,
+        Next::To(_) => false,
     }
 }
 

@@ -1,13 +1,13 @@
 -- `first_fault` meets its contract: before each turn no cell before it has the fault.
 use mathlib.Core.Path.{_≡_, refl, sym, _∙_}
-use Prim.Native.Nat.{_+_, _*_, _-_, _<_, _≤_}
+use Prim.Native.Nat.{_+_, _*_, _-_, _≤_}
 use native.Mathlib.Omega.{arith}
 use borrow.Author.Count.{below-more}
 use borrow.Author.Needs.{needs}
 use Rattle.sheet.specs.declared.Found.the-variants.{Nothing}
-use Rattle.sheet.specs.Sheet.{grid}
+use Rattle.sheet.specs.Sheet.{grid, OnSheet}
 use Rattle.sheet.specs.Refusal.{faultAt}
-use Rattle.sheet.proofs.Cells.{cells-most, cell-lt, row-end}
+use Rattle.sheet.proofs.Cells.{on-lt, on-fits, row-end}
 use Rattle.sheet.proofs.First.{NoneBelow, first-none, first-at}
 use Rattle.checks.proofs.first_fault.Statement.{statement}
 use Rattle.checks.proofs.first_fault.Tie as tie
@@ -32,23 +32,20 @@ rows-holds c = (omega arith, refl, λ k h. absurd (omega arith))
 loop-holds : tie.Need-loop-holds Inv-loop μ-loop Inv-rows μ-rows
 loop-holds c = (omega arith, c .before .rows .inv .1, λ k h. c .before .rows .inv .2 k (omega arith))
 
--- the cell lies on the sheet, and its number fits
-on-sheet : (c : tie.In-loop Inv-loop μ-loop Inv-rows μ-rows) → let a = c .before .before .before .before .before .before .args in c .before .before .before .rows .row * a .cols + c .before .loop .col < a .rows * a .cols
-on-sheet c = cell-lt (c .before .before .rows-test .taken) (c .loop-test .taken)
-
-cell-fits : (c : tie.In-loop Inv-loop μ-loop Inv-rows μ-rows) → c .before .before .before .rows .row * c .before .before .before .before .before .before .args .cols + c .before .loop .col < 65536
-cell-fits c =
+-- the row and the column lie on the sheet
+on : (c : tie.In-loop Inv-loop μ-loop Inv-rows μ-rows) → let a = c .before .before .before .before .before .before .args in OnSheet (a .rows) (a .cols) (c .before .before .before .rows .row) (c .before .loop .col)
+on c =
     let p = c .before .before .before .before .before .before .pre .0 in
-    omega (arith, on-sheet c, cells-most (p .rows-most) (p .cols-most))
-
-mul-cell : tie.Need-mul-cell Inv-loop μ-loop Inv-rows μ-rows
-mul-cell c = omega (arith, cell-fits c)
-
-add-cell : tie.Need-add-cell Inv-loop μ-loop Inv-rows μ-rows
-add-cell c = omega (arith, cell-fits c)
+    record { rows-most = p .rows-most; cols-most = p .cols-most; row-on = c .before .before .rows-test .taken; col-on = c .loop-test .taken }
 
 has-fault-requires : tie.Need-has-fault-requires Inv-loop μ-loop Inv-rows μ-rows
-has-fault-requires c κs = let p = c .before .before .before .before .before .before .pre in (p .0, on-sheet c, p .1)
+has-fault-requires c κs = let p = c .before .before .before .before .before .before .pre in (p .0, on c, p .1)
+
+mul-t12 : tie.Need-mul-t12 Inv-loop μ-loop Inv-rows μ-rows
+mul-t12 c = omega (arith, on-fits (on (c .before .before)))
+
+add-t13 : tie.Need-add-t13 Inv-loop μ-loop Inv-rows μ-rows
+add-t13 c = omega (arith, on-fits (on (c .before .before)))
 
 add-col : tie.Need-add-col Inv-loop μ-loop Inv-rows μ-rows
 add-col c = search needs
@@ -86,7 +83,7 @@ returns c =
 returns-2 : tie.Need-returns-2 Inv-loop μ-loop Inv-rows μ-rows
 returns-2 c =
     let l = c .before .before .before .loop in
-    sym (first-at _ _ _ (record { below = on-sheet (c .before .before); passes = sym (fault-is (c .before)) ∙ c .if1 .taken; none-before = l .inv .2 }))
+    sym (first-at _ _ _ (record { below = on-lt (on (c .before .before)); passes = sym (fault-is (c .before)) ∙ c .if1 .taken; none-before = l .inv .2 }))
 
 pub first-fault-spec : {M : Type 1} → statement M
 first-fault-spec =
@@ -98,9 +95,9 @@ first-fault-spec =
     μ-rows
     rows-holds
     loop-holds
-    mul-cell
-    add-cell
     has-fault-requires
+    mul-t12
+    add-t13
     add-col
     loop-less
     loop-again

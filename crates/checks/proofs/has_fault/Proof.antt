@@ -1,13 +1,22 @@
 -- `has_fault` meets its contract.
-use mathlib.Core.Path.{sym, _∙_, ap}
+use mathlib.Core.Path.{_≡_, sym, _∙_, ap}
+use Prim.Native.Nat.{_+_, _*_}
+use native.Mathlib.Omega.{arith}
 use borrow.Author.Needs.{needs}
-use Rattle.sheet.specs.Sheet.{goesNowhere}
+use Rattle.sheet.specs.Sheet.{grid, next, goesNowhere}
+use Rattle.sheet.proofs.Cells.{on-lt, on-fits}
 use Rattle.sheet.proofs.Faults.{bad-code, is-inside, unreached-outside, unreached-inside, outlet-before, outlet-outside, outlet-inside}
 use Rattle.checks.proofs.has_fault.Statement.{statement}
 use Rattle.checks.proofs.has_fault.Tie as tie
 
+mul-cell : tie.Need-mul-cell
+mul-cell c = omega (arith, on-fits (c .before .before .pre .1))
+
+add-cell : tie.Need-add-cell
+add-cell c = omega (arith, on-fits (c .before .before .pre .1))
+
 shared-slice-read-code : tie.Need-shared-slice-read-code
-shared-slice-read-code c = search needs
+shared-slice-read-code c = let p = c .before .before .before .pre in omega (arith, on-lt (p .1), p .0 .long)
 
 enum-told : tie.Need-enum-told
 enum-told c = search needs
@@ -25,10 +34,10 @@ returns : tie.Need-returns
 returns c = rw (c .before .enum-told3 .given .1) (sym (unreached-outside _ _ _ (c .if1 .taken)))
 
 mul-result : tie.Need-mul-result
-mul-result c = search needs
+mul-result c = omega (arith, on-fits (c .before .before .before .before .before .before .pre .1))
 
 shared-slice-read-result : tie.Need-shared-slice-read-result
-shared-slice-read-result c = search needs
+shared-slice-read-result c = let p = c .before .before .before .before .before .before .before .pre in omega (arith, on-lt (p .1), p .2)
 
 enum-known-fault : tie.Need-enum-known-fault
 enum-known-fault c = search needs
@@ -39,8 +48,8 @@ returns-2 c = rw (c .before .before .fault .given .1) (sym (outlet-before _ _ _ 
 returns-3 : tie.Need-returns-3
 returns-3 c = rw (c .before .before .before .fault .given .1) (sym (outlet-outside _ _ _ (c .before .if2 .left) (c .if3 .taken)))
 
-next-of-requires : tie.Need-next-of-requires
-next-of-requires c κs = search needs
+next-at-requires : tie.Need-next-at-requires
+next-at-requires c κs = search needs
 
 enum-told-4 : tie.Need-enum-told-4
 enum-told-4 c = search needs
@@ -52,31 +61,37 @@ returns-4 : tie.Need-returns-4
 returns-4 c = rw (c .before .enum-told .given .1, c .is-code .ensures) (sym (bad-code _ _ _))
 
 returns-5 : tie.Need-returns-5
-returns-5 c = rw (c .enum-told2 .given .1) (sym (is-inside _ _ _ (c .before .before .before .before .before .pre .1)))
+returns-5 c = rw (c .enum-told2 .given .1) (sym (is-inside _ _ _ (on-lt (c .before .before .before .before .before .pre .1))))
 
 returns-6 : tie.Need-returns-6
 returns-6 c =
     let p = c .before .before .before .before .before .before .before .pre in
-    rw (c .before .before .enum-told3 .given .1) (sym (unreached-inside _ _ _ (p .1) (c .before .if1 .left)))
+    rw (c .before .before .enum-told3 .given .1) (sym (unreached-inside _ _ _ (on-lt (p .1)) (c .before .if1 .left)))
+
+-- what the call answers
+next-is : (c : tie.After-next-at) → let a = c .before .before .before .before .before .before .before .before .before .args in c .next-at .result ≡ next (grid (a .rows) (a .cols) (a .dirs .now)) (a .row * a .cols + a .col)
+next-is c = c .next-at .ensures
 
 returns-7 : tie.Need-returns-7
 returns-7 c =
     let n = c .before .before in
     let f = n .before .before .before .before in
     let p = f .before .before .before .before .before .pre in
-    rw (f .fault .given .1) (sym (outlet-inside _ _ _ (n .before .before .if2 .left) (p .1) (n .before .if3 .left) ∙ ap goesNowhere (sym (n .next-of .ensures) ∙ c .enum-told4 .given .1)))
+    rw (f .fault .given .1) (sym (outlet-inside _ _ _ (n .before .before .if2 .left) (on-lt (p .1)) (n .before .if3 .left) ∙ ap goesNowhere (sym (next-is n) ∙ c .enum-told4 .given .1)))
 
 returns-8 : tie.Need-returns-8
 returns-8 c =
     let n = c .before .before in
     let f = n .before .before .before .before in
     let p = f .before .before .before .before .before .pre in
-    rw (f .fault .given .1) (sym (outlet-inside _ _ _ (n .before .before .if2 .left) (p .1) (n .before .if3 .left) ∙ ap goesNowhere (sym (n .next-of .ensures) ∙ c .enum-told5 .given .1)))
+    rw (f .fault .given .1) (sym (outlet-inside _ _ _ (n .before .before .if2 .left) (on-lt (p .1)) (n .before .if3 .left) ∙ ap goesNowhere (sym (next-is n) ∙ c .enum-told5 .given .1)))
 
 pub has-fault-spec : {M : Type 1} → statement M
 has-fault-spec =
     tie.close
     (tie.spec
+    mul-cell
+    add-cell
     shared-slice-read-code
     enum-told
     is-code-requires
@@ -88,7 +103,7 @@ has-fault-spec =
     enum-known-fault
     returns-2
     returns-3
-    next-of-requires
+    next-at-requires
     enum-told-4
     enum-told-5
     returns-4

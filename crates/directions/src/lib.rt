@@ -57,15 +57,16 @@ fn step_at(k: usize) -> Step
     requires { ⌜ k < 8 ⌝ }
     ensures { λ r. ⌜ r ≡ stepAt k ⌝ }
 {
+    let steps = STEPS;
     match k {
-        0 => STEPS[0],
-        1 => STEPS[1],
-        2 => STEPS[2],
-        3 => STEPS[3],
-        4 => STEPS[4],
-        5 => STEPS[5],
-        6 => STEPS[6],
-        _ => STEPS[7],
+        0 => steps[0],
+        1 => steps[1],
+        2 => steps[2],
+        3 => steps[3],
+        4 => steps[4],
+        5 => steps[5],
+        6 => steps[6],
+        _ => steps[7],
     }
 }
 
@@ -74,14 +75,14 @@ fn step_of(code: u8) -> Step
     ensures { λ r. ⌜ r ≡ stepOf code ⌝ }
 {
     match code {
-        1 => STEPS[0],
-        2 => STEPS[1],
-        4 => STEPS[2],
-        8 => STEPS[3],
-        16 => STEPS[4],
-        32 => STEPS[5],
-        64 => STEPS[6],
-        128 => STEPS[7],
+        1 => step_at(0),
+        2 => step_at(1),
+        4 => step_at(2),
+        8 => step_at(3),
+        16 => step_at(4),
+        32 => step_at(5),
+        64 => step_at(6),
+        128 => step_at(7),
         _ => Step {
             code: 0,
             row: 0,

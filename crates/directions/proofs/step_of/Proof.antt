@@ -11,6 +11,7 @@ use Rattle.directions.proofs.step_of.Statement.{statement}
 use Rattle.directions.proofs.step_of.Tie as tie
 use Rattle.directions.proofs.step_of.Reads as reads
 use Rattle.directions.proofs.step_of.Lts as lts
+use Rattle.directions.proofs.step_at.Reads as step-at-reads
 
 other : {a b : ℕ} → b ≢ a → eqb a b ≡ false
 other {a} {b} n = ne-eqb a b (λ e. n (sym e))
@@ -20,61 +21,61 @@ no-step : (b : ℕ) → b ≢ 1 → b ≢ 2 → b ≢ 4 → b ≢ 8 → b ≢ 16
 unfolding stepOf
 no-step b s t u v w x y z = rw (other s, other t, other u, other v, other w, other x, other y, other z)
 
-array-copy-out-result : tie.Need-array-copy-out-result
-array-copy-out-result c = search needs
+step-at-requires : tie.Need-step-at-requires
+step-at-requires c κs = search needs
 
-array-copy-out-result-2 : tie.Need-array-copy-out-result-2
-array-copy-out-result-2 c = search needs
+step-at-requires-2 : tie.Need-step-at-requires-2
+step-at-requires-2 c κs = search needs
 
-array-copy-out-result-3 : tie.Need-array-copy-out-result-3
-array-copy-out-result-3 c = search needs
+step-at-requires-3 : tie.Need-step-at-requires-3
+step-at-requires-3 c κs = search needs
 
-array-copy-out-result-4 : tie.Need-array-copy-out-result-4
-array-copy-out-result-4 c = search needs
+step-at-requires-4 : tie.Need-step-at-requires-4
+step-at-requires-4 c κs = search needs
 
-array-copy-out-result-5 : tie.Need-array-copy-out-result-5
-array-copy-out-result-5 c = search needs
+step-at-requires-5 : tie.Need-step-at-requires-5
+step-at-requires-5 c κs = search needs
 
-array-copy-out-result-6 : tie.Need-array-copy-out-result-6
-array-copy-out-result-6 c = search needs
+step-at-requires-6 : tie.Need-step-at-requires-6
+step-at-requires-6 c κs = search needs
 
-array-copy-out-result-7 : tie.Need-array-copy-out-result-7
-array-copy-out-result-7 c = search needs
+step-at-requires-7 : tie.Need-step-at-requires-7
+step-at-requires-7 c κs = search needs
 
-array-copy-out-result-8 : tie.Need-array-copy-out-result-8
-array-copy-out-result-8 c = search needs
+step-at-requires-8 : tie.Need-step-at-requires-8
+step-at-requires-8 c κs = search needs
 
 returns : tie.Need-returns
 unfolding stepOf
-returns c = rw (c .before .match .keys1) refl
+returns c = rw (c .before .match .keys1) (c .step-at .ensures)
 
 returns-2 : tie.Need-returns-2
 unfolding stepOf
-returns-2 c = rw (c .before .match .keys2) refl
+returns-2 c = rw (c .before .match .keys2) (c .step-at2 .ensures)
 
 returns-3 : tie.Need-returns-3
 unfolding stepOf
-returns-3 c = rw (c .before .match .keys3) refl
+returns-3 c = rw (c .before .match .keys3) (c .step-at3 .ensures)
 
 returns-4 : tie.Need-returns-4
 unfolding stepOf
-returns-4 c = rw (c .before .match .keys4) refl
+returns-4 c = rw (c .before .match .keys4) (c .step-at4 .ensures)
 
 returns-5 : tie.Need-returns-5
 unfolding stepOf
-returns-5 c = rw (c .before .match .keys5) refl
+returns-5 c = rw (c .before .match .keys5) (c .step-at5 .ensures)
 
 returns-6 : tie.Need-returns-6
 unfolding stepOf
-returns-6 c = rw (c .before .match .keys6) refl
+returns-6 c = rw (c .before .match .keys6) (c .step-at6 .ensures)
 
 returns-7 : tie.Need-returns-7
 unfolding stepOf
-returns-7 c = rw (c .before .match .keys7) refl
+returns-7 c = rw (c .before .match .keys7) (c .step-at7 .ensures)
 
 returns-8 : tie.Need-returns-8
 unfolding stepOf
-returns-8 c = rw (c .before .match .keys8) refl
+returns-8 c = rw (c .before .match .keys8) (c .step-at8 .ensures)
 
 returns-9 : tie.Need-returns-9
 returns-9 c =
@@ -85,14 +86,14 @@ pub step-of-spec : {M : Type 1} → statement M
 step-of-spec =
     tie.close
     (tie.spec
-    array-copy-out-result
-    array-copy-out-result-2
-    array-copy-out-result-3
-    array-copy-out-result-4
-    array-copy-out-result-5
-    array-copy-out-result-6
-    array-copy-out-result-7
-    array-copy-out-result-8
+    step-at-requires
+    step-at-requires-2
+    step-at-requires-3
+    step-at-requires-4
+    step-at-requires-5
+    step-at-requires-6
+    step-at-requires-7
+    step-at-requires-8
     returns
     returns-2
     returns-3

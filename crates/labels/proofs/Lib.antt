@@ -1,5 +1,3 @@
 pub mod Places
-pub mod LastDigit
-pub mod Inverse
 pub mod Answers
 pub mod Cases

@@ -1,32 +1,17 @@
--- Laws of the definitions from place to place: a test of every digit, where two labels part, the number of digits.
-use mathlib.Core.Path.{_≡_}
+-- Laws of the definitions from place to place: where two labels part, and the part of a slice that digits were written to.
+use mathlib.Core.Path.{_≡_, sym, ap, _∙_}
 use mathlib.Core.Bool.{Bool, true, false, cond}
 use mathlib.Core.List.{List, [], _∷_}
-use Prim.Native.Nat.{ℕ, suc, _+_, _*_, _≤_, _<_}
+use Prim.Native.Nat.{ℕ, suc, _+_, _≤_, _<_}
 use native.Mathlib.Numerals.{add-one}
 use native.Mathlib.Omega.{arith}
 use borrow.Author.Tests.{eq-eqb, ne-eqb}
 use lib.Dec.{eqb}
-use lib.ListN.{length, drop, getD, drop-of-length-le}
-use lib.Seq.{drop-cons}
+use lib.ListN.{length, drop, take, getD, drop-of-length-le, length-append}
+use lib.Seq.{drop-cons, take-at}
 use Rattle.sheet.specs.declared.Found.the-variants.{At, Nothing}
-use Rattle.sheet.specs.Label.{numberFrom}
-use Rattle.sheet.specs.Flow.{partFrom, partAt, every}
-
--- ---- a test of every digit, by place
-
-module _ (test : ℕ → Bool) (x : List ℕ) (i : ℕ) where
-  pub every-end : length x ≤ i → every test (drop i x) ≡ true
-  unfolding every
-  every-end h = rw drop-of-length-le
-
-  pub every-no : i < length x → test (getD x i 0) ≡ false → every test (drop i x) ≡ false
-  unfolding every
-  every-no h e = rw (drop-cons x i 0, e)
-
-  pub every-yes : i < length x → test (getD x i 0) ≡ true → every test (drop (i + 1) x) ≡ every test (drop i x)
-  unfolding every
-  every-yes h e = rw (add-one i, drop-cons x i 0, e)
+use Rattle.sheet.specs.Refusal.{written}
+use Rattle.sheet.specs.Flow.{partFrom, partAt}
 
 -- ---- where two labels part, by place
 
@@ -68,21 +53,15 @@ module _ (x y : List ℕ) (i : ℕ) (e : partAt x y ≡ At i) where
   unfolding partAt
   part-right = omega (arith, part-in 0 x y i e .1)
 
--- ---- the number of digits, by place
+-- ---- the written part of a slice
 
-pub number-turn : (m : ℕ) (x : List ℕ) (i : ℕ) → i < length x → numberFrom (m * 10 + getD x i 0) (drop (i + 1) x) ≡ numberFrom m (drop i x)
-unfolding numberFrom
-number-turn m x i h = rw (add-one i, drop-cons x i 0)
+-- the first n places of a slice that x was written to
+module _ (x out rest : List ℕ) (n : ℕ) (count : n ≡ length x) (is : out ≡ written x rest) where
+  pub written-within : n ≤ length out
+  written-within = omega (arith, simp length-append at (ap length is))
 
-pub number-end : (m : ℕ) (x : List ℕ) (i : ℕ) → length x ≤ i → numberFrom m (drop i x) ≡ m
-unfolding numberFrom
-number-end m x i h = rw (drop-of-length-le x)
+  pub written-first : take n out ≡ x
+  written-first = rw is (take-at x (drop (length x) rest) n (sym count))
 
-number-more : (m : ℕ) (x : List ℕ) → m ≤ numberFrom m x
-unfolding numberFrom
-number-more m [] = omega arith
-number-more m (a ∷ x) = omega (arith, number-more (m * 10 + a) x)
-
--- what is gathered after one digit more is at most the whole number
-pub number-room : (m : ℕ) (x : List ℕ) (i : ℕ) → i < length x → m * 10 + getD x i 0 ≤ numberFrom m (drop i x)
-number-room m x i h = omega (arith, number-more (m * 10 + getD x i 0) (drop (i + 1) x), number-turn m x i h)
+  pub written-count : n ≡ length (take n out)
+  written-count = count ∙ ap length (sym written-first)

@@ -1,3 +1,2 @@
-// Labels: as one decimal number, as digits, and the flow question on two of them.
-pub mod digits;
+// The flow question on two labels.
 pub mod question;

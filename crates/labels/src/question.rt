@@ -1,8 +1,8 @@
 // The flow question: does water from the label q pass the label p?
-use crate::digits::count_digits;
-use crate::digits::is_label;
-use crate::digits::put_digits;
 use checks::depth_fits;
+use digits::count_digits;
+use digits::is_label;
+use digits::put_digits;
 use sheet::Flow;
 use sheet::Found;
 ghost use mathlib.Core.Path.{_≡_};

@@ -6,7 +6,7 @@ use Prim.Native.Nat.{_-_}
 use lib.ListN.{length, drop}
 use borrow.Author.Tests.{eq-eqb, ne-eqb}
 use Rattle.sheet.specs.Flow.{every, isOdd}
-use Rattle.labels.proofs.Places.{every-end, every-no, every-yes}
+use Rattle.digits.proofs.Places.{every-end, every-no, every-yes}
 use Rattle.labels.proofs.question.all_odd.Statement.{statement}
 use Rattle.labels.proofs.question.all_odd.Tie as tie
 

@@ -6,7 +6,7 @@ use lib.ListN.{replicate}
 use borrow.Author.Needs.{needs}
 use Rattle.sheet.specs.Label.{digitsOf}
 use Rattle.sheet.proofs.Digits.{digits-at-most-20}
-use Rattle.labels.proofs.LastDigit.{written-within, written-first, written-count}
+use Rattle.labels.proofs.Places.{written-within, written-first, written-count}
 use Rattle.labels.proofs.question.answer_unequal.Statement.{statement}
 use Rattle.labels.proofs.question.answer_unequal.Tie as tie
 

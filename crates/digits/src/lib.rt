@@ -6,7 +6,7 @@ ghost use lib.ListN.{length};
 ghost use Rattle.sheet.specs.Label.{number, digitsOf};
 ghost use Rattle.sheet.specs.Refusal.{within, written};
 ghost use Rattle.sheet.specs.Flow.{every, isLabel};
-ghost use Rattle.labels.specs.Digits.{digitsAnswer, digitsPlaces, labelAnswer};
+ghost use Rattle.digits.specs.Digits.{digitsAnswer, digitsPlaces, labelAnswer};
 
 // The answer of write_digits: how many digits were written, or document 01's number of the refusal.
 pub enum DigitsAnswer {
@@ -52,8 +52,8 @@ pub fn count_digits(label: u64) -> usize
     count
 }
 
-// Writes the digits of a label, of which there are count, to the first places, the last digit first.
-pub(crate) fn put_digits(label: u64, count: usize, out: &mut [u8])
+// Writes the digits of a label, of which there are count, to the first places, the last digit first. A step for the flow question.
+pub fn put_digits(label: u64, count: usize, out: &mut [u8])
     requires { ⌜ count ≡ length (digitsOf label) ⌝ }
     requires { ⌜ count ≤ length (now out) ⌝ }
     ensures { λ _. ⌜ now (out .exit) ≡ written (digitsOf label) (now (out .entry)) ⌝ }

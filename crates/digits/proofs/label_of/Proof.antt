@@ -5,9 +5,9 @@ use borrow.Author.Tests.{le-leb, lt-leb}
 use borrow.Author.Needs.{needs}
 use Rattle.sheet.proofs.Digits.{number-fits}
 use Rattle.sheet.proofs.Within.{digits-every, depth-most}
-use Rattle.labels.specs.Digits.{labelAnswer, areDigits}
-use Rattle.labels.proofs.digits.label_of.Statement.{statement}
-use Rattle.labels.proofs.digits.label_of.Tie as tie
+use Rattle.digits.specs.Digits.{labelAnswer, areDigits}
+use Rattle.digits.proofs.label_of.Statement.{statement}
+use Rattle.digits.proofs.label_of.Tie as tie
 
 depth-fits-requires : tie.Need-depth-fits-requires
 depth-fits-requires c κs = search needs

@@ -5,9 +5,9 @@ use mathlib.Core.Path.{_≡_, refl, sym, _∙_}
 use Prim.Native.Nat.{_-_}
 use lib.ListN.{length, drop}
 use Rattle.sheet.specs.Label.{number, numberFrom}
-use Rattle.labels.proofs.Places.{number-turn, number-end, number-room}
-use Rattle.labels.proofs.digits.number_of.Statement.{statement}
-use Rattle.labels.proofs.digits.number_of.Tie as tie
+use Rattle.digits.proofs.Places.{number-turn, number-end, number-room}
+use Rattle.digits.proofs.number_of.Statement.{statement}
+use Rattle.digits.proofs.number_of.Tie as tie
 
 abbrev Inv-loop : tie.InvT-loop
 Inv-loop digits m₀ i₀ m i = numberFrom m (drop i digits) ≡ number digits

@@ -5,9 +5,9 @@ use Prim.Native.Nat.{_+_, _≤_}
 use lib.ListN.{length}
 use Rattle.sheet.specs.Label.{digitsOf}
 use Rattle.sheet.proofs.Digits.{digits-at-most-20}
-use Rattle.labels.proofs.LastDigit.{digits-none, digits-longer}
-use Rattle.labels.proofs.digits.count_digits.Statement.{statement}
-use Rattle.labels.proofs.digits.count_digits.Tie as tie
+use Rattle.digits.proofs.LastDigit.{digits-none, digits-longer}
+use Rattle.digits.proofs.count_digits.Statement.{statement}
+use Rattle.digits.proofs.count_digits.Tie as tie
 
 abbrev Inv-loop : tie.InvT-loop
 Inv-loop label count₀ m₀ count m = (count + length (digitsOf m) ≡ length (digitsOf label)) × (m ≤ label)

@@ -6,10 +6,10 @@ use Prim.Native.Nat.{_-_}
 use lib.ListN.{length, drop}
 use Rattle.sheet.specs.Refusal.{within}
 use Rattle.sheet.specs.Flow.{every}
-use Rattle.labels.proofs.Places.{every-end, every-no, every-yes}
+use Rattle.digits.proofs.Places.{every-end, every-no, every-yes}
 use Rattle.sheet.proofs.Within.{within-yes, within-below, within-above}
-use Rattle.labels.proofs.digits.all_digits.Statement.{statement}
-use Rattle.labels.proofs.digits.all_digits.Tie as tie
+use Rattle.digits.proofs.all_digits.Statement.{statement}
+use Rattle.digits.proofs.all_digits.Tie as tie
 
 abbrev Inv-loop : tie.InvT-loop
 Inv-loop digits i₀ i = every (within 9) (drop i digits) ≡ every (within 9) (drop 0 digits)

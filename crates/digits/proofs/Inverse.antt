@@ -12,9 +12,9 @@ use Rattle.sheet.specs.Label.{Digits, number, digitsOf}
 use Rattle.sheet.specs.Refusal.{depthFits, written}
 use Rattle.sheet.specs.Flow.{isLabel}
 use Rattle.sheet.proofs.Digits.{both-left, both-right, digits-number, number-digits, digitsOf-below-ten, digits-label, label-digits, label-length}
-use Rattle.labels.specs.declared.digits.DigitsAnswer.the-variants.{Written, Refused}
-use Rattle.labels.specs.declared.digits.LabelAnswer.the-variants.{Label, Refused as LabelRefused}
-use Rattle.labels.specs.Digits.{digitsAnswer, digitsPlaces, areDigits, labelAnswer}
+use Rattle.digits.specs.declared.DigitsAnswer.the-variants.{Written, Refused}
+use Rattle.digits.specs.declared.LabelAnswer.the-variants.{Label, Refused as LabelRefused}
+use Rattle.digits.specs.Digits.{digitsAnswer, digitsPlaces, areDigits, labelAnswer}
 use Rattle.sheet.proofs.Within.{depth-most, digits-every, every-digits}
 
 -- what is known where digits were written

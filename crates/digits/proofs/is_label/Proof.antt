@@ -4,9 +4,9 @@ use mathlib.Core.Path.{_≡_, refl, sym, _∙_}
 use Prim.Native.Nat.{_≤_}
 use Rattle.sheet.specs.Label.{digitsOf}
 use Rattle.sheet.specs.Flow.{isLabel}
-use Rattle.labels.proofs.LastDigit.{label-none, label-long, label-zero, label-turn}
-use Rattle.labels.proofs.digits.is_label.Statement.{statement}
-use Rattle.labels.proofs.digits.is_label.Tie as tie
+use Rattle.digits.proofs.LastDigit.{label-none, label-long, label-zero, label-turn}
+use Rattle.digits.proofs.is_label.Statement.{statement}
+use Rattle.digits.proofs.is_label.Tie as tie
 
 abbrev Inv-loop : tie.InvT-loop
 Inv-loop depth label left₀ m₀ left m = (isLabel left (digitsOf m) ≡ isLabel depth (digitsOf label)) × (m ≤ label)

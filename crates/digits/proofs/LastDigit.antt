@@ -1,5 +1,5 @@
 -- Laws of the definitions from the last digit to the first: labels at a depth, and digits as they are written.
-use mathlib.Core.Path.{_≡_, refl, sym, ap, _∙_}
+use mathlib.Core.Path.{_≡_, refl, ap, _∙_}
 use mathlib.Core.Bool.{Bool, true, false, cond}
 use mathlib.Core.List.{List, [], _∷_, _++_, append-assoc}
 use Prim.Native.Nat.{ℕ, zero, suc, _/_, _%_, _-_, _^_, _≤_, _<_}
@@ -8,7 +8,7 @@ use native.Mathlib.Omega.{arith}
 use borrow.Author.Tests.{eq-eqb, ne-eqb, le-leb, lt-leb}
 use lib.Dec.{leb, leb·suc-suc}
 use lib.ListN.{length, drop, take, set, length-append}
-use lib.Seq.{set-split, drop-at, take-at, length-take-le}
+use lib.Seq.{set-split, drop-at, length-take-le}
 use Rattle.sheet.specs.Label.{digitsOf}
 use Rattle.sheet.specs.Refusal.{written}
 use Rattle.sheet.specs.Flow.{every, isLabel}
@@ -76,16 +76,3 @@ write-turn m out at fits some e h = rw (e, last-digit m fits some) (written-snoc
 pub write-end : (x out : List ℕ) → length x ≤ 0 → written x out ≡ out
 write-end [] out h = refl
 write-end (a ∷ x) out h = absurd (omega arith)
-
--- ---- the written part of a slice
-
--- the first n places of a slice that x was written to
-module _ (x out rest : List ℕ) (n : ℕ) (count : n ≡ length x) (is : out ≡ written x rest) where
-  pub written-within : n ≤ length out
-  written-within = omega (arith, simp length-append at (ap length is))
-
-  pub written-first : take n out ≡ x
-  written-first = rw is (take-at x (drop (length x) rest) n (sym count))
-
-  pub written-count : n ≡ length (take n out)
-  written-count = count ∙ ap length (sym written-first)

@@ -6,9 +6,9 @@ use Prim.Native.Nat.{_-_, _+_, _≤_}
 use lib.ListN.{length, length-set}
 use Rattle.sheet.specs.Label.{digitsOf}
 use Rattle.sheet.specs.Refusal.{written}
-use Rattle.labels.proofs.LastDigit.{digits-some, digits-longer, write-turn, write-end}
-use Rattle.labels.proofs.digits.put_digits.Statement.{statement}
-use Rattle.labels.proofs.digits.put_digits.Tie as tie
+use Rattle.digits.proofs.LastDigit.{digits-some, digits-longer, write-turn, write-end}
+use Rattle.digits.proofs.put_digits.Statement.{statement}
+use Rattle.digits.proofs.put_digits.Tie as tie
 
 abbrev Inv-loop : tie.InvT-loop
 Inv-loop label count out₀ i₀ m₀ out i m = (written (digitsOf m) out ≡ written (digitsOf label) out₀) × (length (digitsOf m) + i ≡ count) × (length out ≡ length out₀) × (m ≤ label)

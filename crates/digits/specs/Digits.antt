@@ -7,10 +7,10 @@ use lib.ListN.{length}
 use Rattle.sheet.specs.Label.{number, digitsOf}
 use Rattle.sheet.specs.Refusal.{within, depthFits, written}
 use Rattle.sheet.specs.Flow.{every, isLabel}
-use Rattle.labels.specs.declared.digits.DigitsAnswer.{DigitsAnswer}
-use Rattle.labels.specs.declared.digits.DigitsAnswer.the-variants.{Written, Refused}
-use Rattle.labels.specs.declared.digits.LabelAnswer.{LabelAnswer}
-use Rattle.labels.specs.declared.digits.LabelAnswer.the-variants.{Label, Refused as LabelRefused}
+use Rattle.digits.specs.declared.DigitsAnswer.{DigitsAnswer}
+use Rattle.digits.specs.declared.DigitsAnswer.the-variants.{Written, Refused}
+use Rattle.digits.specs.declared.LabelAnswer.{LabelAnswer}
+use Rattle.digits.specs.declared.LabelAnswer.the-variants.{Label, Refused as LabelRefused}
 
 -- a label's digits are written where so many places are lent: 2, 11, 3, in this order
 unfoldable pub digitsAnswer : ℕ → ℕ → ℕ → DigitsAnswer

@@ -5,10 +5,10 @@ use lib.ListN.{length}
 use borrow.Author.Tests.{le-leb, lt-leb}
 use borrow.Author.Needs.{needs}
 use Rattle.sheet.specs.Label.{digitsOf}
-use Rattle.labels.specs.declared.digits.DigitsAnswer.the-variants.{Written}
-use Rattle.labels.specs.Digits.{digitsAnswer, digitsPlaces}
-use Rattle.labels.proofs.digits.write_digits.Statement.{statement}
-use Rattle.labels.proofs.digits.write_digits.Tie as tie
+use Rattle.digits.specs.declared.DigitsAnswer.the-variants.{Written}
+use Rattle.digits.specs.Digits.{digitsAnswer, digitsPlaces}
+use Rattle.digits.proofs.write_digits.Statement.{statement}
+use Rattle.digits.proofs.write_digits.Tie as tie
 
 depth-fits-requires : tie.Need-depth-fits-requires
 depth-fits-requires c κs = search needs

@@ -1,0 +1,4 @@
+pub mod Places
+pub mod LastDigit
+pub mod Inverse
+pub mod Cases

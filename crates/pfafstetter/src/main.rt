@@ -1,9 +1,9 @@
 // Reads a grid file from standard input and prints its report on standard output: the listing of its sheet, or the two lines after a
-// refusal. It only moves bytes: the report is written by crate reading, whose contract fixes it.
+// refusal. It only moves bytes: the report is written by crate report, whose contract fixes it.
 use listing::Listing;
 use reading::Read;
 use reading::Reader;
-use reading::report::write_report;
+use report::write_report;
 
 // The number of the error of a call that a signal interrupted.
 const INTERRUPTED: i32 = 4;

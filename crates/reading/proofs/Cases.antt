@@ -7,10 +7,6 @@ use Rattle.decimal.specs.Ascii.{ascii}
 use Rattle.intake.specs.declared.Stage.the-variants.{Ended as AtEnd}
 use Rattle.intake.specs.Intake.{lineAfter, endTaken}
 use Rattle.reading.specs.declared.Read.the-variants.{Ended}
-use Rattle.sheet.specs.Refusal.{Lent}
-use Rattle.labelling.specs.FromIntake.{intakeOutcome, intakeLent}
-use Rattle.listing.specs.Listing.{listingText, refusalText}
-use Rattle.reading.specs.Report.{endedSizes, sheetText, reportText, report}
 use Rattle.reading.specs.Lines.{linesOf, FileRead, refusedRead, endAfter, readFrom, readFile}
 
 -- ---- lines
@@ -89,23 +85,3 @@ last-refused = refl
 pub after-a-refusal : readFile (7 ∷ []) (replicate 81 97 ++ ascii "\nrows,cols,depth\n") ≡ refusedRead 8 1 (7 ∷ [])
 unfolding readFile linesOf readFrom lineAfter endAfter endTaken
 after-a-refusal = refl
-
--- ---- reports
-
--- what is lent for 12 cells
-abbrev lent12 : Lent
-lent12 = record { areas = replicate 12 0; labels = replicate 12 0; work = replicate 96 0 }
-
--- what document 01 prints for sample A
-pub sample-report : report (replicate 12 0) lent12 sampleA ≡ ascii "row,col,area,label\n0,1,2,8\n0,2,1,8\n0,3,1,92\n1,0,11,1\n1,1,9,3\n1,2,4,91\n1,3,2,93\n2,0,1,2\n2,1,1,4\n2,2,1,6\n2,3,1,93\n"
-unfolding report readFile linesOf readFrom lineAfter endAfter endTaken reportText intakeOutcome intakeLent sheetText endedSizes listingText
-sample-report = refl
-
-pub empty-report : report [] lent12 [] ≡ ascii "refused,place\n14,1\n"
-unfolding report readFile linesOf readFrom lineAfter endAfter endTaken reportText refusalText
-empty-report = refl
-
--- a second outlet: the place is that of labelling, cell 1
-pub second-outlet : report (0 ∷ 0 ∷ []) lent12 (ascii "rows,cols,depth\n1,2,1\nrow,col,dir\n0,0,16\n0,1,1\n") ≡ ascii "refused,place\n7,1\n"
-unfolding report readFile linesOf readFrom lineAfter endAfter endTaken reportText intakeOutcome intakeLent sheetText endedSizes listingText refusalText
-second-outlet = refl

@@ -1,7 +1,3 @@
 pub mod FeedLaws
 pub mod Whole
 pub mod Cases
-pub mod ReportLaws
-pub mod Endings
-pub mod Numbers
-pub mod Lengths

@@ -1,4 +1,2 @@
 pub mod Lines
 pub mod Feed
-pub mod Report
-pub mod Conditions

@@ -4,9 +4,6 @@ ghost use lib.ListN.{length};
 ghost use Rattle.intake.specs.Intake.{lineAfter};
 ghost use Rattle.reading.specs.Lines.{endAfter};
 ghost use Rattle.reading.specs.Feed.{nextLine, lineText, newReader, lineEnd, byteAfter, feedAll, lastLine, endRead, finished};
-
-pub mod report;
-
 use intake::Intake;
 use intake::Outcome;
 use intake::Taken;

@@ -1,8 +1,8 @@
 -- `ended_sizes` meets its contract.
-use Rattle.reading.specs.Report.{endedSizes}
+use Rattle.report.specs.Report.{endedSizes}
 use borrow.Author.Needs.{needs}
-use Rattle.reading.proofs.report.ended_sizes.Statement.{statement}
-use Rattle.reading.proofs.report.ended_sizes.Tie as tie
+use Rattle.report.proofs.ended_sizes.Statement.{statement}
+use Rattle.report.proofs.ended_sizes.Tie as tie
 
 enum-told : tie.Need-enum-told
 enum-told c = search needs

@@ -26,12 +26,12 @@ use Rattle.listing.specs.Listing.{listingText, refusalText}
 use Rattle.listing.specs.Writing.{textInto, accepted}
 use Rattle.listing.proofs.Answers.{rows-cols-most, text-into}
 use Rattle.listing.proofs.Lengths.{refusal-most, listing-written, listing-most-18-digits}
 use Rattle.reading.specs.Lines.{linesOf}
-use Rattle.reading.specs.Report.{report}
-use Rattle.reading.specs.Conditions.{Takes, takes-none, takes-line, Ending, line-refused, end-refused, labelling-refused, listed}
-use Rattle.reading.proofs.Numbers.{line-number, end-number, label-number}
-use Rattle.reading.proofs.ReportLaws.{dirs-long}
-use Rattle.reading.proofs.Endings.{report-ending}
+use Rattle.report.specs.Report.{report}
+use Rattle.report.specs.Conditions.{Takes, takes-none, takes-line, Ending, line-refused, end-refused, labelling-refused, listed}
+use Rattle.report.proofs.Numbers.{line-number, end-number, label-number}
+use Rattle.report.proofs.ReportLaws.{dirs-long}
+use Rattle.report.proofs.Endings.{report-ending}
 
 -- ---- lines
 

@@ -24,12 +24,12 @@ use Rattle.listing.specs.Listing.{listingText, refusalText}
 use Rattle.listing.specs.declared.Listing.the-variants.{Bytes}
 use Rattle.listing.specs.Writing.{Listed, refused, accepted, textInto, listingInto, refusalInto}
 use Rattle.listing.proofs.Answers.{listing-into}
 use Rattle.reading.specs.declared.Read.{Read}
 use Rattle.reading.specs.declared.Read.the-variants.{Refused, Ended}
-use Rattle.reading.specs.Report.{endedSizes, sheetText, reportText, reportLent, Reported, reportedAs, report, reportInto}
 use Rattle.reading.specs.Lines.{FileRead, readFile}
 use Rattle.reading.specs.Feed.{finished}
 use Rattle.reading.proofs.Whole.{started, feedPieces, joined, read-pieces}
+use Rattle.report.specs.Report.{endedSizes, sheetText, reportText, reportLent, Reported, reportedAs, report, reportInto}
 
 both-true : (a b : Bool) → both a b ≡ true → (a ≡ true) × (b ≡ true)
 both-true true b e = (refl, e)

@@ -1,9 +1,8 @@
 // The report of a file that was read: the listing of its sheet, or the two lines after a refusal.
 ghost use mathlib.Core.Path.{_≡_};
 ghost use Rattle.labelling.specs.Labelling.{lent};
-ghost use Rattle.reading.specs.Report.{endedSizes, reportInto};
 ghost use Rattle.reading.specs.declared.Read.{Read};
-use super::Read;
+ghost use Rattle.report.specs.Report.{endedSizes, reportInto};
 use intake::Intake;
 use intake::Sizes;
 use intake::Stage;
@@ -11,6 +10,7 @@ use labelling::from_intake::label_intake;
 use listing::Listing;
 use listing::write_listing;
 use listing::write_refusal;
+use reading::Read;
 use sheet::Outcome;
 
 const NO_SIZES: Sizes = Sizes {

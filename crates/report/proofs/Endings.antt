@@ -22,11 +22,11 @@ use Rattle.labelling.specs.Labelling.{sheet}
 use Rattle.labelling.specs.FromIntake.{stageOutcome, stageLent, intakeOutcome, intakeLent}
 use Rattle.listing.specs.Listing.{listingText, refusalText}
 use Rattle.listing.proofs.Lengths.{listing-written}
 use Rattle.reading.specs.declared.Read.{Read}
 use Rattle.reading.specs.declared.Read.the-variants.{Refused, Ended}
 use Rattle.reading.specs.Lines.{linesOf, FileRead, endAfter, readFrom, readFile}
-use Rattle.reading.specs.Report.{endedSizes, sheetText, reportText, report}
-use Rattle.reading.specs.Conditions.{Takes, takes-none, takes-line, Ending, line-refused, end-refused, labelling-refused, listed}
+use Rattle.report.specs.Report.{endedSizes, sheetText, reportText, report}
+use Rattle.report.specs.Conditions.{Takes, takes-none, takes-line, Ending, line-refused, end-refused, labelling-refused, listed}
 
 -- ---- how the reading of lines ends
 

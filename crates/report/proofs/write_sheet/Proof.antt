@@ -1,9 +1,9 @@
 -- `write_sheet` meets its contract.
 use mathlib.Core.Path.{sym, _∙_}
-use Rattle.reading.proofs.ReportLaws.{sheet-refused, sheet-accepted}
+use Rattle.report.proofs.ReportLaws.{sheet-refused, sheet-accepted}
 use borrow.Author.Needs.{needs}
-use Rattle.reading.proofs.report.write_sheet.Statement.{statement}
-use Rattle.reading.proofs.report.write_sheet.Tie as tie
+use Rattle.report.proofs.write_sheet.Statement.{statement}
+use Rattle.report.proofs.write_sheet.Tie as tie
 
 ended-sizes-requires : tie.Need-ended-sizes-requires
 ended-sizes-requires c κs = search needs

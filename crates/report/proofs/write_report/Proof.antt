@@ -1,8 +1,8 @@
 -- `write_report` meets its contract.
-use Rattle.reading.proofs.ReportLaws.{read-refused}
+use Rattle.report.proofs.ReportLaws.{read-refused}
 use borrow.Author.Needs.{needs}
-use Rattle.reading.proofs.report.write_report.Statement.{statement}
-use Rattle.reading.proofs.report.write_report.Tie as tie
+use Rattle.report.proofs.write_report.Statement.{statement}
+use Rattle.report.proofs.write_report.Tie as tie
 
 enum-known-read : tie.Need-enum-known-read
 enum-known-read c = search needs

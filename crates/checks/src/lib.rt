@@ -1,7 +1,6 @@
 // The tests of checks 1, 2 and 4 to 7: sizes, depth, and the first cell in reading order with a fault.
 use sheet::Fault;
 use sheet::Found;
-use sheet::Next;
 ghost use mathlib.Core.Path.{_≡_};
 ghost use Prim.Native.Nat.{_+_, _*_, _≤_};
 ghost use lib.ListN.{length};
@@ -36,13 +35,7 @@ fn has_fault(
             if cell < from {
                 return false;
             }
-            if code == 0 {
-                return false;
-            }
-            match directions::next_at(dirs, rows, cols, row, col) {
-                Next::Outlet => true,
-                Next::To(_) => false,
-            }
+            directions::is_outlet(dirs, rows, cols, row, col)
         }
     }
 }

@@ -19,7 +19,6 @@ use Rattle.sheet.specs.Refusal.{sizesFit, depthFits, slicesFit, badCode, undrai
 use Rattle.sheet.specs.Sheet.{cells, inside, next, goesNowhere, isOutlet, first, Grid, Sheet}
 use Rattle.sheet.proofs.First.{NoneBelow, none-first, at-first, first-same, FirstAt}
 use Rattle.sheet.proofs.Cells.{inside-lt, next-goes}
-use Rattle.sheet.proofs.Faults.{outlet-inside}
 use Rattle.claims.specs.Basin.{Ends, Basin}
 use Rattle.claims.proofs.Units.{one-outlet}
 use Rattle.claims.proofs.Fuel.{reaches-ends, ends-at}

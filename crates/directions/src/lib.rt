@@ -5,7 +5,7 @@ use sheet::Step;
 ghost use mathlib.Core.Path.{_≡_};
 ghost use Prim.Native.Nat.{_+_, _*_, _<_};
 ghost use Rattle.sheet.specs.Direction.{stepAt, stepOf, isCode, Near, Short, movedBy, stepEnd};
-ghost use Rattle.sheet.specs.Sheet.{grid, OnSheet, Sized, next, donorAgainst};
+ghost use Rattle.sheet.specs.Sheet.{grid, OnSheet, Sized, next, isOutlet, donorAgainst};
 
 // The eight codes from east on, each an eighth of a turn clockwise from the one before: the step back is four entries on.
 const STEPS: [Step; 8] = [
@@ -128,7 +128,7 @@ fn step_end(rows: usize, cols: usize, row: usize, col: usize, s: Step) -> End
 }
 
 // Where the water of the cell in a row and a column goes.
-pub fn next_at(dirs: &[u8], rows: usize, cols: usize, row: usize, col: usize) -> Next
+fn next_at(dirs: &[u8], rows: usize, cols: usize, row: usize, col: usize) -> Next
     requires { ⌜ Sized rows cols (now dirs) × OnSheet rows cols row col ⌝ }
     ensures { λ r. ⌜ r ≡ next (grid rows cols (now (dirs .entry))) (row * cols + col) ⌝ }
 {
@@ -145,6 +145,20 @@ pub fn next_at(dirs: &[u8], rows: usize, cols: usize, row: usize, col: usize) ->
                 Next::To(t)
             }
         }
+    }
+}
+
+// Whether the cell in a row and a column is an outlet.
+pub fn is_outlet(dirs: &[u8], rows: usize, cols: usize, row: usize, col: usize) -> bool
+    requires { ⌜ Sized rows cols (now dirs) × OnSheet rows cols row col ⌝ }
+    ensures { λ r. ⌜ r ≡ isOutlet (grid rows cols (now (dirs .entry))) (row * cols + col) ⌝ }
+{
+    if dirs[row * cols + col] == 0 {
+        return false;
+    }
+    match next_at(dirs, rows, cols, row, col) {
+        Next::Outlet => true,
+        Next::To(_) => false,
     }
 }
 

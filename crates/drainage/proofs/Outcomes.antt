@@ -20,7 +20,7 @@ use Rattle.sheet.specs.Sheet.{Grid, cells, dirAt, inside, isOutlet, next, first
 use Rattle.sheet.specs.Water.{reachesOutlet}
 use Rattle.sheet.specs.Label.{outlet, cellFound}
 use Rattle.sheet.specs.Refusal.{both, badCode, undrained, outletFrom, faultAt, secondOutlet, refusedAt, outcomeOn}
-use Rattle.sheet.proofs.Cells.{inside-lt}
+use Rattle.sheet.proofs.Cells.{inside-lt, is-outlet}
 use Rattle.sheet.proofs.First.{first-same, none-first, at-first}
 use Rattle.claims.proofs.Counts.{not-true}
 use Rattle.claims.proofs.Fuel.{reaches-ends, ends-at}
@@ -29,7 +29,7 @@ use Rattle.drainage.specs.Work.{placed, rankOf, KeptFrom}
 use Rattle.drainage.specs.Search.{Searched, Coded, Drained, SingleOutlet, outletCount}
 use Rattle.drainage.specs.Inspect.{Inspected}
 use Rattle.drainage.proofs.Sums.{sum-same, sum-one, count-sum}
-use Rattle.drainage.proofs.Upstream.{is-outlet, outlet-lt, way-inside}
+use Rattle.drainage.proofs.Upstream.{outlet-lt, way-inside}
 
 -- ---- what was looked for is what the definition looks for
 

@@ -10,7 +10,7 @@ use Rattle.sheet.specs.declared.Next.the-variants.{Outlet, To}
 use Rattle.sheet.specs.Sheet.{Grid, cells, inside, next}
 use Rattle.sheet.specs.Water.{reachesOutlet}
 use Rattle.sheet.specs.Refusal.{both}
-use Rattle.sheet.proofs.Cells.{next-goes, next-to-lt}
+use Rattle.sheet.proofs.Cells.{next-goes, next-to-lt, is-outlet}
 use Rattle.claims.specs.Basin.{Ends, ends-here, ends-after}
 use Rattle.claims.proofs.Counts.{not-true}
 use Rattle.claims.proofs.Fuel.{ends-within, reaches-ends, ends-reaches}
@@ -18,7 +18,7 @@ use Rattle.drainage.specs.Work.{placed, rankOf, isReached}
 use Rattle.drainage.specs.Search.{Upstream, Searched}
 use Rattle.drainage.specs.Growth.{Spread}
 use Rattle.drainage.proofs.Queues.{reached-yes, reached-no, place-on}
-use Rattle.drainage.proofs.Upstream.{is-outlet, way-on, next-before, inside-of}
+use Rattle.drainage.proofs.Upstream.{way-on, next-before, inside-of}
 
 pub both-true : {a b : Bool} → both a b ≡ true → (a ≡ true) × (b ≡ true)
 both-true {a = true} e = (refl, e)

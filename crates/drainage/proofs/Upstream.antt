@@ -36,31 +36,6 @@ outlet-is G c e = go (inside G c) (next G c) refl refl e
     go true (To r) i n e = absurd (true≢false (sym e))
     go false x i n e = absurd (true≢false (sym e))
 
-pub is-outlet : (G : Grid) (c : ℕ) → inside G c ≡ true → next G c ≡ Outlet → isOutlet G c ≡ true
-unfolding isOutlet
-is-outlet G c i e = go (inside G c) (next G c) i e
-  where
-    go : (b : Bool) (x : Next) → b ≡ true → x ≡ Outlet → cond b (goesNowhere x) false ≡ true
-    go b x i e = rw (i, e)
-
--- ---- a cell that is no outlet
-
-module _ (G : Grid) (c : ℕ) where
-  pub outlet-outside : inside G c ≡ false → false ≡ isOutlet G c
-  unfolding isOutlet
-  outlet-outside e = go (inside G c) (goesNowhere (next G c)) e
-    where
-      go : (b n : Bool) → b ≡ false → false ≡ cond b n false
-      go b n e = rw e
-
-  pub outlet-to : {r : ℕ} → next G c ≡ To r → false ≡ isOutlet G c
-  unfolding isOutlet
-  outlet-to {r} e = go (inside G c) (next G c) e
-    where
-      go : (b : Bool) (x : Next) → x ≡ To r → false ≡ cond b (goesNowhere x) false
-      go true x e = rw e
-      go false x e = refl
-
 pub outlet-lt : (G : Grid) (c : ℕ) → isOutlet G c ≡ true → c < cells G
 outlet-lt G c e = inside-lt G c (outlet-is G c e .0)
 

@@ -1,6 +1,5 @@
 // The search upstream from the outlets: a queue of cells, each after the cell that its water goes to.
 use sheet::End;
-use sheet::Next;
 ghost use mathlib.Core.Path.{_≡_};
 ghost use Prim.Native.Nat.{_+_, _*_, _/_, _%_, _<_, _≤_};
 ghost use lib.ListN.{length};
@@ -21,20 +20,6 @@ fn push(work: &mut [u32], n: usize, end: usize, cell: usize, receiver: usize) ->
     end + 1
 }
 
-// Whether the cell in a row and a column is an outlet.
-fn is_outlet(dirs: &[u8], rows: usize, cols: usize, row: usize, col: usize) -> bool
-    requires { ⌜ Sized rows cols (now dirs) × OnSheet rows cols row col ⌝ }
-    ensures { λ r. ⌜ r ≡ isOutlet (grid rows cols (now (dirs .entry))) (row * cols + col) ⌝ }
-{
-    if dirs[row * cols + col] == 0 {
-        return false;
-    }
-    match directions::next_at(dirs, rows, cols, row, col) {
-        Next::Outlet => true,
-        Next::To(_) => false,
-    }
-}
-
 // Queues the cell in a row and a column, if it is an outlet.
 fn push_outlet(
     dirs: &[u8],
@@ -48,7 +33,7 @@ fn push_outlet(
     requires { ⌜ Sized rows cols (now dirs) × OnSheet rows cols row col × Seeded (grid rows cols (now dirs)) (now work) end (row * cols + col) ⌝ }
     ensures { λ r. ⌜ Seeded (grid rows cols (now (dirs .entry))) (now (work .exit)) r (row * cols + col + 1) × KeptFrom (3 * (rows * cols)) (now (work .entry)) (now (work .exit)) ⌝ }
 {
-    if is_outlet(dirs, rows, cols, row, col) {
+    if directions::is_outlet(dirs, rows, cols, row, col) {
         push(work, rows * cols, end, row * cols + col, 0)
     } else {
         end

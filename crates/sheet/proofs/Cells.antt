@@ -11,9 +11,10 @@ use borrow.Author.Tests.{ltb-true, lt-ltb, eq-eqb, ne-eqb}
 use Rattle.sheet.specs.declared.Step.{Step}
 use Rattle.sheet.specs.declared.End.{End}
 use Rattle.sheet.specs.declared.End.the-variants.{Off, At}
+use Rattle.sheet.specs.declared.Next.{Next}
 use Rattle.sheet.specs.declared.Next.the-variants.{Outlet, To}
 use Rattle.sheet.specs.Direction.{stepOf, below, movedBy, cellAt, stepEnd}
-use Rattle.sheet.specs.Sheet.{Grid, cells, dirAt, inside, endOf, onto, next, OnSheet}
+use Rattle.sheet.specs.Sheet.{Grid, cells, dirAt, inside, endOf, onto, next, goesNowhere, isOutlet, OnSheet}
 
 pub off-not-at : {n : ℕ} → Off ≡ At n → ⊥
 off-not-at {n} e = let z : _≡_ {A = ℕ} 0 1 = cc in omega arith
@@ -184,3 +185,28 @@ module _ (G : Grid) (u : ℕ) where
 
   pub next-to-lt : {r : ℕ} → next G u ≡ To r → r < cells G
   next-to-lt {r} e = inside-lt G r (next-goes e .to-inside)
+
+-- ---- outlets
+
+pub is-outlet : (G : Grid) (c : ℕ) → inside G c ≡ true → next G c ≡ Outlet → isOutlet G c ≡ true
+unfolding isOutlet
+is-outlet G c i e = go (inside G c) (next G c) i e
+  where
+    go : (b : Bool) (x : Next) → b ≡ true → x ≡ Outlet → cond b (goesNowhere x) false ≡ true
+    go b x i e = rw (i, e)
+
+module _ (G : Grid) (c : ℕ) where
+  pub outlet-outside : inside G c ≡ false → false ≡ isOutlet G c
+  unfolding isOutlet
+  outlet-outside e = go (inside G c) (goesNowhere (next G c)) e
+    where
+      go : (b n : Bool) → b ≡ false → false ≡ cond b n false
+      go b n e = rw e
+
+  pub outlet-to : {r : ℕ} → next G c ≡ To r → false ≡ isOutlet G c
+  unfolding isOutlet
+  outlet-to {r} e = go (inside G c) (next G c) e
+    where
+      go : (b : Bool) (x : Next) → x ≡ To r → false ≡ cond b (goesNowhere x) false
+      go true x e = rw e
+      go false x e = refl

@@ -8,7 +8,7 @@ use lib.ListN.{getD}
 use borrow.Author.Tests.{le-leb, lt-leb}
 use Rattle.sheet.specs.declared.Fault.the-variants.{BadCode, Inside, Unreached, OutletFrom}
 use Rattle.sheet.specs.Direction.{isCode}
-use Rattle.sheet.specs.Sheet.{Grid, cells, dirAt, goesNowhere, next}
+use Rattle.sheet.specs.Sheet.{Grid, cells, dirAt, isOutlet}
 use Rattle.sheet.specs.Refusal.{faultAt}
 use Rattle.sheet.proofs.Cells.{inside-no, inside-is, inside-yes}
 
@@ -33,10 +33,6 @@ module _ (G : Grid) (reached : List ℕ) (c : ℕ) where
   unfolding faultAt
   outlet-before {from} l = rw (lt-leb from c l)
 
-  pub outlet-outside : {from : ℕ} → from ≤ c → dirAt G c ≡ 0 → faultAt G reached (OutletFrom from) c ≡ false
+  pub outlet-from : {from : ℕ} → from ≤ c → faultAt G reached (OutletFrom from) c ≡ isOutlet G c
   unfolding faultAt
-  outlet-outside {from} l e = rw (le-leb from c l, inside-no G c e)
-
-  pub outlet-inside : {from : ℕ} → from ≤ c → c < cells G → (dirAt G c ≡ 0 → ⊥) → faultAt G reached (OutletFrom from) c ≡ goesNowhere (next G c)
-  unfolding faultAt
-  outlet-inside {from} l on ne = rw (le-leb from c l, inside-yes G c on ne)
+  outlet-from {from} l = rw (le-leb from c l)

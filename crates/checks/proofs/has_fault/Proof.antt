@@ -1,11 +1,10 @@
 -- `has_fault` meets its contract.
-use mathlib.Core.Path.{_≡_, sym, _∙_, ap}
+use mathlib.Core.Path.{sym, _∙_}
 use Prim.Native.Nat.{_+_, _*_}
 use native.Mathlib.Omega.{arith}
 use borrow.Author.Needs.{needs}
-use Rattle.sheet.specs.Sheet.{grid, next, goesNowhere}
 use Rattle.sheet.proofs.Cells.{on-lt, on-fits}
-use Rattle.sheet.proofs.Faults.{bad-code, is-inside, unreached-outside, unreached-inside, outlet-before, outlet-outside, outlet-inside}
+use Rattle.sheet.proofs.Faults.{bad-code, is-inside, unreached-outside, unreached-inside, outlet-before, outlet-from}
 use Rattle.checks.proofs.has_fault.Statement.{statement}
 use Rattle.checks.proofs.has_fault.Tie as tie
 
@@ -45,46 +44,23 @@ enum-known-fault c = search needs
 returns-2 : tie.Need-returns-2
 returns-2 c = rw (c .before .before .fault .given .1) (sym (outlet-before _ _ _ (c .if2 .taken)))
 
+is-outlet-requires : tie.Need-is-outlet-requires
+is-outlet-requires c κs = search needs
+
 returns-3 : tie.Need-returns-3
-returns-3 c = rw (c .before .before .before .fault .given .1) (sym (outlet-outside _ _ _ (c .before .if2 .left) (c .if3 .taken)))
-
-next-at-requires : tie.Need-next-at-requires
-next-at-requires c κs = search needs
-
-enum-told-4 : tie.Need-enum-told-4
-enum-told-4 c = search needs
-
-enum-told-5 : tie.Need-enum-told-5
-enum-told-5 c = search needs
+returns-3 c = rw (c .before .enum-told .given .1, c .is-code .ensures) (sym (bad-code _ _ _))
 
 returns-4 : tie.Need-returns-4
-returns-4 c = rw (c .before .enum-told .given .1, c .is-code .ensures) (sym (bad-code _ _ _))
+returns-4 c = rw (c .enum-told2 .given .1) (sym (is-inside _ _ _ (on-lt (c .before .before .before .before .before .pre .1))))
 
 returns-5 : tie.Need-returns-5
-returns-5 c = rw (c .enum-told2 .given .1) (sym (is-inside _ _ _ (on-lt (c .before .before .before .before .before .pre .1))))
-
-returns-6 : tie.Need-returns-6
-returns-6 c =
+returns-5 c =
     let p = c .before .before .before .before .before .before .before .pre in
     rw (c .before .before .enum-told3 .given .1) (sym (unreached-inside _ _ _ (on-lt (p .1)) (c .before .if1 .left)))
 
--- what the call answers
-next-is : (c : tie.After-next-at) → let a = c .before .before .before .before .before .before .before .before .before .args in c .next-at .result ≡ next (grid (a .rows) (a .cols) (a .dirs .now)) (a .row * a .cols + a .col)
-next-is c = c .next-at .ensures
-
-returns-7 : tie.Need-returns-7
-returns-7 c =
-    let n = c .before .before in
-    let f = n .before .before .before .before in
-    let p = f .before .before .before .before .before .pre in
-    rw (f .fault .given .1) (sym (outlet-inside _ _ _ (n .before .before .if2 .left) (on-lt (p .1)) (n .before .if3 .left) ∙ ap goesNowhere (sym (next-is n) ∙ c .enum-told4 .given .1)))
-
-returns-8 : tie.Need-returns-8
-returns-8 c =
-    let n = c .before .before in
-    let f = n .before .before .before .before in
-    let p = f .before .before .before .before .before .pre in
-    rw (f .fault .given .1) (sym (outlet-inside _ _ _ (n .before .before .if2 .left) (on-lt (p .1)) (n .before .if3 .left) ∙ ap goesNowhere (sym (next-is n) ∙ c .enum-told5 .given .1)))
+returns-6 : tie.Need-returns-6
+returns-6 c =
+    rw (c .before .before .before .fault .given .1) (c .is-outlet .ensures ∙ sym (outlet-from _ _ _ (c .before .if2 .left)))
 
 pub has-fault-spec : {M : Type 1} → statement M
 has-fault-spec =
@@ -102,12 +78,8 @@ has-fault-spec =
     shared-slice-read-result
     enum-known-fault
     returns-2
+    is-outlet-requires
     returns-3
-    next-at-requires
-    enum-told-4
-    enum-told-5
     returns-4
     returns-5
-    returns-6
-    returns-7
-    returns-8)
+    returns-6)

@@ -3,11 +3,10 @@ use mathlib.Core.Path.{_≡_, sym, _∙_}
 use Prim.Native.Nat.{_+_, _*_}
 use native.Mathlib.Omega.{arith}
 use Rattle.sheet.specs.Sheet.{grid, next}
-use Rattle.sheet.proofs.Cells.{on-lt, on-fits, inside-no, inside-yes}
-use Rattle.drainage.proofs.Upstream.{is-outlet, outlet-outside, outlet-to}
+use Rattle.sheet.proofs.Cells.{on-lt, on-fits, inside-no, inside-yes, is-outlet, outlet-outside, outlet-to}
 use borrow.Author.Needs.{needs}
-use Rattle.drainage.proofs.search.is_outlet.Statement.{statement}
-use Rattle.drainage.proofs.search.is_outlet.Tie as tie
+use Rattle.directions.proofs.is_outlet.Statement.{statement}
+use Rattle.directions.proofs.is_outlet.Tie as tie
 
 mul-if1 : tie.Need-mul-if1
 mul-if1 c = omega (arith, on-fits (c .before .pre .1))

@@ -17,11 +17,11 @@ use Rattle.sheet.specs.declared.Next.the-variants.{Outlet, To}
 use Rattle.sheet.specs.Water.{passes, onward}
 use Rattle.sheet.specs.Refusal.{written}
 use Rattle.sheet.proofs.Cells.{outlet-not-to}
-use Rattle.drainage.specs.Work.{placed, rankOf, receiverOf, nextOfNumber, KeptFrom}
-use Rattle.drainage.specs.Search.{Item, Queue}
+use Rattle.upstream.specs.Work.{placed, rankOf, receiverOf, nextOfNumber, KeptFrom}
+use Rattle.upstream.specs.Search.{Item, Queue}
 use Rattle.drainage.specs.Total.{total, nextIn, valueAt, Gathers, Adds, totalsIn, added}
-use Rattle.drainage.proofs.Sums.{sum-same, sum-one, sum-most}
-use Rattle.drainage.proofs.Queues.{before-of, rank-once}
+use Rattle.upstream.proofs.Sums.{sum-same, sum-one, sum-most}
+use Rattle.upstream.proofs.Queues.{before-of, rank-once}
 use Rattle.drainage.proofs.Lists.{written-from}
 use Rattle.drainage.proofs.Ways.{Stays, Opens, total-same, total-kept, total-more}
 

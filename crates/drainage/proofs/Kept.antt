@@ -10,12 +10,12 @@ use Rattle.sheet.specs.Sheet.{Grid, cells, isOutlet}
 use Rattle.sheet.specs.Refusal.{written}
 use Rattle.sheet.proofs.Cells.{inside-lt}
 use Rattle.claims.proofs.Counts.{count-le}
-use Rattle.drainage.specs.Work.{placed, rankOf, receiverOf, sizeAt, isReached, KeptFrom, withSizes}
-use Rattle.drainage.specs.Search.{Before, Queue, Upstream, OutletsFirst, Searched, Drained, SingleOutlet}
+use Rattle.upstream.specs.Work.{placed, rankOf, receiverOf, sizeAt, isReached, KeptFrom, withSizes}
+use Rattle.upstream.specs.Search.{Before, Queue, Upstream, OutletsFirst, Searched, Drained, SingleOutlet}
 use Rattle.drainage.specs.Total.{size, sizesOf}
-use Rattle.drainage.proofs.Sums.{sum-same, count-sum}
-use Rattle.drainage.proofs.Queues.{item-at, queued-most}
-use Rattle.drainage.proofs.Upstream.{outlet-lt}
+use Rattle.upstream.proofs.Sums.{sum-same, count-sum}
+use Rattle.upstream.proofs.Queues.{item-at, queued-most}
+use Rattle.upstream.proofs.Upstream.{outlet-lt}
 use Rattle.drainage.proofs.Lists.{list-at}
 use Rattle.drainage.proofs.Measures.{sizes-long}
 

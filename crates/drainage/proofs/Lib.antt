@@ -1,9 +1,3 @@
-pub mod Sums
-pub mod Queues
-pub mod Upstream
-pub mod Seeds
-pub mod Spreading
-pub mod Reaching
 pub mod Outcomes
 pub mod Lists
 pub mod Ways

@@ -8,7 +8,7 @@ use lib.ListN.{getD, length, set, take, drop, length-append, length-drop, take-a
 use lib.Seq.{ext-getD, getD-take, set-at, drop-cons, drop-at, length-take-le}
 use Rattle.sheet.specs.Label.{listFrom}
 use Rattle.sheet.specs.Refusal.{written}
-use Rattle.drainage.specs.Work.{KeptFrom}
+use Rattle.upstream.specs.Work.{KeptFrom}
 
 -- ---- the values of a function
 

@@ -20,12 +20,13 @@ use Rattle.sheet.specs.Refusal.{written}
 use Rattle.sheet.proofs.Cells.{inside-is, next-outside, next-to-lt, next-goes}
 use Rattle.claims.proofs.Counts.{not-true}
 use Rattle.claims.proofs.Lawful.{passes-true}
-use Rattle.drainage.specs.Work.{rankOf, numbered, nextOfNumber, withSizes}
-use Rattle.drainage.specs.Search.{Drained}
-use Rattle.drainage.specs.Total.{sumOver, total, nextIn, valueAt, Gathers, totalsIn, ownCount, ownCounts, size, sizesOf}
-use Rattle.drainage.proofs.Sums.{sum-alike, sum-zero, sum-ones, count-sum}
-use Rattle.drainage.proofs.Queues.{reached-yes, reached-no}
-use Rattle.drainage.proofs.Upstream.{receiver-of, way-inside}
+use Rattle.upstream.specs.Work.{rankOf, numbered, nextOfNumber, withSizes}
+use Rattle.upstream.specs.Search.{Drained}
+use Rattle.drainage.specs.Total.{total, nextIn, valueAt, Gathers, totalsIn, ownCount, ownCounts, size, sizesOf}
+use Rattle.upstream.specs.Sum.{sumOver}
+use Rattle.upstream.proofs.Sums.{sum-alike, sum-zero, sum-ones, count-sum}
+use Rattle.upstream.proofs.Queues.{reached-yes, reached-no}
+use Rattle.upstream.proofs.Upstream.{receiver-of, way-inside}
 use Rattle.drainage.proofs.Lists.{filled, filled-at, filled-long, filled-kept, list-same, list-long}
 use Rattle.drainage.proofs.Ways.{total-same, total-alike}
 

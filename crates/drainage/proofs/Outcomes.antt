@@ -25,11 +25,11 @@ use Rattle.sheet.proofs.First.{first-same, none-first, at-first}
 use Rattle.claims.proofs.Counts.{not-true}
 use Rattle.claims.proofs.Fuel.{reaches-ends, ends-at}
 use Rattle.drainage.specs.declared.Inspection.{Inspection}
-use Rattle.drainage.specs.Work.{placed, rankOf, KeptFrom}
-use Rattle.drainage.specs.Search.{Searched, Coded, Drained, SingleOutlet, outletCount}
+use Rattle.upstream.specs.Work.{placed, rankOf, KeptFrom}
+use Rattle.upstream.specs.Search.{Searched, Coded, Drained, SingleOutlet, outletCount}
 use Rattle.drainage.specs.Inspect.{Inspected}
-use Rattle.drainage.proofs.Sums.{sum-same, sum-one, count-sum}
-use Rattle.drainage.proofs.Upstream.{outlet-lt, way-inside}
+use Rattle.upstream.proofs.Sums.{sum-same, sum-one, count-sum}
+use Rattle.upstream.proofs.Upstream.{outlet-lt, way-inside}
 
 -- ---- what was looked for is what the definition looks for
 

@@ -7,13 +7,8 @@ use Rattle.sheet.specs.declared.Outcome.the-variants.{Accepted}
 use Rattle.sheet.specs.Sheet.{Grid, cells}
 use Rattle.sheet.specs.Refusal.{outcomeOn}
 use Rattle.drainage.specs.declared.Inspection.{Inspection}
-use Rattle.drainage.specs.Work.{KeptFrom}
-use Rattle.drainage.specs.Search.{Drained, SingleOutlet}
-
--- 8n work places, all 0
-pub record Cleared (n : ℕ) (work : List ℕ) : Type 0 where
-  pub room : 8 * n ≤ length work
-  pub zero : (j : ℕ) → j < 8 * n → getD work j 0 ≡ 0
+use Rattle.upstream.specs.Work.{KeptFrom}
+use Rattle.upstream.specs.Search.{Drained, SingleOutlet}
 
 -- refusals 4 to 7; of an accepted sheet, the search
 pub record Inspected (G : Grid) (work work′ : List ℕ) (r : Inspection) : Type 0 where

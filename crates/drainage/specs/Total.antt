@@ -11,13 +11,9 @@ use Rattle.sheet.specs.Sheet.{Grid, cells, inside}
 use Rattle.sheet.specs.Water.{passes}
 use Rattle.sheet.specs.Area.{count, drainsInto}
 use Rattle.sheet.specs.Label.{listFrom}
-use Rattle.drainage.specs.Work.{isReached, receiverOf, nextOfNumber}
-use Rattle.drainage.specs.Search.{Queue}
-
--- the sum of f over those of the first n cells that pass a test
-unfoldable pub sumOver : ℕ → (ℕ → Bool) → (ℕ → ℕ) → ℕ
-sumOver zero test f = 0
-sumOver (suc n) test f = let r = sumOver n test f in cond (test n) (r + f n) r
+use Rattle.upstream.specs.Sum.{sumOver}
+use Rattle.upstream.specs.Work.{isReached, receiverOf, nextOfNumber}
+use Rattle.upstream.specs.Search.{Queue}
 
 -- the sum of f over the cells whose water passes c
 unfoldable pub total : ℕ → (ℕ → Next) → (ℕ → ℕ) → ℕ → ℕ

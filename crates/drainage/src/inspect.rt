@@ -1,15 +1,16 @@
 // Refusals 4 to 7, in order, with the search upstream on the way.
 use crate::Inspection;
-use crate::search::search;
 use sheet::Fault;
 use sheet::Found;
 use sheet::Outcome;
+use upstream::search;
 ghost use mathlib.Core.Path.{_≡_};
 ghost use Prim.Native.Nat.{_*_, _≤_};
 ghost use lib.ListN.{length};
 ghost use Rattle.sheet.specs.Sheet.{grid, Sized};
 ghost use Rattle.sheet.specs.Refusal.{refusedAt, secondOutlet};
-ghost use Rattle.drainage.specs.Inspect.{Cleared, Inspected};
+ghost use Rattle.drainage.specs.Inspect.{Inspected};
+ghost use Rattle.upstream.specs.Work.{Cleared};
 
 // The second outlet in reading order.
 fn second_outlet(dirs: &[u8], rows: usize, cols: usize, reached: &[u32]) -> Found

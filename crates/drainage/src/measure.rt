@@ -6,8 +6,8 @@ ghost use lib.ListN.{length, take, drop};
 ghost use Rattle.sheet.specs.Sheet.{grid, Sized};
 ghost use Rattle.sheet.specs.Label.{areasOf, listFrom};
 ghost use Rattle.sheet.specs.Refusal.{written};
-ghost use Rattle.drainage.specs.Work.{receiverOf, withSizes};
-ghost use Rattle.drainage.specs.Search.{Drained};
+ghost use Rattle.upstream.specs.Work.{receiverOf, withSizes};
+ghost use Rattle.upstream.specs.Search.{Drained};
 ghost use Rattle.drainage.specs.Total.{Gathers, Adds, added, totalsIn, valueAt, ownCount, ownCounts, sizesOf};
 
 // What a cell counts by itself.

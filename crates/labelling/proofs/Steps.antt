@@ -15,10 +15,11 @@ use Rattle.claims.proofs.Counts.{count-le}
 use Rattle.claims.proofs.Basins.{lawful}
 use Rattle.claims.proofs.Sheets.{basin, passed-on}
 use Rattle.claims.proofs.Written.{length-list, written-at}
-use Rattle.drainage.specs.Work.{withSizes, isReached}
+use Rattle.upstream.specs.Work.{withSizes, isReached}
 use Rattle.drainage.specs.declared.Inspection.{Inspection}
-use Rattle.drainage.specs.Search.{Drained}
-use Rattle.drainage.specs.Inspect.{Cleared, Inspected as InspectedBy}
+use Rattle.upstream.specs.Search.{Drained}
+use Rattle.drainage.specs.Inspect.{Inspected as InspectedBy}
+use Rattle.upstream.specs.Work.{Cleared}
 use Rattle.drainage.specs.Total.{sizesOf}
 use Rattle.drainage.proofs.Kept.{with-sizes-same, drained-same, single-same, size-written}
 use Rattle.rivers.specs.Layout.{Layout}

@@ -7,7 +7,7 @@ use lib.ListN.{length}
 use Rattle.sheet.specs.Sheet.{Grid, Sheet, grid, cells, Sized}
 use Rattle.sheet.specs.Refusal.{Lent, outcomeOn}
 use Rattle.sheet.specs.declared.Outcome.the-variants.{Accepted}
-use Rattle.drainage.specs.Search.{Drained, SingleOutlet}
+use Rattle.upstream.specs.Search.{Drained, SingleOutlet}
 
 abbrev pub sheet : ℕ → ℕ → ℕ → List ℕ → Sheet
 sheet rows cols depth dirs = record { grid = grid rows cols dirs; depth = depth }

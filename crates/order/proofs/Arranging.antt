@@ -13,7 +13,7 @@ use Rattle.sheet.specs.River.{network}
 use Rattle.sheet.specs.Label.{outlet}
 use Rattle.sheet.proofs.Cells.{cells-most, inside-lt}
 use Rattle.claims.proofs.GridLaws.{area-least}
-use Rattle.drainage.specs.Work.{placed, sizeAt}
+use Rattle.upstream.specs.Work.{placed, sizeAt}
 use Rattle.drainage.specs.Total.{size}
 use Rattle.order.specs.Places.{positionAt, cellsIn, sizesIn, Surveyed, Placed, Entered, Arranged}
 use Rattle.order.proofs.Preorder.{some}

@@ -9,7 +9,7 @@ use lib.Dec.{eqb}
 use lib.ListN.{length, getD, set, length-set}
 use lib.Seq.{getD-set-same, getD-set-other}
 use borrow.Author.Tests.{eqb-true, eqb-false}
-use Rattle.drainage.specs.Work.{placed, sizeAt}
+use Rattle.upstream.specs.Work.{placed, sizeAt}
 use Rattle.order.specs.Places.{positionAt, entered, Apart, Entered}
 
 -- what holds before step i, and of step i, holds before step i + 1

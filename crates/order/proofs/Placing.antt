@@ -7,7 +7,7 @@ use native.Mathlib.Omega.{arith}
 use lib.ListN.{length, getD, set, length-set}
 use lib.Seq.{getD-set-same, getD-set-other}
 use Rattle.claims.specs.Bounds.{sum}
-use Rattle.drainage.specs.Work.{sizeAt}
+use Rattle.upstream.specs.Work.{sizeAt}
 use Rattle.rivers.specs.Cut.{keyIn}
 use Rattle.order.specs.Keys.{cellOf}
 use Rattle.order.specs.Positions.{Consecutive, none, next}

@@ -18,8 +18,8 @@ use Rattle.claims.specs.Basin.{Basin}
 use Rattle.claims.proofs.Basins.{lawful}
 use Rattle.claims.proofs.Counts.{count-le}
 use Rattle.claims.proofs.Sheets.{outlet-is, is-outlet}
-use Rattle.drainage.specs.Work.{placed, rankOf, receiverOf, numbered, isReached, sizeAt}
-use Rattle.drainage.specs.Search.{Upstream}
+use Rattle.upstream.specs.Work.{placed, rankOf, receiverOf, numbered, isReached, sizeAt}
+use Rattle.upstream.specs.Search.{Upstream}
 use Rattle.drainage.specs.Total.{size}
 use Rattle.order.specs.Positions.{Consecutive, Preorder}
 use Rattle.order.specs.Places.{positionAt, Surveyed, Standing, DonorsPlaced, Placed, Apart}

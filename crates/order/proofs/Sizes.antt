@@ -19,8 +19,8 @@ use Rattle.claims.proofs.Fuel.{reaches-ends}
 use Rattle.claims.proofs.Areas.{area-sum}
 use Rattle.claims.proofs.GridLaws.{passes-is}
 use Rattle.claims.proofs.Sheets.{outlet-is, is-outlet}
-use Rattle.drainage.specs.Work.{isReached}
-use Rattle.drainage.specs.Search.{Drained, SingleOutlet}
+use Rattle.upstream.specs.Work.{isReached}
+use Rattle.upstream.specs.Search.{Drained, SingleOutlet}
 use Rattle.drainage.specs.Total.{size}
 
 count-same : (n : ℕ) (f g : ℕ → Bool) → ((c : ℕ) → c < n → f c ≡ g c) → count n f ≡ count n g

@@ -11,7 +11,7 @@ use Rattle.sheet.specs.River.{network, donors}
 use Rattle.sheet.proofs.Cells.{cells-most, inside-lt, next-goes, next-from-lt}
 use Rattle.claims.specs.Bounds.{sum}
 use Rattle.claims.proofs.Basins.{lawful}
-use Rattle.drainage.specs.Work.{sizeAt}
+use Rattle.upstream.specs.Work.{sizeAt}
 use Rattle.drainage.specs.Total.{size}
 use Rattle.rivers.specs.Cut.{keyIn}
 use Rattle.order.specs.Keys.{cellOf, Holds}

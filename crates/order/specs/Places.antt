@@ -11,8 +11,8 @@ use Rattle.sheet.specs.River.{network, donors}
 use Rattle.sheet.specs.Label.{outlet}
 use Rattle.claims.specs.Basin.{Basin}
 use Rattle.claims.specs.Bounds.{sum}
-use Rattle.drainage.specs.Work.{placed, sizeAt}
-use Rattle.drainage.specs.Search.{Coded, Drained, SingleOutlet}
+use Rattle.upstream.specs.Work.{placed, sizeAt}
+use Rattle.upstream.specs.Search.{Coded, Drained, SingleOutlet}
 use Rattle.drainage.specs.Total.{size}
 use Rattle.rivers.specs.Layout.{Layout, LayoutOf}
 use Rattle.order.specs.Keys.{cellOf}

@@ -4,7 +4,7 @@ ghost use mathlib.Core.Path.{_≡_};
 ghost use Prim.Native.Nat.{_+_, _*_, _<_, _≤_};
 ghost use lib.ListN.{length, set};
 ghost use Rattle.sheet.specs.Sheet.{grid};
-ghost use Rattle.drainage.specs.Work.{placed};
+ghost use Rattle.upstream.specs.Work.{placed};
 ghost use Rattle.order.specs.Places.{positionAt, Measured, Surveyed, positioned, Fitting, Standing, DonorsPlaced, Placed, entered, Apart, Entered, Arranged};
 
 // Gives the cells of keys positions one after the other from `first` on.

@@ -2,7 +2,7 @@
 use mathlib.Core.Path.{_≡_}
 use Prim.Native.Nat.{ℕ, _+_, _*_, _-_, _<_}
 use native.Mathlib.Omega.{arith}
-use Rattle.drainage.specs.Work.{receiverOf}
+use Rattle.upstream.specs.Work.{receiverOf}
 use Rattle.drainage.proofs.Gathering.{added-none, added-some}
 use borrow.Author.Needs.{needs}
 use Rattle.drainage.proofs.measure.add_to_receiver.Statement.{statement}

@@ -2,7 +2,7 @@
 use mathlib.Core.Path.{_≡_, subst}
 use Prim.Native.Nat.{ℕ, _+_, _-_, _<_, _≤_}
 use native.Mathlib.Omega.{arith}
-use Rattle.drainage.proofs.Queues.{queued-most}
+use Rattle.upstream.proofs.Queues.{queued-most}
 use Rattle.drainage.proofs.Gathering.{Gathered, gathered-start, gathered-more, gathered-end, adds}
 use Rattle.drainage.proofs.measure.gather.Statement.{statement}
 use Rattle.drainage.proofs.measure.gather.Tie as tie

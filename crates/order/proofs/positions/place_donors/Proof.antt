@@ -7,7 +7,7 @@ use lib.ListN.{length, getD, drop, length-set}
 use lib.Seq.{drop-cons, drop-length}
 use borrow.Author.Needs.{needs}
 use Rattle.claims.specs.Bounds.{sum}
-use Rattle.drainage.specs.Work.{sizeAt}
+use Rattle.upstream.specs.Work.{sizeAt}
 use Rattle.order.specs.Keys.{cellOf}
 use Rattle.order.specs.Places.{positioned, Fitting}
 use Rattle.order.proofs.Placing.{fitting-next}

@@ -14,11 +14,11 @@ use Rattle.sheet.proofs.Cells.{next-goes, next-to-lt, is-outlet}
 use Rattle.claims.specs.Basin.{Ends, ends-here, ends-after}
 use Rattle.claims.proofs.Counts.{not-true}
 use Rattle.claims.proofs.Fuel.{ends-within, reaches-ends, ends-reaches}
-use Rattle.drainage.specs.Work.{placed, rankOf, isReached}
-use Rattle.drainage.specs.Search.{Upstream, Searched}
-use Rattle.drainage.specs.Growth.{Spread}
-use Rattle.drainage.proofs.Queues.{reached-yes, reached-no, place-on}
-use Rattle.drainage.proofs.Upstream.{way-on, next-before, inside-of}
+use Rattle.upstream.specs.Work.{placed, rankOf, isReached}
+use Rattle.upstream.specs.Search.{Upstream, Searched}
+use Rattle.upstream.specs.Growth.{Spread}
+use Rattle.upstream.proofs.Queues.{reached-yes, reached-no, place-on}
+use Rattle.upstream.proofs.Upstream.{way-on, next-before, inside-of}
 
 pub both-true : {a b : Bool} → both a b ≡ true → (a ≡ true) × (b ≡ true)
 both-true {a = true} e = (refl, e)

@@ -6,11 +6,11 @@ use Rattle.sheet.specs.declared.End.the-variants.{At}
 use Rattle.sheet.specs.Sheet.{grid, donorAgainst}
 use Rattle.sheet.proofs.Cells.{cells-most, cell-lt}
 use Rattle.sheet.proofs.Donors.{donor-lt}
-use Rattle.drainage.proofs.Queues.{end-on}
-use Rattle.drainage.proofs.Spreading.{donors-off, donors-old, donors-new}
+use Rattle.upstream.proofs.Queues.{end-on}
+use Rattle.upstream.proofs.Spreading.{donors-off, donors-old, donors-new}
 use borrow.Author.Needs.{needs}
-use Rattle.drainage.proofs.search.push_donor.Statement.{statement}
-use Rattle.drainage.proofs.search.push_donor.Tie as tie
+use Rattle.upstream.proofs.push_donor.Statement.{statement}
+use Rattle.upstream.proofs.push_donor.Tie as tie
 
 mul-n : tie.Need-mul-n
 mul-n c = search needs

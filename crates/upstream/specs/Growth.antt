@@ -7,8 +7,8 @@ use Rattle.sheet.specs.declared.End.the-variants.{At}
 use Rattle.sheet.specs.declared.Next.the-variants.{To}
 use Rattle.sheet.specs.Sheet.{Grid, OnSheet, Sized, cells, isOutlet, next, donorAgainst}
 use Rattle.sheet.specs.Area.{count}
-use Rattle.drainage.specs.Work.{placed, rankOf, KeptFrom}
-use Rattle.drainage.specs.Search.{Upstream, OutletsFirst, outletCount}
+use Rattle.upstream.specs.Work.{placed, rankOf, KeptFrom}
+use Rattle.upstream.specs.Search.{Upstream, OutletsFirst, outletCount}
 
 -- a queue has grown from `end` places to end′
 pub record Grown (n : ℕ) (work : List ℕ) (end : ℕ) (work′ : List ℕ) (end′ : ℕ) : Type 0 where

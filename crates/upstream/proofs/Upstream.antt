@@ -11,9 +11,9 @@ use Rattle.sheet.specs.declared.Next.the-variants.{Outlet, To}
 use Rattle.sheet.specs.Sheet.{Grid, cells, inside, isOutlet, goesNowhere, next}
 use Rattle.sheet.specs.Water.{Passes, here, there}
 use Rattle.sheet.proofs.Cells.{inside-lt, next-goes, next-to-lt}
-use Rattle.drainage.specs.Work.{placed, rankOf, receiverOf, numbered, pushed}
-use Rattle.drainage.specs.Search.{Before, Upstream}
-use Rattle.drainage.proofs.Queues.{place-on, end-on, grown-push, queue-push, push-place, push-receiver, push-receiver-other}
+use Rattle.upstream.specs.Work.{placed, rankOf, receiverOf, numbered, pushed}
+use Rattle.upstream.specs.Search.{Before, Upstream}
+use Rattle.upstream.proofs.Queues.{place-on, end-on, grown-push, queue-push, push-place, push-receiver, push-receiver-other}
 
 -- ---- receivers as numbers
 

@@ -1,13 +1,14 @@
 // The search upstream from the outlets: a queue of cells, each after the cell that its water goes to.
+// The work places of a sheet of n cells stand in parts of n: the queue of cells in the order of the search, each cell's
+// rank in it, each queued cell's receiver, each cell's size (specs/Work.antt).
 use sheet::End;
 ghost use mathlib.Core.Path.{_≡_};
 ghost use Prim.Native.Nat.{_+_, _*_, _/_, _%_, _<_, _≤_};
 ghost use lib.ListN.{length};
 ghost use Rattle.sheet.specs.Sheet.{grid, OnSheet, Sized, isOutlet};
-ghost use Rattle.drainage.specs.Work.{KeptFrom, pushed};
-ghost use Rattle.drainage.specs.Search.{Coded, Searched};
-ghost use Rattle.drainage.specs.Growth.{Ready, DonorsPushed, AllPushed, Seeded, Spread};
-ghost use Rattle.drainage.specs.Inspect.{Cleared};
+ghost use Rattle.upstream.specs.Work.{Cleared, KeptFrom, pushed};
+ghost use Rattle.upstream.specs.Search.{Coded, Searched};
+ghost use Rattle.upstream.specs.Growth.{Ready, DonorsPushed, AllPushed, Seeded, Spread};
 
 // Queues a cell. Its receiver is the number, from 1, of the cell that its water goes to; 0 for an outlet.
 fn push(work: &mut [u32], n: usize, end: usize, cell: usize, receiver: usize) -> usize

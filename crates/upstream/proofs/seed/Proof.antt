@@ -5,11 +5,11 @@ use native.Mathlib.Omega.{arith}
 use lib.ListN.{length}
 use borrow.Author.Needs.{needs}
 use Rattle.sheet.specs.Sheet.{grid}
-use Rattle.drainage.specs.Work.{KeptFrom}
-use Rattle.drainage.specs.Growth.{Seeded}
-use Rattle.drainage.proofs.Seeds.{seeded-start}
-use Rattle.drainage.proofs.search.seed.Statement.{statement}
-use Rattle.drainage.proofs.search.seed.Tie as tie
+use Rattle.upstream.specs.Work.{KeptFrom}
+use Rattle.upstream.specs.Growth.{Seeded}
+use Rattle.upstream.proofs.Seeds.{seeded-start}
+use Rattle.upstream.proofs.seed.Statement.{statement}
+use Rattle.upstream.proofs.seed.Tie as tie
 
 abbrev Inv-loop : tie.InvT-loop
 Inv-loop dirs rows cols work₀ end₀ row₀ work end row =

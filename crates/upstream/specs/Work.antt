@@ -2,12 +2,17 @@
 use mathlib.Core.Path.{_≡_}
 use mathlib.Core.Bool.{Bool}
 use mathlib.Core.List.{List, _++_}
-use Prim.Native.Nat.{ℕ, zero, suc, _+_, _*_}
+use Prim.Native.Nat.{ℕ, zero, suc, _+_, _*_, _<_, _≤_}
 use lib.Dec.{ltb}
-use lib.ListN.{getD, set, take, drop}
+use lib.ListN.{getD, length, set, take, drop}
 use Rattle.sheet.specs.declared.Next.{Next}
 use Rattle.sheet.specs.declared.Next.the-variants.{Outlet, To}
 use Rattle.sheet.specs.Refusal.{written}
+
+-- 8n places, all 0
+pub record Cleared (n : ℕ) (work : List ℕ) : Type 0 where
+  pub room : 8 * n ≤ length work
+  pub zero : (j : ℕ) → j < 8 * n → getD work j 0 ≡ 0
 
 -- [0, n): the cells in the order of the search
 abbrev pub placed : List ℕ → ℕ → ℕ

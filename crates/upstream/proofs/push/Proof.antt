@@ -2,10 +2,10 @@
 use mathlib.Core.Path.{refl}
 use native.Mathlib.Omega.{arith}
 use lib.ListN.{length-set}
-use Rattle.drainage.specs.Work.{pushed}
+use Rattle.upstream.specs.Work.{pushed}
 use borrow.Author.Needs.{needs}
-use Rattle.drainage.proofs.search.push.Statement.{statement}
-use Rattle.drainage.proofs.search.push.Tie as tie
+use Rattle.upstream.proofs.push.Statement.{statement}
+use Rattle.upstream.proofs.push.Tie as tie
 
 cast-work : tie.Need-cast-work
 cast-work c = search needs

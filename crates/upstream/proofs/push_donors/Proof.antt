@@ -6,10 +6,10 @@ use native.Mathlib.Omega.{arith}
 use lib.ListN.{length}
 use borrow.Author.Needs.{needs}
 use Rattle.sheet.specs.Sheet.{grid}
-use Rattle.drainage.specs.Growth.{Ready, DonorsPushed}
-use Rattle.drainage.proofs.Spreading.{donors-start, donors-more, ready-more, all-pushed}
-use Rattle.drainage.proofs.search.push_donors.Statement.{statement}
-use Rattle.drainage.proofs.search.push_donors.Tie as tie
+use Rattle.upstream.specs.Growth.{Ready, DonorsPushed}
+use Rattle.upstream.proofs.Spreading.{donors-start, donors-more, ready-more, all-pushed}
+use Rattle.upstream.proofs.push_donors.Statement.{statement}
+use Rattle.upstream.proofs.push_donors.Tie as tie
 
 abbrev Inv-loop : tie.InvT-loop
 Inv-loop dirs rows cols work₀ end cell row col last₀ k₀ work last k =

@@ -10,11 +10,11 @@ use Rattle.sheet.specs.declared.Next.the-variants.{To}
 use Rattle.sheet.specs.Sheet.{Grid, Sized, OnSheet, cells, next, donorAgainst}
 use Rattle.sheet.proofs.Cells.{off-not-at, cell-lt, row-lt, next-goes, next-from-lt}
 use Rattle.sheet.proofs.Donors.{donor-lt, donor-next, next-donor}
-use Rattle.drainage.specs.Work.{placed, rankOf, pushed}
-use Rattle.drainage.specs.Search.{Before, Upstream, Coded}
-use Rattle.drainage.specs.Growth.{Grown, Seeded, Ready, DonorsPushed, AllPushed, Spread}
-use Rattle.drainage.proofs.Queues.{end-on, grown-push, push-rank}
-use Rattle.drainage.proofs.Upstream.{inside-of, outlet-lt, to-numbered, upstream-push}
+use Rattle.upstream.specs.Work.{placed, rankOf, pushed}
+use Rattle.upstream.specs.Search.{Before, Upstream, Coded}
+use Rattle.upstream.specs.Growth.{Grown, Seeded, Ready, DonorsPushed, AllPushed, Spread}
+use Rattle.upstream.proofs.Queues.{end-on, grown-push, push-rank}
+use Rattle.upstream.proofs.Upstream.{inside-of, outlet-lt, to-numbered, upstream-push}
 
 pub grown-none : (n : ℕ) (work : List ℕ) (end : ℕ) → Grown n work end work end
 grown-none n work end = record { more = omega arith; ranks = λ c l h. refl; places = λ i l. refl; kept = refl }

@@ -10,7 +10,7 @@ use Rattle.sheet.specs.Water.{reachesOutlet}
 use Rattle.sheet.specs.Area.{count}
 use Rattle.sheet.specs.Label.{outlet}
 use Rattle.sheet.specs.Refusal.{both}
-use Rattle.drainage.specs.Work.{placed, rankOf, receiverOf, isReached, numbered}
+use Rattle.upstream.specs.Work.{placed, rankOf, receiverOf, isReached, numbered}
 
 -- ---- the queue
 

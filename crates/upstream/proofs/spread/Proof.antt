@@ -5,12 +5,12 @@ use native.Mathlib.Omega.{arith}
 use lib.ListN.{length}
 use Rattle.sheet.specs.Sheet.{grid}
 use Rattle.sheet.proofs.Cells.{cells-most}
-use Rattle.drainage.specs.Work.{KeptFrom}
-use Rattle.drainage.specs.Growth.{Spread}
-use Rattle.drainage.proofs.Queues.{queued-most}
-use Rattle.drainage.proofs.Spreading.{spread-ready, spread-more}
-use Rattle.drainage.proofs.search.spread.Statement.{statement}
-use Rattle.drainage.proofs.search.spread.Tie as tie
+use Rattle.upstream.specs.Work.{KeptFrom}
+use Rattle.upstream.specs.Growth.{Spread}
+use Rattle.upstream.proofs.Queues.{queued-most}
+use Rattle.upstream.proofs.Spreading.{spread-ready, spread-more}
+use Rattle.upstream.proofs.spread.Statement.{statement}
+use Rattle.upstream.proofs.spread.Tie as tie
 
 abbrev Inv-loop : tie.InvT-loop
 Inv-loop dirs rows cols work₀ outlets end₀ head₀ work end head =

@@ -1,10 +1,10 @@
 -- `search` meets its contract.
 use mathlib.Core.Path.{_∙_}
-use Rattle.drainage.proofs.Spreading.{spread-start}
-use Rattle.drainage.proofs.Reaching.{searched}
+use Rattle.upstream.proofs.Spreading.{spread-start}
+use Rattle.upstream.proofs.Reaching.{searched}
 use borrow.Author.Needs.{needs}
-use Rattle.drainage.proofs.search.search.Statement.{statement}
-use Rattle.drainage.proofs.search.search.Tie as tie
+use Rattle.upstream.proofs.search.Statement.{statement}
+use Rattle.upstream.proofs.search.Tie as tie
 
 seed-requires : tie.Need-seed-requires
 seed-requires c κs = let p = c .before .before .before .pre in (p .0, p .2)

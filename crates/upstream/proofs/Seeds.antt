@@ -9,13 +9,13 @@ use native.Mathlib.Omega.{arith}
 use Rattle.sheet.specs.Sheet.{Grid, cells, isOutlet}
 use Rattle.sheet.specs.Area.{count}
 use Rattle.sheet.proofs.Cells.{outlet-not-to}
-use Rattle.drainage.specs.Work.{placed, rankOf, isReached, numbered, pushed}
-use Rattle.drainage.specs.Search.{Upstream}
-use Rattle.drainage.specs.Growth.{Grown, Seeded}
-use Rattle.drainage.specs.Inspect.{Cleared}
-use Rattle.drainage.proofs.Sums.{count-none}
-use Rattle.drainage.proofs.Queues.{reached-no, end-on, grown-push, push-place, push-rank}
-use Rattle.drainage.proofs.Upstream.{outlet-is, upstream-push}
+use Rattle.upstream.specs.Work.{placed, rankOf, isReached, numbered, pushed}
+use Rattle.upstream.specs.Search.{Upstream}
+use Rattle.upstream.specs.Growth.{Grown, Seeded}
+use Rattle.upstream.specs.Work.{Cleared}
+use Rattle.upstream.proofs.Sums.{count-none}
+use Rattle.upstream.proofs.Queues.{reached-no, end-on, grown-push, push-place, push-rank}
+use Rattle.upstream.proofs.Upstream.{outlet-is, upstream-push}
 
 count-no : (n : ℕ) (t : ℕ → Bool) → t n ≡ false → count (n + 1) t ≡ count n t
 unfolding count

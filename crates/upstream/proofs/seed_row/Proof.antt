@@ -6,10 +6,10 @@ use lib.ListN.{length}
 use borrow.Author.Needs.{needs}
 use Rattle.sheet.specs.Sheet.{grid}
 use Rattle.sheet.proofs.Cells.{row-end}
-use Rattle.drainage.specs.Work.{KeptFrom}
-use Rattle.drainage.specs.Growth.{Seeded}
-use Rattle.drainage.proofs.search.seed_row.Statement.{statement}
-use Rattle.drainage.proofs.search.seed_row.Tie as tie
+use Rattle.upstream.specs.Work.{KeptFrom}
+use Rattle.upstream.specs.Growth.{Seeded}
+use Rattle.upstream.proofs.seed_row.Statement.{statement}
+use Rattle.upstream.proofs.seed_row.Tie as tie
 
 abbrev Inv-loop : tie.InvT-loop
 Inv-loop dirs rows cols work₀ end row last₀ col₀ work last col =

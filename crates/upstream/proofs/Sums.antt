@@ -8,7 +8,7 @@ use native.Mathlib.Omega.{arith}
 use lib.Dec.{eqb}
 use borrow.Author.Tests.{eq-eqb, ne-eqb, eqb-true}
 use Rattle.sheet.specs.Area.{count}
-use Rattle.drainage.specs.Total.{sumOver}
+use Rattle.upstream.specs.Sum.{sumOver}
 
 pub sum-alike : (n : ℕ) (t u : ℕ → Bool) (f g : ℕ → ℕ) → ((q : ℕ) → q < n → cond (t q) (f q) 0 ≡ cond (u q) (g q) 0) → sumOver n t f ≡ sumOver n u g
 unfolding sumOver

@@ -5,11 +5,11 @@ use Prim.Native.Nat.{ℕ, _+_, _*_, _<_, _≤_}
 use native.Mathlib.Omega.{arith}
 use Rattle.sheet.specs.Sheet.{grid, isOutlet}
 use Rattle.sheet.proofs.Cells.{cells-most, cell-lt}
-use Rattle.drainage.proofs.Queues.{end-on}
-use Rattle.drainage.proofs.Seeds.{seed-free, seed-grown, seeded-none, seeded-push}
+use Rattle.upstream.proofs.Queues.{end-on}
+use Rattle.upstream.proofs.Seeds.{seed-free, seed-grown, seeded-none, seeded-push}
 use borrow.Author.Needs.{needs}
-use Rattle.drainage.proofs.search.push_outlet.Statement.{statement}
-use Rattle.drainage.proofs.search.push_outlet.Tie as tie
+use Rattle.upstream.proofs.push_outlet.Statement.{statement}
+use Rattle.upstream.proofs.push_outlet.Tie as tie
 
 abbrev cell : tie.Start → ℕ
 cell c = c .args .row * c .args .cols + c .args .col

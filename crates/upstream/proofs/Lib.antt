@@ -1,0 +1,6 @@
+pub mod Sums
+pub mod Queues
+pub mod Upstream
+pub mod Seeds
+pub mod Spreading
+pub mod Reaching

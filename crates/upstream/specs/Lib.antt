@@ -1,0 +1,4 @@
+pub mod Sum
+pub mod Work
+pub mod Search
+pub mod Growth

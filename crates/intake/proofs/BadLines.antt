@@ -4,14 +4,15 @@ use mathlib.Core.List.{List}
 use Prim.Native.Nat.{ℕ, zero, suc, _<_}
 use native.Mathlib.Omega.{arith}
 use lib.ListN.{length, getD}
-use Rattle.lines.specs.declared.names.Columns.{Columns}
-use Rattle.lines.specs.declared.names.NamesLine.the-variants.{Bad as BadNames}
+use Rattle.lines.specs.declared.columns.Columns.{Columns}
+use Rattle.names.specs.declared.NamesLine.the-variants.{Bad as BadNames}
 use Rattle.lines.specs.declared.values.ValuesLine.the-variants.{Bad as BadValues}
-use Rattle.lines.specs.Names.{namesLine}
+use Rattle.names.specs.Names.{namesLine}
 use Rattle.lines.specs.Values.{valuesLine}
-use Rattle.lines.proofs.NamesLaws.{names-long}
+use Rattle.names.proofs.NamesLaws.{names-long}
 use Rattle.lines.proofs.ValuesLaws.{values-long}
-use Rattle.lines.proofs.OtherBytes.{names-line-feed, values-line-feed}
+use Rattle.names.proofs.OtherBytes.{names-line-feed}
+use Rattle.lines.proofs.OtherBytes.{values-line-feed}
 use Rattle.intake.specs.declared.Stage.{Stage}
 use Rattle.intake.specs.declared.Stage.the-variants.{WaitingForSizeNames, WaitingForSizes, WaitingForCellNames, TakingCells, Ended}
 use Rattle.intake.specs.declared.Intake.{Intake}

@@ -4,8 +4,8 @@ use mathlib.Core.List.{List, [], _∷_}
 use Prim.Native.Nat.{ℕ}
 use lib.ListN.{replicate}
 use Rattle.decimal.specs.Ascii.{ascii}
-use Rattle.lines.specs.declared.names.Column.the-variants.{Rows, Cols, Depth, Row, Col, Dir}
-use Rattle.lines.specs.Columns.{sizeColumns, cellColumns}
+use Rattle.lines.specs.declared.columns.Column.the-variants.{Rows, Cols, Depth, Row, Col, Dir}
+use Rattle.names.specs.Columns.{sizeColumns, cellColumns}
 use Rattle.intake.specs.declared.Sizes.{Sizes}
 use Rattle.intake.specs.declared.Stage.{Stage}
 use Rattle.intake.specs.declared.Stage.the-variants.{WaitingForSizeNames, WaitingForSizes, WaitingForCellNames, TakingCells, Ended}

@@ -5,13 +5,13 @@ use mathlib.Core.Logic.{_⊎_, inl, inr}
 use Prim.Native.Nat.{ℕ, zero, suc, _<_, _≤_}
 use native.Mathlib.Omega.{arith}
 use lib.ListN.{length, length-append, length-replicate, length-drop, length-set}
-use Rattle.lines.specs.declared.names.NamesLine.{NamesLine}
-use Rattle.lines.specs.declared.names.NamesLine.the-variants.{Columns as Named, Bad as BadNames}
-use Rattle.lines.specs.declared.names.Columns.{Columns}
+use Rattle.names.specs.declared.NamesLine.{NamesLine}
+use Rattle.names.specs.declared.NamesLine.the-variants.{Columns as Named, Bad as BadNames}
+use Rattle.lines.specs.declared.columns.Columns.{Columns}
 use Rattle.lines.specs.declared.values.ValuesLine.{ValuesLine}
 use Rattle.lines.specs.declared.values.ValuesLine.the-variants.{Values as Valued, Bad as BadValues}
-use Rattle.lines.specs.Columns.{sizeColumns, cellColumns}
-use Rattle.lines.specs.Names.{namesLine}
+use Rattle.names.specs.Columns.{sizeColumns, cellColumns}
+use Rattle.names.specs.Names.{namesLine}
 use Rattle.lines.specs.Values.{valuesLine}
 use Rattle.intake.specs.declared.Sizes.{Sizes}
 use Rattle.intake.specs.declared.Cell.{Cell}

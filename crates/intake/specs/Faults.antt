@@ -4,8 +4,8 @@ use mathlib.Core.List.{List}
 use Prim.Native.Nat.{ℕ, _+_, _*_}
 use lib.Dec.{leb, ltb, eqb}
 use lib.ListN.{getD}
-use Rattle.lines.specs.declared.names.Columns.{Columns}
-use Rattle.lines.specs.declared.names.Column.the-variants.{Rows, Cols, Depth, Row, Col, Dir}
+use Rattle.lines.specs.declared.columns.Columns.{Columns}
+use Rattle.lines.specs.declared.columns.Column.the-variants.{Rows, Cols, Depth, Row, Col, Dir}
 use Rattle.lines.specs.declared.values.Values.{Values}
 use Rattle.lines.specs.Columns.{sameColumn}
 use Rattle.lines.specs.Values.{valueOf}

@@ -4,13 +4,13 @@ use mathlib.Core.List.{List, _++_}
 use Prim.Native.Nat.{ℕ}
 use lib.Dec.{eqb}
 use lib.ListN.{length, drop, replicate, set}
-use Rattle.lines.specs.declared.names.Columns.{Columns}
-use Rattle.lines.specs.declared.names.NamesLine.{NamesLine}
-use Rattle.lines.specs.declared.names.NamesLine.the-variants.{Columns as Named, Bad as BadNames}
+use Rattle.lines.specs.declared.columns.Columns.{Columns}
+use Rattle.names.specs.declared.NamesLine.{NamesLine}
+use Rattle.names.specs.declared.NamesLine.the-variants.{Columns as Named, Bad as BadNames}
 use Rattle.lines.specs.declared.values.ValuesLine.{ValuesLine}
 use Rattle.lines.specs.declared.values.ValuesLine.the-variants.{Values as Valued, Bad as BadValues}
-use Rattle.lines.specs.Columns.{sizeColumns, cellColumns}
-use Rattle.lines.specs.Names.{namesLine}
+use Rattle.names.specs.Columns.{sizeColumns, cellColumns}
+use Rattle.names.specs.Names.{namesLine}
 use Rattle.lines.specs.Values.{valuesLine}
 use Rattle.intake.specs.declared.Sizes.{Sizes}
 use Rattle.intake.specs.declared.Cell.{Cell}

@@ -8,7 +8,7 @@ mod name_lines;
 mod size_lines;
 
 use cell_lines::cell_line;
-use lines::names::Columns;
+use lines::columns::Columns;
 use name_lines::cell_names_line;
 use name_lines::size_names_line;
 use size_lines::sizes_fault;

@@ -1,19 +1,19 @@
 // Names lines: those of the sizes and those of the cells.
 ghost use mathlib.Core.Path.{_≡_};
-ghost use Rattle.lines.specs.Columns.{sizeColumns, cellColumns};
-ghost use Rattle.lines.specs.Names.{namesLine};
+ghost use Rattle.names.specs.Columns.{sizeColumns, cellColumns};
+ghost use Rattle.names.specs.Names.{namesLine};
 ghost use Rattle.intake.specs.Intake.{onSizeNames, onCellNames};
 use super::Outcome;
 use super::Sizes;
 use super::Stage;
 use super::Taken;
 use super::answer;
-use lines::names::NamesLine;
+use names::NamesLine;
 
 pub fn size_names_line(line: &[u8]) -> Taken
     ensures { λ r. ⌜ r ≡ onSizeNames (namesLine sizeColumns (now (line .entry))) ⌝ }
 {
-    let NamesLine::Columns(columns) = lines::names::read_size_names(line) else {
+    let NamesLine::Columns(columns) = names::read_size_names(line) else {
         return answer(Stage::WaitingForSizeNames, Outcome::Refused(8));
     };
     answer(Stage::WaitingForSizes(columns), Outcome::Accepted)
@@ -22,7 +22,7 @@ pub fn size_names_line(line: &[u8]) -> Taken
 pub fn cell_names_line(sizes: Sizes, line: &[u8]) -> Taken
     ensures { λ r. ⌜ r ≡ onCellNames sizes (namesLine cellColumns (now (line .entry))) ⌝ }
 {
-    let NamesLine::Columns(columns) = lines::names::read_cell_names(line) else {
+    let NamesLine::Columns(columns) = names::read_cell_names(line) else {
         return answer(Stage::WaitingForCellNames(sizes), Outcome::Refused(8));
     };
     answer(Stage::TakingCells(sizes, columns), Outcome::Accepted)

@@ -6,7 +6,7 @@ use Rattle.sheet.specs.declared.Outcome.the-variants.{Accepted, Refused}
 use Rattle.sheet.specs.Refusal.{Lent}
 use Rattle.intake.specs.declared.Sizes.{Sizes}
 use Rattle.intake.specs.declared.Stage.the-variants.{WaitingForSizeNames, WaitingForSizes, WaitingForCellNames, TakingCells, Ended}
-use Rattle.lines.specs.Columns.{sizeColumns, cellColumns}
+use Rattle.names.specs.Columns.{sizeColumns, cellColumns}
 use Rattle.labelling.specs.Labelling.{lent}
 use Rattle.labelling.specs.FromIntake.{intakeOutcome, intakeLent}
 

@@ -1,4 +1,3 @@
 pub mod Fields
 pub mod Columns
-pub mod Names
 pub mod Values

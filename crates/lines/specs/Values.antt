@@ -8,8 +8,8 @@ use lib.Dec.{eqb}
 use Rattle.decimal.specs.declared.Value.{Value}
 use Rattle.decimal.specs.declared.Value.the-variants.{Found, Bad as NoValue}
 use Rattle.decimal.specs.Value.{valueAt}
-use Rattle.lines.specs.declared.names.Column.{Column}
-use Rattle.lines.specs.declared.names.Columns.{Columns}
+use Rattle.lines.specs.declared.columns.Column.{Column}
+use Rattle.lines.specs.declared.columns.Columns.{Columns}
 use Rattle.lines.specs.declared.values.Values.{Values}
 use Rattle.lines.specs.declared.values.ValuesLine.{ValuesLine}
 use Rattle.lines.specs.declared.values.ValuesLine.the-variants.{Values as Valued, Bad}

@@ -1,6 +1,6 @@
-// Lines of the file: names lines and value lines, whose fields are parted by commas.
-mod fields;
-pub mod names;
+// Lines of the file: their columns, their fields, which are parted by commas, and value lines.
+pub mod columns;
+pub mod fields;
 pub mod values;
 
 // A line has at most 80 bytes before its line feed.

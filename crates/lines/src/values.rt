@@ -2,10 +2,10 @@
 ghost use mathlib.Core.Path.{_≡_};
 ghost use Rattle.lines.specs.Fields.{fields};
 ghost use Rattle.lines.specs.Values.{fieldValue, withValue, noValues, valuesFrom, valuesLine, valueOf};
+use super::columns::Column;
+use super::columns::Columns;
+use super::columns::same_column;
 use super::fields::field_end;
-use super::names::Column;
-use super::names::Columns;
-use super::names::same_column;
 use decimal::Value;
 
 // The values of a line, in the order of its columns.

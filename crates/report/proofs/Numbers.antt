@@ -15,13 +15,13 @@ use Rattle.sheet.specs.Sheet.{Grid, Sheet, cells, inside, first}
 use Rattle.sheet.specs.Refusal.{Lent, badCode, undrained, outletFrom, firstAfter, secondOutlet, refusedAt, refusedIfNone, sizesFit, depthFits, slicesFit, outcomeOn, outcome}
 use Rattle.sheet.proofs.First.{at-first}
 use Rattle.sheet.proofs.Cells.{cells-most}
-use Rattle.lines.specs.declared.names.NamesLine.{NamesLine}
-use Rattle.lines.specs.declared.names.NamesLine.the-variants.{Columns as Named, Bad as BadNames}
-use Rattle.lines.specs.declared.names.Columns.{Columns}
+use Rattle.names.specs.declared.NamesLine.{NamesLine}
+use Rattle.names.specs.declared.NamesLine.the-variants.{Columns as Named, Bad as BadNames}
+use Rattle.lines.specs.declared.columns.Columns.{Columns}
 use Rattle.lines.specs.declared.values.ValuesLine.{ValuesLine}
 use Rattle.lines.specs.declared.values.ValuesLine.the-variants.{Values as Valued, Bad as BadValues}
-use Rattle.lines.specs.Columns.{sizeColumns, cellColumns}
-use Rattle.lines.specs.Names.{namesLine}
+use Rattle.names.specs.Columns.{sizeColumns, cellColumns}
+use Rattle.names.specs.Names.{namesLine}
 use Rattle.lines.specs.Values.{valuesLine}
 use Rattle.intake.specs.declared.Sizes.{Sizes}
 use Rattle.intake.specs.declared.Cell.{Cell}

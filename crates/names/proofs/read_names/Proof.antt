@@ -1,10 +1,10 @@
--- `lines::names::read_names` meets its contract.
+-- `names::read_names` meets its contract.
 use mathlib.Core.Path.{sym, _∙_}
 use native.Mathlib.Omega.{arith}
 use borrow.Author.Needs.{needs}
-use Rattle.lines.proofs.NamesLaws.{names-long, names-bad, names-expected, names-unexpected}
-use Rattle.lines.proofs.names.read_names.Statement.{statement}
-use Rattle.lines.proofs.names.read_names.Tie as tie
+use Rattle.names.proofs.NamesLaws.{names-long, names-bad, names-expected, names-unexpected}
+use Rattle.names.proofs.read_names.Statement.{statement}
+use Rattle.names.proofs.read_names.Tie as tie
 
 returns : tie.Need-returns
 returns c = sym (names-long _ _ (omega arith))

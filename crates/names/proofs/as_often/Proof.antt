@@ -1,8 +1,8 @@
--- `lines::names::as_often` meets its contract.
+-- `names::as_often` meets its contract.
 use borrow.Author.Needs.{needs}
-use Rattle.lines.specs.Columns.{asOften}
-use Rattle.lines.proofs.names.as_often.Statement.{statement}
-use Rattle.lines.proofs.names.as_often.Tie as tie
+use Rattle.names.specs.Columns.{asOften}
+use Rattle.names.proofs.as_often.Statement.{statement}
+use Rattle.names.proofs.as_often.Tie as tie
 
 count-column-requires : tie.Need-count-column-requires
 count-column-requires c κs = search needs

@@ -1,8 +1,8 @@
--- `lines::names::with_column` meets its contract.
+-- `names::with_column` meets its contract.
 use borrow.Author.Tests.{ne-eqb}
-use Rattle.lines.specs.Columns.{withColumn}
-use Rattle.lines.proofs.names.with_column.Statement.{statement}
-use Rattle.lines.proofs.names.with_column.Tie as tie
+use Rattle.names.specs.Columns.{withColumn}
+use Rattle.names.proofs.with_column.Statement.{statement}
+use Rattle.names.proofs.with_column.Tie as tie
 
 returns : tie.Need-returns
 unfolding withColumn

@@ -1,9 +1,9 @@
--- `lines::names::same_columns` meets its contract.
+-- `names::same_columns` meets its contract.
 use mathlib.Core.Path.{sym, _∙_}
 use borrow.Author.Needs.{needs}
-use Rattle.lines.specs.Columns.{sameColumns}
-use Rattle.lines.proofs.names.same_columns.Statement.{statement}
-use Rattle.lines.proofs.names.same_columns.Tie as tie
+use Rattle.names.specs.Columns.{sameColumns}
+use Rattle.names.proofs.same_columns.Statement.{statement}
+use Rattle.names.proofs.same_columns.Tie as tie
 
 as-often-requires : tie.Need-as-often-requires
 as-often-requires c κs = search needs

@@ -3,13 +3,14 @@ use Prim.Native.Nat.{ℕ, _+_}
 use mathlib.Core.List.{List, [], _∷_}
 use mathlib.Core.Bool.{cond}
 use lib.Dec.{leb}
-use Rattle.lines.specs.declared.names.Column.{Column}
-use Rattle.lines.specs.declared.names.Column.the-variants.{Absent}
-use Rattle.lines.specs.declared.names.Columns.{Columns}
-use Rattle.lines.specs.declared.names.NamesLine.{NamesLine}
-use Rattle.lines.specs.declared.names.NamesLine.the-variants.{Columns as Named, Bad}
+use Rattle.lines.specs.declared.columns.Column.{Column}
+use Rattle.lines.specs.declared.columns.Column.the-variants.{Absent}
+use Rattle.lines.specs.declared.columns.Columns.{Columns}
+use Rattle.names.specs.declared.NamesLine.{NamesLine}
+use Rattle.names.specs.declared.NamesLine.the-variants.{Columns as Named, Bad}
 use Rattle.lines.specs.Fields.{fitsLine, fields}
-use Rattle.lines.specs.Columns.{columnIf, columnNamed, sameColumn, noColumns, withColumn, sameColumns}
+use Rattle.lines.specs.Columns.{sameColumn}
+use Rattle.names.specs.Columns.{columnIf, columnNamed, noColumns, withColumn, sameColumns}
 
 -- The columns that fields name, read column by column from a place on: each field has to name a column, and there are three places.
 unfoldable pub namesFrom : ℕ → List (List ℕ) → Columns → NamesLine

@@ -1,10 +1,10 @@
--- `lines::names::count_column` meets its contract.
+-- `names::count_column` meets its contract.
 use native.Mathlib.Omega.{arith}
 use borrow.Author.Needs.{needs}
-use Rattle.lines.specs.Columns.{countColumn}
-use Rattle.lines.proofs.ColumnLaws.{byte-small, byte-one}
-use Rattle.lines.proofs.names.count_column.Statement.{statement}
-use Rattle.lines.proofs.names.count_column.Tie as tie
+use Rattle.names.specs.Columns.{countColumn}
+use Rattle.names.proofs.ColumnLaws.{byte-small, byte-one}
+use Rattle.names.proofs.count_column.Statement.{statement}
+use Rattle.names.proofs.count_column.Tie as tie
 
 same-column-requires : tie.Need-same-column-requires
 same-column-requires c κs = search needs

@@ -1,8 +1,8 @@
--- `lines::names::same_column` meets its contract.
+-- `lines::columns::same_column` meets its contract.
 use borrow.Author.Needs.{needs}
 use Rattle.lines.specs.Columns.{sameColumn}
-use Rattle.lines.proofs.names.same_column.Statement.{statement}
-use Rattle.lines.proofs.names.same_column.Tie as tie
+use Rattle.lines.proofs.columns.same_column.Statement.{statement}
+use Rattle.lines.proofs.columns.same_column.Tie as tie
 
 column-number-requires : tie.Need-column-number-requires
 column-number-requires c κs = search needs

@@ -4,7 +4,7 @@ use mathlib.Core.Path.{_≡_, refl}
 use mathlib.Core.Bool.{Bool, true, false}
 use native.Mathlib.Omega.{arith}
 use mir.Val.{boolByte}
-use Rattle.lines.specs.Columns.{one}
+use Rattle.names.specs.Columns.{one}
 
 -- a Bool as a byte
 pub byte-one : (t : Bool) → boolByte t ≡ one t

@@ -1,12 +1,12 @@
--- `lines::names::column_named` meets its contract.
+-- `names::column_named` meets its contract.
 use borrow.Author.Needs.{needs}
 use Prim.Native.Nat.{ℕ}
 use mathlib.Core.Path.{_≡_, ap, _∙_}
 use mathlib.Core.List.{List}
-use Rattle.lines.specs.declared.names.Column.{Column}
-use Rattle.lines.specs.Columns.{columnIf, columnNamed}
-use Rattle.lines.proofs.names.column_named.Statement.{statement}
-use Rattle.lines.proofs.names.column_named.Tie as tie
+use Rattle.lines.specs.declared.columns.Column.{Column}
+use Rattle.names.specs.Columns.{columnIf, columnNamed}
+use Rattle.names.proofs.column_named.Statement.{statement}
+use Rattle.names.proofs.column_named.Tie as tie
 
 -- what a call gives, with its last argument replaced by what an earlier call gives
 chain : (f name : List ℕ) (column : Column) {other given result : Column} → result ≡ columnIf f name column other → other ≡ given → result ≡ columnIf f name column given

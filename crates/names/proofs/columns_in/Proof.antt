@@ -1,16 +1,16 @@
--- `lines::names::columns_in` meets its contract. The invariant: the columns from the present place on, read into the present columns, are the columns of the line.
+-- `names::columns_in` meets its contract. The invariant: the columns from the present place on, read into the present columns, are the columns of the line.
 use Prim.Native.Nat.{_≤_, _-_, _+_}
 use mathlib.Core.Path.{_≡_, sym, ap, _∙_}
 use native.Mathlib.Omega.{arith}
 use borrow.Author.Needs.{needs}
 use lib.ListN.{length}
 use Rattle.lines.specs.Fields.{fields}
-use Rattle.lines.specs.Columns.{noColumns}
-use Rattle.lines.specs.Names.{namesFrom}
+use Rattle.names.specs.Columns.{noColumns}
+use Rattle.names.specs.Names.{namesFrom}
 use Rattle.lines.proofs.FieldLaws.{fieldsFrom, fields-all, end-within, end-after}
-use Rattle.lines.proofs.NamesLaws.{names-at-done, names-at-over, names-at-other, names-at-column}
-use Rattle.lines.proofs.names.columns_in.Statement.{statement}
-use Rattle.lines.proofs.names.columns_in.Tie as tie
+use Rattle.names.proofs.NamesLaws.{names-at-done, names-at-over, names-at-other, names-at-column}
+use Rattle.names.proofs.columns_in.Statement.{statement}
+use Rattle.names.proofs.columns_in.Tie as tie
 
 abbrev Inv-loop : tie.InvT-loop
 Inv-loop line columns₀ place₀ at₀ columns place at =

@@ -1,53 +1,18 @@
 // Names lines: the expected names in any order, each exactly once, parted by commas.
 ghost use mathlib.Core.Path.{_≡_};
 ghost use Rattle.lines.specs.Fields.{fields};
-ghost use Rattle.lines.specs.Columns.{columnNumber, sameColumn, columnIf, columnNamed, withColumn, noColumns, countColumn, asOften, sameColumns, sizeColumns, cellColumns};
-ghost use Rattle.lines.specs.Names.{namesFrom, namesLine};
-use super::fields::field_end;
-use super::fields::same_bytes;
-
-// A column, by its name in the file. Absent stands for no column.
-pub enum Column {
-    Absent,
-    Rows,
-    Cols,
-    Depth,
-    Row,
-    Col,
-    Dir,
-}
-
-// The columns of a line, in their order.
-pub struct Columns {
-    pub first: Column,
-    pub second: Column,
-    pub third: Column,
-}
+ghost use Rattle.names.specs.Columns.{columnIf, columnNamed, withColumn, noColumns, countColumn, asOften, sameColumns, sizeColumns, cellColumns};
+ghost use Rattle.names.specs.Names.{namesFrom, namesLine};
+use lines::columns::Column;
+use lines::columns::Columns;
+use lines::columns::same_column;
+use lines::fields::field_end;
+use lines::fields::same_bytes;
 
 // What reading a names line gives.
 pub enum NamesLine {
     Columns(Columns),
     Bad,
-}
-
-fn column_number(column: Column) -> u8
-    ensures { λ r. ⌜ r ≡ columnNumber column ⌝ }
-{
-    match column {
-        Column::Absent => 0,
-        Column::Rows => 1,
-        Column::Cols => 2,
-        Column::Depth => 3,
-        Column::Row => 4,
-        Column::Col => 5,
-        Column::Dir => 6,
-    }
-}
-
-pub fn same_column(a: Column, b: Column) -> bool
-    ensures { λ r. ⌜ r ≡ sameColumn a b ⌝ }
-{
-    column_number(a) == column_number(b)
 }
 
 // A column where a field is its name, and another where it is not.
@@ -159,7 +124,7 @@ fn columns_in(line: &[u8]) -> NamesLine
         place += 1;
         at = end + 1;
     }
-    if place <= super::COLUMN_COUNT {
+    if place <= lines::COLUMN_COUNT {
         NamesLine::Columns(columns)
     } else {
         NamesLine::Bad
@@ -170,7 +135,7 @@ fn columns_in(line: &[u8]) -> NamesLine
 fn read_names(line: &[u8], expected: Columns) -> NamesLine
     ensures { λ r. ⌜ r ≡ namesLine expected (now (line .entry)) ⌝ }
 {
-    if super::LINE_BYTES < line.len() {
+    if lines::LINE_BYTES < line.len() {
         return NamesLine::Bad;
     }
     let NamesLine::Columns(columns) = columns_in(line) else {

@@ -6,15 +6,16 @@ use mathlib.Core.Bool.{Bool, true, false, cond, _&&_, and-eq-true-iff}
 use native.Mathlib.Omega.{arith}
 use borrow.Author.Tests.{le-leb, lt-leb, eqb-true}
 use lib.ListN.{length, take, drop}
-use Rattle.lines.specs.declared.names.Column.{Column}
-use Rattle.lines.specs.declared.names.Column.the-variants.{Absent, Rows, Cols, Depth, Row, Col, Dir}
-use Rattle.lines.specs.declared.names.Columns.{Columns}
-use Rattle.lines.specs.declared.names.NamesLine.{NamesLine}
-use Rattle.lines.specs.declared.names.NamesLine.the-variants.{Columns as Named, Bad}
+use Rattle.lines.specs.declared.columns.Column.{Column}
+use Rattle.lines.specs.declared.columns.Column.the-variants.{Absent, Rows, Cols, Depth, Row, Col, Dir}
+use Rattle.lines.specs.declared.columns.Columns.{Columns}
+use Rattle.names.specs.declared.NamesLine.{NamesLine}
+use Rattle.names.specs.declared.NamesLine.the-variants.{Columns as Named, Bad}
 use Rattle.lines.specs.Fields.{fitsLine, fields, fieldEnd}
-use Rattle.lines.specs.Columns.{columnNamed, sameColumn, withColumn, noColumns, countColumn, asOften, sameColumns, sizeColumns, cellColumns}
-use Rattle.lines.specs.Names.{namesFrom, ifExpected, namesLine}
+use Rattle.lines.specs.Columns.{sameColumn}
+use Rattle.names.specs.Columns.{columnNamed, withColumn, noColumns, countColumn, asOften, sameColumns, sizeColumns, cellColumns}
+use Rattle.names.specs.Names.{namesFrom, ifExpected, namesLine}
 use Rattle.lines.proofs.FieldLaws.{fieldsFrom, fields-at, fields-past}
 
 -- Column by column.
 module _ (place : ℕ) (c : Columns) where

@@ -1,9 +1,9 @@
--- `lines::names::column_if` meets its contract.
+-- `names::column_if` meets its contract.
 use mathlib.Core.Path.{sym, _∙_}
 use borrow.Author.Needs.{needs}
-use Rattle.lines.specs.Columns.{columnIf}
-use Rattle.lines.proofs.names.column_if.Statement.{statement}
-use Rattle.lines.proofs.names.column_if.Tie as tie
+use Rattle.names.specs.Columns.{columnIf}
+use Rattle.names.proofs.column_if.Statement.{statement}
+use Rattle.names.proofs.column_if.Tie as tie
 
 same-bytes-requires : tie.Need-same-bytes-requires
 same-bytes-requires c κs = search needs

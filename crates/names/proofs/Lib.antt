@@ -1,0 +1,4 @@
+pub mod ColumnLaws
+pub mod NamesLaws
+pub mod OtherBytes
+pub mod Cases

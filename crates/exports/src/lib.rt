@@ -40,5 +40,5 @@ pub extern "C" fn pf_label(
 pub extern "C" fn pf_flow(depth: usize, p: u64, q: u64) -> u32
     ensures { λ r. ⌜ r ≡ answerNumber (flow depth p q) ⌝ }
 {
-    labels::question::answer_number(labels::question::flow_of(depth, p, q))
+    flow::answer_number(flow::flow_of(depth, p, q))
 }

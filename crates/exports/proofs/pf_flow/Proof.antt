@@ -6,8 +6,8 @@ use Rattle.exports.proofs.pf_flow.Statement.{statement}
 use Rattle.exports.proofs.pf_flow.Tie as tie
 use Rattle.exports.proofs.pf_flow.Reads as reads
 use Rattle.exports.proofs.pf_flow.Lts as lts
-use Rattle.labels.proofs.question.answer_number.Reads as answer-number-reads
-use Rattle.labels.proofs.question.flow_of.Reads as flow-of-reads
+use Rattle.flow.proofs.answer_number.Reads as answer-number-reads
+use Rattle.flow.proofs.flow_of.Reads as flow-of-reads
 
 flow-of-requires : tie.Need-flow-of-requires
 flow-of-requires c κs = search needs

@@ -1,8 +1,8 @@
 -- `are_labels` meets its contract.
 use mathlib.Core.Path.{sym, _∙_}
 use borrow.Author.Needs.{needs}
-use Rattle.labels.proofs.question.are_labels.Statement.{statement}
-use Rattle.labels.proofs.question.are_labels.Tie as tie
+use Rattle.flow.proofs.are_labels.Statement.{statement}
+use Rattle.flow.proofs.are_labels.Tie as tie
 
 is-label-requires : tie.Need-is-label-requires
 is-label-requires c κs = search needs

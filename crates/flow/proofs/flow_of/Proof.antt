@@ -2,8 +2,8 @@
 use mathlib.Core.Path.{sym, _∙_}
 use borrow.Author.Needs.{needs}
 use Rattle.sheet.specs.Flow.{flow}
-use Rattle.labels.proofs.question.flow_of.Statement.{statement}
-use Rattle.labels.proofs.question.flow_of.Tie as tie
+use Rattle.flow.proofs.flow_of.Statement.{statement}
+use Rattle.flow.proofs.flow_of.Tie as tie
 
 depth-fits-requires : tie.Need-depth-fits-requires
 depth-fits-requires c κs = search needs

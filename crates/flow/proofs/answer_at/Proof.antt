@@ -3,9 +3,9 @@ use mathlib.Core.Path.{sym, _∙_}
 use borrow.Author.Tests.{lt-ltb, le-ltb}
 use borrow.Author.Needs.{needs}
 use Rattle.sheet.specs.Flow.{answerAt}
-use Rattle.labels.proofs.Places.{part-left, part-right}
-use Rattle.labels.proofs.question.answer_at.Statement.{statement}
-use Rattle.labels.proofs.question.answer_at.Tie as tie
+use Rattle.flow.proofs.Places.{part-left, part-right}
+use Rattle.flow.proofs.answer_at.Statement.{statement}
+use Rattle.flow.proofs.answer_at.Tie as tie
 
 part-at-requires : tie.Need-part-at-requires
 part-at-requires c κs = search needs

@@ -7,8 +7,8 @@ use lib.ListN.{length, drop}
 use borrow.Author.Tests.{eq-eqb, ne-eqb}
 use Rattle.sheet.specs.Flow.{every, isOdd}
 use Rattle.digits.proofs.Places.{every-end, every-no, every-yes}
-use Rattle.labels.proofs.question.all_odd.Statement.{statement}
-use Rattle.labels.proofs.question.all_odd.Tie as tie
+use Rattle.flow.proofs.all_odd.Statement.{statement}
+use Rattle.flow.proofs.all_odd.Tie as tie
 
 abbrev Inv-loop : tie.InvT-loop
 Inv-loop digits from i₀ i = every isOdd (drop i digits) ≡ every isOdd (drop from digits)

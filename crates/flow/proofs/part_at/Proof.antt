@@ -5,9 +5,9 @@ use mathlib.Core.Path.{_≡_, refl, sym, _∙_}
 use Prim.Native.Nat.{_-_}
 use lib.ListN.{length, drop}
 use Rattle.sheet.specs.Flow.{partFrom, partAt}
-use Rattle.labels.proofs.Places.{part-end, part-short, part-same, part-here}
-use Rattle.labels.proofs.question.part_at.Statement.{statement}
-use Rattle.labels.proofs.question.part_at.Tie as tie
+use Rattle.flow.proofs.Places.{part-end, part-short, part-same, part-here}
+use Rattle.flow.proofs.part_at.Statement.{statement}
+use Rattle.flow.proofs.part_at.Tie as tie
 
 abbrev Inv-loop : tie.InvT-loop
 Inv-loop p q i₀ i = partFrom i (drop i p) (drop i q) ≡ partAt p q

@@ -6,9 +6,9 @@ use lib.ListN.{replicate}
 use borrow.Author.Needs.{needs}
 use Rattle.sheet.specs.Label.{digitsOf}
 use Rattle.sheet.proofs.Digits.{digits-at-most-20}
-use Rattle.labels.proofs.Places.{written-within, written-first, written-count}
-use Rattle.labels.proofs.question.answer_unequal.Statement.{statement}
-use Rattle.labels.proofs.question.answer_unequal.Tie as tie
+use Rattle.flow.proofs.Places.{written-within, written-first, written-count}
+use Rattle.flow.proofs.answer_unequal.Statement.{statement}
+use Rattle.flow.proofs.answer_unequal.Tie as tie
 
 -- the places that the digits are written to
 abbrev places : List ℕ

@@ -2,8 +2,8 @@
 use mathlib.Core.Path.{sym, ap}
 use borrow.Author.Needs.{needs}
 use Rattle.sheet.specs.Flow.{answerNumber}
-use Rattle.labels.proofs.question.answer_number.Statement.{statement}
-use Rattle.labels.proofs.question.answer_number.Tie as tie
+use Rattle.flow.proofs.answer_number.Statement.{statement}
+use Rattle.flow.proofs.answer_number.Tie as tie
 
 enum-told : tie.Need-enum-told
 enum-told c = search needs

@@ -3,8 +3,8 @@ use mathlib.Core.Path.{sym, _∙_}
 use borrow.Author.Tests.{eq-eqb, ne-eqb}
 use borrow.Author.Needs.{needs}
 use Rattle.sheet.specs.Flow.{flowDigits}
-use Rattle.labels.proofs.question.flow_digits.Statement.{statement}
-use Rattle.labels.proofs.question.flow_digits.Tie as tie
+use Rattle.flow.proofs.flow_digits.Statement.{statement}
+use Rattle.flow.proofs.flow_digits.Tie as tie
 
 are-labels-requires : tie.Need-are-labels-requires
 are-labels-requires c κs = search needs

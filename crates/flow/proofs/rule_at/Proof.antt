@@ -2,8 +2,8 @@
 use borrow.Author.Tests.{lt-ltb, le-ltb}
 use borrow.Author.Needs.{needs}
 use Rattle.sheet.specs.Flow.{ruleAt}
-use Rattle.labels.proofs.question.rule_at.Statement.{statement}
-use Rattle.labels.proofs.question.rule_at.Tie as tie
+use Rattle.flow.proofs.rule_at.Statement.{statement}
+use Rattle.flow.proofs.rule_at.Tie as tie
 
 shared-slice-read-if1 : tie.Need-shared-slice-read-if1
 shared-slice-read-if1 c = search needs

@@ -1,2 +1,0 @@
-// The flow question on two labels.
-pub mod question;

@@ -13,8 +13,9 @@ use Rattle.sheet.specs.Water.{passes, Passes, here, there}
 use Rattle.sheet.specs.River.{donors, Network}
 use Rattle.sheet.specs.Area.{count}
 use Rattle.claims.specs.Bounds.{sum}
+use Rattle.claims.specs.Lawful.{Rising, rising-cons, Lawful}
 use Rattle.claims.proofs.Runs.{pass-trans, pass-last, pass-dist, pass-same}
-use Rattle.claims.proofs.Lawful.{passes-true, passes-all, Rising, Lawful, rising-cons}
+use Rattle.claims.proofs.Lawful.{passes-true, passes-all}
 use Rattle.claims.proofs.Counts.{count-either, count-one}
 
 unfoldable any-of : (ℕ → ℕ → Bool) → List ℕ → ℕ → Bool

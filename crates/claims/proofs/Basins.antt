@@ -14,8 +14,9 @@ use Rattle.sheet.proofs.Faults.{is-inside}
 use Rattle.claims.specs.Basin.{Ends, Basin, ends-here, ends-after}
 use Rattle.claims.specs.Demand.{Shares, OneOutlet, DemandThree, OutletRule}
 use Rattle.claims.specs.Parting.{PartAt, RuleAt}
-use Rattle.claims.proofs.Runs.{pass-trans, MouthOf}
-use Rattle.claims.proofs.Lawful.{Lawful}
+use Rattle.claims.specs.Runs.{MouthOf}
+use Rattle.claims.specs.Lawful.{Lawful}
+use Rattle.claims.proofs.Runs.{pass-trans}
 use Rattle.claims.proofs.Parting.{parted-at, part-differs, both-ways, Parted, Rule}
 use Rattle.claims.proofs.DigitRule.{unitOutlet, outlet-rule, cell-rule}
 use Rattle.claims.proofs.Units.{drains-passes, one-outlet, digitsIn, begins-all, unit-outlet, named-outlet}

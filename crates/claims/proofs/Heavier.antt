@@ -13,8 +13,8 @@ use Rattle.sheet.specs.declared.Next.{Next}
 use Rattle.sheet.specs.declared.Next.the-variants.{Outlet, To}
 use Rattle.sheet.specs.River.{heavier, insert, endsOn, donorsBelow, Network}
 use Rattle.sheet.specs.Area.{heavierBy}
-use Rattle.claims.proofs.Order.{Above}
-use Rattle.claims.proofs.Lawful.{Rising, rising-end, rising-cons}
+use Rattle.claims.specs.Runs.{Above}
+use Rattle.claims.specs.Lawful.{Rising, rising-end, rising-cons}
 
 pub data More (area : ℕ → ℕ) (u v : ℕ) : Type 0 where
   larger : area v < area u → More area u v

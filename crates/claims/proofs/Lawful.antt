@@ -1,36 +1,19 @@
--- What is asked of a network, and that the tests of the definitions say what they mean.
+-- In a lawful network the tests of the definitions say what they mean.
 use mathlib.Core.Path.{_≡_, refl, sym}
 use mathlib.Core.Bool.{Bool, true, false, cond, true≢false}
-use mathlib.Core.Option.{Option, none, some}
-use mathlib.Core.List.{List, [], _∷_, List·Memᴰ}
+use mathlib.Core.List.{[], _∷_}
 use mathlib.Core.Logic.{inl, inr}
-use Prim.Native.Nat.{ℕ, zero, suc, _≤_, _<_}
+use Prim.Native.Nat.{ℕ, zero, suc, _≤_}
 use native.Mathlib.Omega.{arith}
 use lib.Dec.{eqb}
 use borrow.Author.Tests.{eqb-true, eq-eqb}
 use Rattle.sheet.specs.declared.Next.{Next}
 use Rattle.sheet.specs.declared.Next.the-variants.{Outlet, To}
 use Rattle.sheet.specs.Water.{onward, passes, Passes, here, there}
-use Rattle.sheet.specs.Unit.{taken}
 use Rattle.sheet.specs.Label.{passesIn, holds}
-use Rattle.sheet.specs.River.{donors, Run, Network, stem, mouth}
-use Rattle.claims.proofs.Runs.{has-stem, has-under, in-none, in-cons, In, MouthOf, is-stem, is-under, at-head, in-tail}
-use Rattle.claims.proofs.Order.{Above}
-
-pub data Rising (heavier : ℕ → ℕ → Bool) : Option ℕ → List ℕ → Type 0 where
-  rising-end : {old : Option ℕ} → Rising heavier old []
-  rising-cons : {old : Option ℕ} {u : ℕ} {us : List ℕ} → Above heavier old u → Rising heavier (some u) us → Rising heavier old (u ∷ us)
-
-pub record Lawful (N : Network) (heavier : ℕ → ℕ → Bool) : Type 0 where
-  pub dist : ℕ → ℕ
-  pub falls : (u r : ℕ) → N .next u ≡ To r → dist u ≡ suc (dist r)
-  pub short : (u : ℕ) → dist u < N .cells
-  pub donor-steps : (c u : ℕ) → List·Memᴰ u (donors N c) → N .next u ≡ To c
-  pub donors-complete : (c u : ℕ) → N .next u ≡ To c → List·Memᴰ u (donors N c)
-  pub donors-rising : (c : ℕ) → Rising heavier none (donors N c)
-  pub lighter : (u v w : ℕ) → heavier w v ≡ true → heavier v u ≡ true → heavier w u ≡ true
-  pub unlike : (u : ℕ) → heavier u u ≡ false
-  pub upward : (R : Run) (u v : ℕ) → MouthOf R v → taken N R v ≡ true → MouthOf R u → heavier u v ≡ true → taken N R u ≡ true
+use Rattle.sheet.specs.River.{Run, Network, stem, mouth}
+use Rattle.claims.specs.Lawful.{Lawful}
+use Rattle.claims.proofs.Runs.{has-stem, has-under, in-none, in-cons, In, is-stem, is-under, at-head, in-tail}
 
 pub data Test (b : Bool) (A : Type 0) : Type 0 where
   yes : b ≡ true → A → Test b A

@@ -13,10 +13,11 @@ use Rattle.sheet.specs.Water.{here}
 use Rattle.sheet.specs.Unit.{finished, rank, taken, prepend, cutAt, parts, Parts, last, part}
 use Rattle.sheet.specs.Label.{placeOf, label, Place, Digits, digits-none, digits-cons}
 use Rattle.sheet.specs.River.{heavier, Run, Network, Entry, stem, mouth}
-use Rattle.claims.proofs.Runs.{mouth-in, In, MouthOf, is-under, mouth-here, mouth-there}
+use Rattle.claims.specs.Runs.{MouthOf, mouth-here, mouth-there, Headed}
+use Rattle.claims.specs.Lawful.{Lawful}
+use Rattle.claims.proofs.Runs.{mouth-in, In, is-under}
 use Rattle.claims.proofs.Order.{Ordered, ordered-cons}
-use Rattle.claims.proofs.Lawful.{Lawful}
-use Rattle.claims.proofs.Rivers.{headed-ordered, Headed}
+use Rattle.claims.proofs.Rivers.{headed-ordered}
 use Rattle.claims.proofs.Parts.{spot-above, place-spot, place-headed, place-holds, Spot, spot-last, spot-in, spot-mouth, spot-later}
 use Rattle.claims.proofs.Counts.{not-true}
 use Rattle.claims.proofs.Heavier.{heavier-trans, heavier-irrefl, heavier-total}

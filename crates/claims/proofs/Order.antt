@@ -9,17 +9,8 @@ use Rattle.sheet.specs.declared.Next.{Next}
 use Rattle.sheet.specs.declared.Next.the-variants.{To}
 use Rattle.sheet.specs.Water.{Passes, here, there}
 use Rattle.sheet.specs.River.{Run, Entry, stem, mouth}
+use Rattle.claims.specs.Runs.{Above, Chain, chain-end, chain-stem, chain-mouth}
 use Rattle.claims.proofs.Runs.{pass-trans, in-left, in-right, pass-dist, pass-same, Has, In, StemOf, is-stem, is-under, at-head, in-tail, stem-here, stem-there}
-
-abbrev pub Above : (ℕ → ℕ → Bool) → Option ℕ → ℕ → Type 0
-Above heavier none v = Unit {0}
-Above heavier (some u) v = heavier v u ≡ true
-
--- the run goes on after the stem cell s, of which the donors up to `old` have been named
-pub data Chain (next : ℕ → Next) (heavier : ℕ → ℕ → Bool) : ℕ → Option ℕ → Run → Type 0 where
-  chain-end : {s : ℕ} {old : Option ℕ} → Chain next heavier s old []
-  chain-stem : {s : ℕ} {old : Option ℕ} {t : ℕ} {R : Run} → next t ≡ To s → Above heavier old t → Chain next heavier t none R → Chain next heavier s old (stem t ∷ R)
-  chain-mouth : {s : ℕ} {old : Option ℕ} {v : ℕ} {R : Run} → next v ≡ To s → Above heavier old v → Chain next heavier s (some v) R → Chain next heavier s old (mouth v ∷ R)
 
 -- a donor of s past `old` that c's water passes
 pub record Under (next : ℕ → Next) (heavier : ℕ → ℕ → Bool) (s : ℕ) (old : Option ℕ) (c : ℕ) : Type 0 where

@@ -11,13 +11,10 @@ use Rattle.sheet.specs.declared.Next.{Next}
 use Rattle.sheet.specs.declared.Next.the-variants.{To}
 use Rattle.sheet.specs.Water.{Passes, here}
 use Rattle.sheet.specs.River.{donors, Run, upstream, riverWithin, river, Network, stem, mouth}
+use Rattle.claims.specs.Runs.{Above, Chain, chain-end, chain-stem, chain-mouth, Headed, headed-none, headed-stem}
+use Rattle.claims.specs.Lawful.{Rising, rising-cons, Lawful}
 use Rattle.claims.proofs.Runs.{has-stem, in-none, in-cons, pass-last, In, is-stem, is-under, at-head, in-tail}
-use Rattle.claims.proofs.Order.{Above, chain-passes, stem-ordered, Chain, Ordered, chain-end, chain-stem, chain-mouth, ordered-end}
-use Rattle.claims.proofs.Lawful.{Rising, Lawful, rising-cons}
-
-pub data Headed (next : ℕ → Next) (heavier : ℕ → ℕ → Bool) : Run → Type 0 where
-  headed-none : Headed next heavier []
-  headed-stem : {s : ℕ} {R : Run} → Chain next heavier s none R → Headed next heavier (stem s ∷ R)
+use Rattle.claims.proofs.Order.{chain-passes, stem-ordered, Ordered, ordered-end}
 
 module _ {N : Network} {heavier : ℕ → ℕ → Bool} (O : Lawful N heavier) where
   pub headed-ordered : {R : Run} → Headed (N .next) heavier R → Ordered (N .next) R

@@ -8,6 +8,7 @@ use Rattle.sheet.specs.declared.Next.{Next}
 use Rattle.sheet.specs.declared.Next.the-variants.{To}
 use Rattle.sheet.specs.Water.{Passes, here, there}
 use Rattle.sheet.specs.River.{Run, Entry, stem, mouth}
+use Rattle.claims.specs.Runs.{MouthOf, mouth-here, mouth-there}
 
 -- the entry holds the cell
 pub data Has (next : ℕ → Next) : Entry → ℕ → Type 0 where
@@ -19,14 +20,10 @@ pub data In (next : ℕ → Next) : Run → ℕ → Type 0 where
   at-head : {e : Entry} {R : Run} {c : ℕ} → Has next e c → In next (e ∷ R) c
   in-tail : {e : Entry} {R : Run} {c : ℕ} → In next R c → In next (e ∷ R) c
 
--- s is a stem cell of the run, v is a mouth of it
+-- s is a stem cell of the run
 pub data StemOf : Run → ℕ → Type 0 where
   stem-here : {s : ℕ} {R : Run} → StemOf (stem s ∷ R) s
   stem-there : {e : Entry} {R : Run} {s : ℕ} → StemOf R s → StemOf (e ∷ R) s
-
-pub data MouthOf : Run → ℕ → Type 0 where
-  mouth-here : {v : ℕ} {R : Run} → MouthOf (mouth v ∷ R) v
-  mouth-there : {e : Entry} {R : Run} {v : ℕ} → MouthOf R v → MouthOf (e ∷ R) v
 
 module _ {next : ℕ → Next} where
   pub pass-trans : {c b a : ℕ} → Passes next c b → Passes next b a → Passes next c a

@@ -15,10 +15,10 @@ use Rattle.sheet.specs.River.{Run, upstream, river, Network, stem}
 use Rattle.sheet.proofs.Faults.{is-inside}
 use Rattle.claims.specs.Demand.{Shares, OneOutlet}
 use Rattle.claims.specs.Parting.{Begins, begins-none, begins-on}
+use Rattle.claims.specs.Runs.{Chain, chain-stem, chain-mouth, Headed, headed-none, headed-stem}
+use Rattle.claims.specs.Lawful.{Lawful}
 use Rattle.claims.proofs.Runs.{has-stem, in-none, in-cons, pass-both, In, is-stem, is-under, at-head, in-tail}
-use Rattle.claims.proofs.Order.{Chain, chain-stem, chain-mouth}
-use Rattle.claims.proofs.Lawful.{Lawful}
-use Rattle.claims.proofs.Rivers.{river-headed, river-passes, river-covers, Headed, headed-none, headed-stem}
+use Rattle.claims.proofs.Rivers.{river-headed, river-passes, river-covers}
 use Rattle.claims.proofs.Parts.{join-cut, spot-part, place-spot, place-headed, place-holds, place-pair, Pair, pair-same, pair-odd, pair-even, pair-more}
 use Rattle.claims.proofs.DigitRule.{firstStem, unitOutlet, label-on}
 

@@ -10,7 +10,7 @@ use borrow.Author.Tests.{ltb-true, lt-ltb, le-leb, lt-leb}
 use Rattle.sheet.specs.Area.{heavierBy}
 use Rattle.sheet.specs.River.{heavier, Run, stem, mouth}
 use Rattle.sheet.specs.Unit.{rank}
-use Rattle.claims.proofs.Runs.{MouthOf, mouth-here, mouth-there}
+use Rattle.claims.specs.Runs.{MouthOf, mouth-here, mouth-there}
 use Rattle.claims.proofs.Lawful.{decided}
 use Rattle.claims.proofs.Heavier.{More, larger, later, more, more-test}
 use Rattle.claims.proofs.Mouths.{chosen}

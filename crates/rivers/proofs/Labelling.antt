@@ -10,9 +10,10 @@ use Rattle.sheet.specs.Water.{here}
 use Rattle.sheet.specs.River.{Network, Run, river, mouth}
 use Rattle.sheet.specs.Unit.{Parts, last, part, parts, taken, finished}
 use Rattle.sheet.specs.Label.{holds, label, numberFrom, placeIn, placeOf}
+use Rattle.claims.specs.Lawful.{Lawful}
 use Rattle.claims.proofs.Runs.{In, at-head, in-tail, is-under, in-left, in-right, in-append, in-cons, has-under}
 use Rattle.claims.proofs.Order.{Ordered, not-back, ordered-right}
-use Rattle.claims.proofs.Lawful.{Lawful, Test, yes as met, no as unmet, in-test}
+use Rattle.claims.proofs.Lawful.{Test, yes as met, no as unmet, in-test}
 use Rattle.claims.proofs.Rivers.{river-passes, river-covers}
 use Rattle.claims.proofs.Parts.{join, join-cut, place-run, place-tributary, place-later}
 use Rattle.rivers.specs.Layout.{Layout}

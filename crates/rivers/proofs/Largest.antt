@@ -10,7 +10,7 @@ use lib.ListN.{length, getD}
 use borrow.Author.Tests.{lt-ltb, le-ltb, le-leb, lt-leb, leb-true, leb-false}
 use Rattle.sheet.specs.River.{Network, heavier, Run, stem, mouth}
 use Rattle.sheet.specs.Unit.{finished, rank, taken}
-use Rattle.claims.proofs.Runs.{MouthOf}
+use Rattle.claims.specs.Runs.{MouthOf}
 use Rattle.claims.proofs.Mouths.{chosen}
 use Rattle.rivers.specs.Layout.{Laid, Layout}
 use Rattle.rivers.specs.UnitAt.{UnitAt}

@@ -11,7 +11,8 @@ use lib.ListN.{length, getD}
 use borrow.Author.Tests.{eqb-true, eq-eqb}
 use Rattle.sheet.specs.Label.{holds}
 use Rattle.sheet.specs.River.{Network, Run, stem, mouth}
-use Rattle.claims.proofs.Runs.{In, at-head, in-tail, is-stem, is-under, has-stem, has-under, MouthOf, mouth-here, mouth-there}
+use Rattle.claims.specs.Runs.{MouthOf, mouth-here, mouth-there}
+use Rattle.claims.proofs.Runs.{In, at-head, in-tail, is-stem, is-under, has-stem, has-under}
 use Rattle.claims.proofs.Lawful.{Test, yes as met, no as unmet, decided, in-test}
 use Rattle.rivers.specs.Layout.{Laid, laid-end, laid-stem, laid-mouth, Layout, LayoutOf}
 use Rattle.rivers.specs.Labelled.{stands}

@@ -9,9 +9,9 @@ use lib.ListN.{length, getD}
 use borrow.Author.Tests.{le-leb, lt-leb}
 use Rattle.sheet.specs.River.{Network, heavier, Run, Entry, stem, mouth, river}
 use Rattle.sheet.specs.Unit.{Parts, last, part, parts, taken, finished, prepend, cutAt}
-use Rattle.claims.proofs.Runs.{MouthOf, mouth-here, mouth-there}
+use Rattle.claims.specs.Runs.{MouthOf, mouth-here, mouth-there, Headed}
 use Rattle.claims.proofs.Order.{Ordered, ordered-right}
-use Rattle.claims.proofs.Rivers.{Headed, headed-ordered, river-headed}
+use Rattle.claims.proofs.Rivers.{headed-ordered, river-headed}
 use Rattle.claims.proofs.Parts.{join, join-cut, AllHeaded, all-last, all-cut, parts-headed}
 use Rattle.claims.proofs.Mouths.{chosen, cuts-cut, taken-few}
 use Rattle.rivers.specs.Layout.{Laid, laid-end, laid-stem, laid-mouth, Layout}

@@ -7,7 +7,7 @@ use lib.Dec.{leb}
 use lib.ListN.{getD}
 use Rattle.sheet.specs.River.{Network, Run}
 use Rattle.sheet.specs.Unit.{finished, taken}
-use Rattle.claims.proofs.Runs.{MouthOf}
+use Rattle.claims.specs.Runs.{MouthOf}
 
 -- the key of a cell: of cells below 65536 the heavier has the larger key
 abbrev pub keyBy : (ℕ → ℕ) → ℕ → ℕ

@@ -3,8 +3,8 @@ use mathlib.Core.List.{List}
 use Prim.Native.Nat.{ℕ, _≤_}
 use lib.ListN.{length}
 use Rattle.sheet.specs.River.{Network, heavier, Run}
-use Rattle.claims.proofs.Lawful.{Lawful}
-use Rattle.claims.proofs.Rivers.{Headed}
+use Rattle.claims.specs.Runs.{Headed}
+use Rattle.claims.specs.Lawful.{Lawful}
 use Rattle.rivers.specs.Layout.{Laid, Layout, LayoutOf}
 
 -- a network, the layout of its cells, and their areas

@@ -14,7 +14,7 @@ use Rattle.sheet.specs.declared.Outcome.the-variants.{Accepted}
 use Rattle.sheet.specs.declared.Flow.the-variants.{Refused, Same, Yes, No, Undecided}
 use Rattle.sheet.specs.declared.Flow.{Flow}
 use Rattle.sheet.specs.Flow.{partFrom, partAt, every, isOdd, ruleAt, isLabel, answerAt, flowDigits, flow}
-use Rattle.sheet.specs.Label.{digitsOf, labelDigits}
+use Rattle.sheet.specs.Label.{digitsOf, labelDigits, labelAt}
 use Rattle.sheet.specs.Refusal.{both, depthFits, outcome, lentAfter, Lent}
 use Rattle.sheet.specs.Sheet.{Sheet}
 use Rattle.sheet.proofs.Digits.{digits-label}
@@ -83,8 +83,8 @@ module _ (S : Sheet) (L : Lent) (accepted : outcome S L ≡ Accepted) (p q : ℕ
   good : (c : ℕ) → Inside S c → isLabel (S .depth) (digitsAt labels c) ≡ true
   good c k = rw (digits-written S L accepted c k) (digits-label (S .depth) (labelDigits S c) (one-to-nine S L accepted c k) (at-most-depth S L accepted c))
 
-  pub the-answer : asked S labels p q ≡ cond (eqb (getD labels p 0) (getD labels q 0)) Same (answerAt (S .depth) (digitsAt labels p) (digitsAt labels q) (partAt (digitsAt labels p) (digitsAt labels q)))
-  the-answer = flow-labels (S .depth) (getD labels p 0) (getD labels q 0) (checks S L accepted .depth) (good p i) (good q j)
+  pub the-answer : asked S labels p q ≡ cond (eqb (labelAt labels p) (labelAt labels q)) Same (answerAt (S .depth) (digitsAt labels p) (digitsAt labels q) (partAt (digitsAt labels p) (digitsAt labels q)))
+  the-answer = flow-labels (S .depth) (labelAt labels p) (labelAt labels q) (checks S L accepted .depth) (good p i) (good q j)
 
 -- an answer by the place where labels part
 pub data Answered (depth : ℕ) (x y : List ℕ) (k : ℕ) : Flow → Type 0 where

@@ -6,7 +6,6 @@ use mathlib.Core.List.{List}
 use Prim.Native.Nat.{ℕ}
 use native.Mathlib.Omega.{arith}
 use lib.Dec.{eqb}
-use lib.ListN.{getD}
 use borrow.Author.Tests.{eqb-true, eqb-false}
 use Rattle.sheet.specs.declared.Next.{Next}
 use Rattle.sheet.specs.declared.Outcome.the-variants.{Accepted}
@@ -14,7 +13,7 @@ use Rattle.sheet.specs.declared.Flow.{Flow}
 use Rattle.sheet.specs.declared.Flow.the-variants.{Same}
 use Rattle.sheet.specs.Water.{Passes, DrainsTo}
 use Rattle.sheet.specs.Flow.{partAt, answerAt}
-use Rattle.sheet.specs.Label.{number, labelDigits}
+use Rattle.sheet.specs.Label.{number, labelDigits, labelAt}
 use Rattle.sheet.specs.River.{network}
 use Rattle.sheet.specs.Refusal.{outcome, written, lentAfter, Lent}
 use Rattle.sheet.specs.Sheet.{next, Sheet}
@@ -127,21 +126,21 @@ module _ (S : Sheet) (L : Lent) (accepted : outcome S L ≡ Accepted) where
     }
 
     pub flow-meaning : FlowMeaning S (lentAfter S L .labels) p q
-    flow-meaning = go (eqb (getD (lentAfter S L .labels) p 0) (getD (lentAfter S L .labels) q 0)) refl (the-answer S L accepted p q i j)
+    flow-meaning = go (eqb (labelAt (lentAfter S L .labels) p) (labelAt (lentAfter S L .labels) q)) refl (the-answer S L accepted p q i j)
       where
         answer : Flow
         answer = answerAt (S .depth) (digitsAt (lentAfter S L .labels) p) (digitsAt (lentAfter S L .labels) q) (partAt (digitsAt (lentAfter S L .labels) p) (digitsAt (lentAfter S L .labels) q))
 
-        go : (b : Bool) → eqb (getD (lentAfter S L .labels) p 0) (getD (lentAfter S L .labels) q 0) ≡ b
+        go : (b : Bool) → eqb (labelAt (lentAfter S L .labels) p) (labelAt (lentAfter S L .labels) q) ≡ b
             → asked S (lentAfter S L .labels) p q ≡ cond b Same answer → FlowMeaning S (lentAfter S L .labels) p q
         go true e f = record {
           yes = λ g. let z : _≡_ {A = ℕ} 0 1 = cc in absurd (omega arith);
           no = λ g. let z : _≡_ {A = ℕ} 0 1 = cc in absurd (omega arith);
-          same = λ g. eqb-true (getD (lentAfter S L .labels) p 0) (getD (lentAfter S L .labels) q 0) e;
+          same = λ g. eqb-true (labelAt (lentAfter S L .labels) p) (labelAt (lentAfter S L .labels) q) e;
           never-refused = λ n g. let z : _≡_ {A = ℕ} 0 1 = cc in absurd (omega arith);
         }
         go false e f =
-            let t = demand-three .labels-part p q i j (λ s. eqb-false (getD (lentAfter S L .labels) p 0) (getD (lentAfter S L .labels) q 0) e (label-bounds .apart p q i j s)) in
+            let t = demand-three .labels-part p q i j (λ s. eqb-false (labelAt (lentAfter S L .labels) p) (labelAt (lentAfter S L .labels) q) e (label-bounds .apart p q i j s)) in
             by-parting (t .0) (t .1) answer (answer-at (S .depth) (digitsAt (lentAfter S L .labels) p) (digitsAt (lentAfter S L .labels) q) (t .0) (t .1)) f
 
   pub rivers-are-whole : RiversAreWhole (S .grid)

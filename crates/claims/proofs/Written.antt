@@ -9,7 +9,7 @@ use lib.ListN.{length, getD, drop, List·getD-append}
 use borrow.Author.Tests.{leb-true}
 use Rattle.sheet.specs.declared.Outcome.{Outcome}
 use Rattle.sheet.specs.declared.Outcome.the-variants.{Accepted}
-use Rattle.sheet.specs.Label.{number, digitsOf, outlet, labelDigits, labelOf, listFrom, labelsOf, Digits}
+use Rattle.sheet.specs.Label.{number, digitsOf, outlet, labelDigits, labelOf, listFrom, labelsOf, labelAt, Digits}
 use Rattle.sheet.specs.River.{network, river}
 use Rattle.sheet.specs.Refusal.{within, depthFits, outcome, written, ifAccepted, lentAfter, Lent}
 use Rattle.sheet.specs.Sheet.{cells, inside, Sheet}
@@ -72,11 +72,11 @@ module _ (S : Sheet) (L : Lent) (accepted : outcome S L ≡ Accepted) where
       go b e = rw e
 
   -- the label that stands for an inside cell
-  pub label-written : (c : ℕ) → Inside S c → getD (lentAfter S L .labels) c 0 ≡ number (labelDigits S c)
+  pub label-written : (c : ℕ) → Inside S c → labelAt (lentAfter S L .labels) c ≡ number (labelDigits S c)
   unfolding lentAfter labelsOf
   label-written c i = go (outcome S L) accepted
     where
-      go : (o : Outcome) → o ≡ Accepted → getD (ifAccepted o (labelsOf S) (L .labels)) c 0 ≡ number (labelDigits S c)
+      go : (o : Outcome) → o ≡ Accepted → labelAt (ifAccepted o (labelsOf S) (L .labels)) c ≡ number (labelDigits S c)
       go o e = rw e (written-at (labelOf S) (cells (S .grid)) c (L .labels) (inside-lt (S .grid) c i) ∙ label-inside c i)
 
   pub digits-written : (c : ℕ) → Inside S c → digitsAt (lentAfter S L .labels) c ≡ labelDigits S c

@@ -4,12 +4,12 @@ use mathlib.Core.Bool.{true}
 use mathlib.Core.List.{List, [], _∷_}
 use mathlib.Core.Logic.{_↔_}
 use Prim.Native.Nat.{ℕ, suc, _+_, _≤_, _<_, _^_}
-use lib.ListN.{length, getD}
+use lib.ListN.{length}
 use Rattle.sheet.specs.Sheet.{Grid, Sheet, cells, inside, next, isOutlet}
 use Rattle.sheet.specs.Water.{Passes, passes, reachesOutlet}
 use Rattle.sheet.specs.Area.{count, area}
 use Rattle.sheet.specs.River.{network, donors, riverWithin, river}
-use Rattle.sheet.specs.Label.{Digits, digitsOf}
+use Rattle.sheet.specs.Label.{Digits, labelAt}
 use Rattle.sheet.specs.Refusal.{undrained}
 use Rattle.claims.specs.Demand.{Inside, digitsAt}
 
@@ -48,6 +48,6 @@ pub record AreaBounds (G : Grid) : Type 0 where
 pub record LabelBounds (S : Sheet) (labels : List ℕ) : Type 0 where
   pub at-most : (c : ℕ) → Inside S c → length (digitsAt labels c) ≤ S .depth
   pub one-to-nine : (c : ℕ) → Inside S c → Digits 9 (digitsAt labels c)
-  pub fits : (c : ℕ) → Inside S c → getD labels c 0 < 2 ^ 64
+  pub fits : (c : ℕ) → Inside S c → labelAt labels c < 2 ^ 64
   -- different labels have different digits
-  pub apart : (p q : ℕ) → Inside S p → Inside S q → digitsAt labels p ≡ digitsAt labels q → getD labels p 0 ≡ getD labels q 0
+  pub apart : (p q : ℕ) → Inside S p → Inside S q → digitsAt labels p ≡ digitsAt labels q → labelAt labels p ≡ labelAt labels q

@@ -4,11 +4,11 @@ use mathlib.Core.Bool.{true}
 use mathlib.Core.List.{List}
 use mathlib.Core.Logic.{_≢_, _↔_}
 use Prim.Native.Nat.{ℕ, _<_}
-use lib.ListN.{length, getD}
+use lib.ListN.{length}
 use Rattle.sheet.specs.declared.Next.{Next}
 use Rattle.sheet.specs.Sheet.{Sheet, inside, next}
 use Rattle.sheet.specs.Water.{Passes, DrainsTo}
-use Rattle.sheet.specs.Label.{digitsOf}
+use Rattle.sheet.specs.Label.{digitsOf, labelAt}
 use Rattle.claims.specs.Parting.{PartAt, RuleAt, Begins}
 
 -- an inside cell that has the leading digits w
@@ -41,9 +41,9 @@ pub record OutletRule (next : ℕ → Next) (inside : ℕ → Type 0) (digits : 
 abbrev pub Inside : Sheet → ℕ → Type 0
 Inside S c = inside (S .grid) c ≡ true
 
--- the digits of the label that stands for a cell in a list of label numbers
+-- the digits of the label that stands for a cell in a slice of labels
 abbrev pub digitsAt : List ℕ → ℕ → List ℕ
-digitsAt labels c = digitsOf (getD labels c 0)
+digitsAt labels c = digitsOf (labelAt labels c)
 
 -- demand 3 and the outlet rule about a sheet and the labels that were written for it
 abbrev pub DemandThreeOf : Sheet → List ℕ → Type 0

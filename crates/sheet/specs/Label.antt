@@ -3,6 +3,7 @@ use mathlib.Core.Bool.{Bool, true, false, cond}
 use mathlib.Core.List.{List, [], _∷_, _++_}
 use Prim.Native.Nat.{ℕ, zero, suc, _+_, _*_, _/_, _%_, _≤_}
 use lib.Dec.{eqb}
+use lib.ListN.{getD}
 use Rattle.sheet.specs.declared.Found.{Found}
 use Rattle.sheet.specs.declared.Found.the-variants.{At, Nothing}
 use Rattle.sheet.specs.Sheet.{Grid, Sheet, cells, inside, isOutlet, first}
@@ -112,3 +113,7 @@ areasOf G = listFrom (area G) 0 (cells G)
 unfoldable pub labelsOf : Sheet → List ℕ
 unfolding listFrom labelOf
 labelsOf S = listFrom (labelOf S) 0 (cells (S .grid))
+
+-- the label that stands for a cell in a slice of labels
+abbrev pub labelAt : List ℕ → ℕ → ℕ
+labelAt labels c = getD labels c 0

@@ -90,7 +90,8 @@ module _ {N : Network} {inside : ℕ → Type 0} {outlet : ℕ} (B : Basin N ins
   }
 
   -- demand 3, where every mouth counts
-  pub demand-three-holds : ((v : ℕ) → N .counted v ≡ true) → (depth : ℕ) → DemandThree (N .next) inside depth (digitsIn N outlet depth)
+  pub demand-three-holds : ((v : ℕ) → N .counted v ≡ true) → (depth : ℕ)
+      → DemandThree (N .next) inside depth (digitsIn N outlet depth) (digitsIn N outlet depth)
   demand-three-holds all depth = record {
     labels-part = λ p q i j d. elim (named-rule depth p q i j) [ inl e ↦ absurd (d e) | inr r ↦ parted-at (r .0) ];
     cell-rule = λ p q i j short k at.

@@ -52,9 +52,12 @@ module _ (next : ℕ → Next) {inside : ℕ → Type 0} {digits written : ℕ �
     drains = λ x k. drains-map (from-written w) (d .drains x (to-written w x k));
   }
 
-  same-demand : (depth : ℕ) → DemandThree next inside depth digits → DemandThree next inside depth written
-  same-demand depth D = record {
-    labels-part = λ p q i j d. rw (same p i, same q j) (D .labels-part p q i j (λ e. d (same p i ∙ e ∙ sym (same q j))));
+  -- about labels that are equal where their digits are
+  same-demand : (depth : ℕ) {Label : Type 0} (label : ℕ → Label)
+      → ((p q : ℕ) → inside p → inside q → digits p ≡ digits q → label p ≡ label q)
+      → DemandThree next inside depth digits digits → DemandThree next inside depth label written
+  same-demand depth label alike D = record {
+    labels-part = λ p q i j d. rw (same p i, same q j) (D .labels-part p q i j (λ e. d (alike p q i j e)));
     cell-rule = λ p q i j l k t. rw (same p i, same q j) (D .cell-rule p q i j (rw (same p i) at l) k (rw (same p i, same q j) at t));
     one-outlet = λ w c k.
         let o = D .one-outlet w c (from-written w c k) in
@@ -76,7 +79,10 @@ module _ (S : Sheet) (L : Lent) (accepted : outcome S L ≡ Accepted) where
   -- demand 3, whole
   pub demand-three : DemandThreeOf S (lentAfter S L .labels)
   unfolding network labelDigits
-  demand-three = same-demand (next (S .grid)) (digits-written S L accepted) (S .depth) (demand-three-holds (the-basin S L accepted) (λ v. refl) (S .depth))
+  demand-three =
+      same-demand (next (S .grid)) (digits-written S L accepted) (S .depth) (labelAt (lentAfter S L .labels))
+      (λ p q i j e. label-written S L accepted p i ∙ ap number e ∙ sym (label-written S L accepted q j))
+      (demand-three-holds (the-basin S L accepted) (λ v. refl) (S .depth))
 
   pub outlet-rule : OutletRuleOf S (lentAfter S L .labels)
   unfolding network labelDigits
@@ -89,8 +95,6 @@ module _ (S : Sheet) (L : Lent) (accepted : outcome S L ≡ Accepted) where
     one-to-nine = λ c i. rw (digits-written S L accepted c i) (one-to-nine S L accepted c i);
     fits = λ c i. rw (label-written S L accepted c i)
         (number-fits (labelDigits S c) (one-to-nine S L accepted c i) (omega (arith, at-most-depth S L accepted c, depth-most S L accepted)));
-    apart = λ p q i j e.
-        label-written S L accepted p i ∙ ap number (sym (digits-written S L accepted p i) ∙ e ∙ digits-written S L accepted q j) ∙ sym (label-written S L accepted q j);
   }
 
   -- ---- the flow question
@@ -140,7 +144,7 @@ module _ (S : Sheet) (L : Lent) (accepted : outcome S L ≡ Accepted) where
           never-refused = λ n g. let z : _≡_ {A = ℕ} 0 1 = cc in absurd (omega arith);
         }
         go false e f =
-            let t = demand-three .labels-part p q i j (λ s. eqb-false (labelAt (lentAfter S L .labels) p) (labelAt (lentAfter S L .labels) q) e (label-bounds .apart p q i j s)) in
+            let t = demand-three .labels-part p q i j (eqb-false (labelAt (lentAfter S L .labels) p) (labelAt (lentAfter S L .labels) q) e) in
             by-parting (t .0) (t .1) answer (answer-at (S .depth) (digitsAt (lentAfter S L .labels) p) (digitsAt (lentAfter S L .labels) q) (t .0) (t .1)) f
 
   pub rivers-are-whole : RiversAreWhole (S .grid)

@@ -49,5 +49,3 @@ pub record LabelBounds (S : Sheet) (labels : List ℕ) : Type 0 where
   pub at-most : (c : ℕ) → Inside S c → length (digitsAt labels c) ≤ S .depth
   pub one-to-nine : (c : ℕ) → Inside S c → Digits 9 (digitsAt labels c)
   pub fits : (c : ℕ) → Inside S c → labelAt labels c < 2 ^ 64
-  -- different labels have different digits
-  pub apart : (p q : ℕ) → Inside S p → Inside S q → digitsAt labels p ≡ digitsAt labels q → labelAt labels p ≡ labelAt labels q

@@ -1,4 +1,4 @@
--- The third demand, about any labels: where water goes, which cells are inside, the depth, and the digits of each cell's label.
+-- The third demand, about any labels: where water goes, which cells are inside, the depth, each cell's label and its digits.
 use mathlib.Core.Path.{_≡_}
 use mathlib.Core.Bool.{true}
 use mathlib.Core.List.{List}
@@ -23,10 +23,12 @@ pub record OneOutlet (next : ℕ → Next) (inside : ℕ → Type 0) (digits : �
   pub only : (c : ℕ) → DrainsTo next (Shares inside digits w) c → c ≡ cell
 
 -- demand 3, both halves
-pub record DemandThree (next : ℕ → Next) (inside : ℕ → Type 0) (depth : ℕ) (digits : ℕ → List ℕ) : Type 0 where
+pub record DemandThree (next : ℕ → Next) (inside : ℕ → Type 0) (depth : ℕ) {Label : Type 0} (label : ℕ → Label)
+    (digits : ℕ → List ℕ) : Type 0 where
   -- every two different labels of inside cells part
-  pub labels-part : (p q : ℕ) → inside p → inside q → digits p ≢ digits q → (i : ℕ) × PartAt (digits p) (digits q) i
-  -- water from q passes p exactly if, where their labels part, p's digit is smaller and p's digits from there on are all odd; for a label of p that is shorter than the depth
+  pub labels-part : (p q : ℕ) → inside p → inside q → label p ≢ label q → (i : ℕ) × PartAt (digits p) (digits q) i
+  -- water from q passes p exactly if, where their labels part, p's digit is smaller and p's digits from there on are all
+  -- odd; for a label of p that has fewer digits than the depth
   pub cell-rule : (p q : ℕ) → inside p → inside q → length (digits p) < depth
       → (i : ℕ) → PartAt (digits p) (digits q) i → Passes next q p ↔ RuleAt (digits p) (digits q) i
   -- the cells that share leading digits drain, through cells that share them, to exactly one of them
@@ -47,7 +49,7 @@ digitsAt labels c = digitsOf (labelAt labels c)
 
 -- demand 3 and the outlet rule about a sheet and the labels that were written for it
 abbrev pub DemandThreeOf : Sheet → List ℕ → Type 0
-DemandThreeOf S labels = DemandThree (next (S .grid)) (Inside S) (S .depth) (digitsAt labels)
+DemandThreeOf S labels = DemandThree (next (S .grid)) (Inside S) (S .depth) (labelAt labels) (digitsAt labels)
 
 abbrev pub OutletRuleOf : Sheet → List ℕ → Type 0
 OutletRuleOf S labels = OutletRule (next (S .grid)) (Inside S) (digitsAt labels)

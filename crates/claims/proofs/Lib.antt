@@ -4,6 +4,7 @@ pub mod Lawful
 pub mod Rivers
 pub mod Parts
 pub mod Parting
+pub mod Dictionary
 pub mod DigitRule
 pub mod Units
 pub mod Counts
@@ -17,3 +18,4 @@ pub mod GridLaws
 pub mod Written
 pub mod FlowMeaning
 pub mod Theorems
+pub mod Cases

@@ -213,7 +213,7 @@ module _ {N : Network} {heavier : ℕ → ℕ → Bool} (O : Lawful N heavier) w
       → Pair (N .next) q (placeOf N R p) (placeOf N R q)
   place-pair R p q w i j = pair O (rw (join-cut (taken N R) R) (headed-ordered O w)) refl (place-spot R p i) (place-spot R q j)
 
-test-true : {b : Bool} {A : Type 0} → Test b A → A → b ≡ true
+pub test-true : {b : Bool} {A : Type 0} → Test b A → A → b ≡ true
 test-true (yes e a) x = e
 test-true (no e n) x = absurd (n x)
 

@@ -5,3 +5,4 @@ pub mod Runs
 pub mod Lawful
 pub mod Flow
 pub mod Bounds
+pub mod Dictionary

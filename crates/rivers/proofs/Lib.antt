@@ -5,3 +5,6 @@ pub mod Largest
 pub mod Labelling
 pub mod Progress
 pub mod Bounds
+pub mod LabelOrder
+pub mod WrittenOrder
+pub mod Cases

@@ -83,7 +83,7 @@ module _ {cell size : List ℕ} {count end hi : ℕ} (Y : Layout cell size count
   mouth-stands (laid-mouth n l) (mouth-there m) = stands-later (omega arith) (mouth-stands l m)
 
   module _ {N : Network} {area : List ℕ} {split least : ℕ} (L : LayoutOf N cell size area split least) where
-    in-stands : {lo : ℕ} {R : Run} {c : ℕ} → Laid cell size end lo hi R → In (N .next) R c → Stands cell lo hi c
+    pub in-stands : {lo : ℕ} {R : Run} {c : ℕ} → Laid cell size end lo hi R → In (N .next) R c → Stands cell lo hi c
     in-stands (laid-stem {lo = lo} e l) (at-head h) = let i = laid-le l in record { at = lo; from = omega arith; to = omega arith; is = sym (has-stem h) }
     in-stands (laid-stem e l) (in-tail i) = stands-later (omega arith) (in-stands l i)
     in-stands {c = c} (laid-mouth {lo = lo} n l) (at-head h) =

@@ -2,3 +2,4 @@ pub mod Layout
 pub mod Labelled
 pub mod UnitAt
 pub mod Cut
+pub mod LabelOrder

@@ -1,4 +1,4 @@
--- What a search left holds as long as the first 3n work places are as it left them; sizes keep these.
+-- What a search left holds as long as the work places before the sizes are as it left them; sizes keep these.
 use mathlib.Core.Path.{_≡_, refl, sym, _∙_, ap}
 use mathlib.Core.List.{List, _++_}
 use Prim.Native.Nat.{ℕ, _+_, _*_, _-_, _<_, _≤_}
@@ -10,7 +10,7 @@ use Rattle.sheet.specs.Sheet.{Grid, cells, isOutlet}
 use Rattle.sheet.specs.Refusal.{written}
 use Rattle.sheet.proofs.Cells.{inside-lt}
 use Rattle.claims.proofs.Counts.{count-le}
-use Rattle.upstream.specs.Work.{placed, rankOf, receiverOf, sizeAt, isReached, KeptFrom, withSizes}
+use Rattle.upstream.specs.Work.{ranksPart, receiversPart, sizesPart, positionsPart, placed, rankOf, receiverOf, sizeAt, isReached, KeptFrom, withSizes}
 use Rattle.upstream.specs.Search.{Before, Queue, Upstream, OutletsFirst, Searched, Drained, SingleOutlet}
 use Rattle.drainage.specs.Total.{size, sizesOf}
 use Rattle.upstream.proofs.Sums.{sum-same, count-sum}
@@ -19,20 +19,20 @@ use Rattle.upstream.proofs.Upstream.{outlet-lt}
 use Rattle.drainage.proofs.Lists.{list-at}
 use Rattle.drainage.proofs.Measures.{sizes-long}
 
--- the first 3n places agree
+-- the places before the sizes agree
 pub record SameSearch (n : ℕ) (work work′ : List ℕ) : Type 0 where
-  pub room : 3 * n ≤ length work′
-  pub same : (j : ℕ) → j < 3 * n → getD work′ j 0 ≡ getD work j 0
+  pub room : sizesPart * n ≤ length work′
+  pub same : (j : ℕ) → j < sizesPart * n → getD work′ j 0 ≡ getD work j 0
 
 module _ {n : ℕ} {work work′ : List ℕ} (s : SameSearch n work work′) where
   place-same : (i : ℕ) → i < n → placed work′ i ≡ placed work i
   place-same i l = s .same i (omega arith)
 
   rank-same : (c : ℕ) → c < n → rankOf n work′ c ≡ rankOf n work c
-  rank-same c l = s .same (n + c) (omega arith)
+  rank-same c l = s .same (ranksPart * n + c) (omega arith)
 
   receiver-same : (c : ℕ) → c < n → receiverOf n work′ c ≡ receiverOf n work c
-  receiver-same c l = s .same (2 * n + c) (omega arith)
+  receiver-same c l = s .same (receiversPart * n + c) (omega arith)
 
   before-same : {i r : ℕ} → Before n work i r → Before n work′ i r
   before-same {r = r} b = let e = rank-same r (b .on) in record { on = b .on; reached = omega (arith, b .reached); earlier = omega (arith, b .earlier) }
@@ -96,41 +96,41 @@ module _ {G : Grid} {work work′ : List ℕ} (s : SameSearch (cells G) work wor
 
 -- ---- sizes
 
-module _ (n : ℕ) (sizes work : List ℕ) (room : 3 * n ≤ length work) where
-  front : length (take (3 * n) work) ≡ 3 * n
-  front = length-take-le (3 * n) work room
+module _ (n : ℕ) (sizes work : List ℕ) (room : sizesPart * n ≤ length work) where
+  front : length (take (sizesPart * n) work) ≡ sizesPart * n
+  front = length-take-le (sizesPart * n) work room
 
   pub with-sizes-same : SameSearch n work (withSizes n sizes work)
   unfolding withSizes
   with-sizes-same = record {
-    room = omega (arith, front, length-append (take (3 * n) work) (written sizes (drop (3 * n) work)));
-    same = λ j l. List·getD-append (take (3 * n) work) (written sizes (drop (3 * n) work)) 0 j (omega (arith, front)) ∙ getD-take (3 * n) work j 0 l;
+    room = omega (arith, front, length-append (take (sizesPart * n) work) (written sizes (drop (sizesPart * n) work)));
+    same = λ j l. List·getD-append (take (sizesPart * n) work) (written sizes (drop (sizesPart * n) work)) 0 j (omega (arith, front)) ∙ getD-take (sizesPart * n) work j 0 l;
   }
 
   abbrev rest : List ℕ
-  rest = written sizes (drop (3 * n) work)
+  rest = written sizes (drop (sizesPart * n) work)
 
   pub with-sizes-at : (c : ℕ) → c < length sizes → sizeAt n (withSizes n sizes work) c ≡ getD sizes c 0
   unfolding withSizes
   with-sizes-at c l =
-      ap (λ (k : ℕ). getD (take (3 * n) work ++ rest) (k + c) 0) (sym front)
-      ∙ getD-append-add (take (3 * n) work) rest c 0
-      ∙ List·getD-append sizes (drop (length sizes) (drop (3 * n) work)) 0 c l
+      ap (λ (k : ℕ). getD (take (sizesPart * n) work ++ rest) (k + c) 0) (sym front)
+      ∙ getD-append-add (take (sizesPart * n) work) rest c 0
+      ∙ List·getD-append sizes (drop (length sizes) (drop (sizesPart * n) work)) 0 c l
 
-  pub with-sizes-kept : length sizes ≡ n → KeptFrom (4 * n) work (withSizes n sizes work)
+  pub with-sizes-kept : length sizes ≡ n → KeptFrom (positionsPart * n) work (withSizes n sizes work)
   unfolding withSizes
   with-sizes-kept long =
-      let e : 4 * n ≡ length (take (3 * n) work) + n = omega (arith, front) in
-      let f : 3 * n + n ≡ 4 * n = omega arith in
-      ap (λ (k : ℕ). drop k (take (3 * n) work ++ rest)) e
-      ∙ drop-append-add (take (3 * n) work) rest n
-      ∙ drop-at sizes (drop (length sizes) (drop (3 * n) work)) n long
-      ∙ ap (λ (k : ℕ). drop k (drop (3 * n) work)) long
-      ∙ drop-drop n (3 * n) work
+      let e : positionsPart * n ≡ length (take (sizesPart * n) work) + n = omega (arith, front) in
+      let f : sizesPart * n + n ≡ positionsPart * n = omega arith in
+      ap (λ (k : ℕ). drop k (take (sizesPart * n) work ++ rest)) e
+      ∙ drop-append-add (take (sizesPart * n) work) rest n
+      ∙ drop-at sizes (drop (length sizes) (drop (sizesPart * n) work)) n long
+      ∙ ap (λ (k : ℕ). drop k (drop (sizesPart * n) work)) long
+      ∙ drop-drop n (sizesPart * n) work
       ∙ ap (λ (k : ℕ). drop k work) f
 
 -- the sizes of a sheet, once they are written
-pub size-written : (G : Grid) (work : List ℕ) → 3 * cells G ≤ length work → (c : ℕ) → c < cells G → sizeAt (cells G) (withSizes (cells G) (sizesOf G) work) c ≡ size G c
+pub size-written : (G : Grid) (work : List ℕ) → sizesPart * cells G ≤ length work → (c : ℕ) → c < cells G → sizeAt (cells G) (withSizes (cells G) (sizesOf G) work) c ≡ size G c
 unfolding sizesOf
 size-written G work room c l =
     with-sizes-at (cells G) (sizesOf G) work room c (omega (arith, sizes-long G)) ∙ list-at (size G) 0 (cells G) c l ∙ ap (size G) (let z : 0 + c ≡ c = omega arith in z)

@@ -20,7 +20,7 @@ use Rattle.sheet.specs.Refusal.{written}
 use Rattle.sheet.proofs.Cells.{inside-is, next-outside, next-to-lt, next-goes}
 use Rattle.claims.proofs.Counts.{not-true}
 use Rattle.claims.proofs.Lawful.{passes-true}
-use Rattle.upstream.specs.Work.{rankOf, numbered, nextOfNumber, withSizes}
+use Rattle.upstream.specs.Work.{sizesPart, rankOf, numbered, nextOfNumber, withSizes}
 use Rattle.upstream.specs.Search.{Drained}
 use Rattle.drainage.specs.Total.{total, nextIn, valueAt, Gathers, totalsIn, ownCount, ownCounts, size, sizesOf}
 use Rattle.upstream.specs.Sum.{sumOver}
@@ -147,11 +147,11 @@ unfolding areasOf
 areas-long G = list-long (area G) 0 (cells G)
 
 -- sizes that are copied into their part of the work places
-pub sizes-put : (n : ℕ) (work sizes areas old : List ℕ) → 3 * n ≤ length work → length sizes ≡ n → areas ≡ written sizes old
-    → putMid (3 * n) (length work - 3 * n) work (take n areas ++ drop n (take (length work - 3 * n) (drop (3 * n) work))) ≡ withSizes n sizes work
+pub sizes-put : (n : ℕ) (work sizes areas old : List ℕ) → sizesPart * n ≤ length work → length sizes ≡ n → areas ≡ written sizes old
+    → putMid (sizesPart * n) (length work - sizesPart * n) work (take n areas ++ drop n (take (length work - sizesPart * n) (drop (sizesPart * n) work))) ≡ withSizes n sizes work
 unfolding withSizes
 sizes-put n work sizes areas old l long e =
-    let part : take (length work - 3 * n) (drop (3 * n) work) ≡ drop (3 * n) work = take-all (length work - 3 * n) (drop (3 * n) work) (omega (arith, length-drop (3 * n) work)) in
-    let rest : postOf (3 * n) (length work - 3 * n) work ≡ [] = post-is (3 * n) (length work) work l ∙ drop-length work in
+    let part : take (length work - sizesPart * n) (drop (sizesPart * n) work) ≡ drop (sizesPart * n) work = take-all (length work - sizesPart * n) (drop (sizesPart * n) work) (omega (arith, length-drop (sizesPart * n) work)) in
+    let rest : postOf (sizesPart * n) (length work - sizesPart * n) work ≡ [] = post-is (sizesPart * n) (length work) work l ∙ drop-length work in
     let front : take n areas ≡ sizes = ap (take n) e ∙ take-at sizes (drop (length sizes) old) n long in
     rw (part, rest, front, append-nil, long)

@@ -25,7 +25,7 @@ use Rattle.sheet.proofs.First.{first-same, none-first, at-first}
 use Rattle.claims.proofs.Counts.{not-true}
 use Rattle.claims.proofs.Fuel.{reaches-ends, ends-at}
 use Rattle.drainage.specs.declared.Inspection.{Inspection}
-use Rattle.upstream.specs.Work.{placed, rankOf, KeptFrom}
+use Rattle.upstream.specs.Work.{ranksPart, sizesPart, placed, rankOf, KeptFrom}
 use Rattle.upstream.specs.Search.{Searched, Coded, Drained, SingleOutlet, outletCount}
 use Rattle.drainage.specs.Inspect.{Inspected}
 use Rattle.upstream.proofs.Sums.{sum-same, sum-one, count-sum}
@@ -34,8 +34,9 @@ use Rattle.upstream.proofs.Upstream.{outlet-lt, way-inside}
 -- ---- what was looked for is what the definition looks for
 
 -- the part of the work places that has the ranks
-pub ranks-part : (n : ℕ) (work : List ℕ) (c : ℕ) → c < n → getD (take (2 * n - n) (drop n work)) c 0 ≡ rankOf n work c
-ranks-part n work c l = getD-take (2 * n - n) (drop n work) c 0 (omega arith) ∙ getD-drop n work c 0
+pub ranks-part : (n : ℕ) (work : List ℕ) (c : ℕ) → c < n → getD (take (ranksPart * n + n - ranksPart * n) (drop (ranksPart * n) work)) c 0 ≡ rankOf n work c
+ranks-part n work c l =
+    getD-take (ranksPart * n + n - ranksPart * n) (drop (ranksPart * n) work) c 0 (omega arith) ∙ getD-drop (ranksPart * n) work c 0
 
 rank-none : (r : ℕ) → eqb r 0 ≡ not (ltb 0 r)
 rank-none r = elim (ℕ-discrete r 0) [
@@ -187,7 +188,7 @@ module _ (G : Grid) where
 
 -- ---- the inspection
 
-pub inspected-refused : {G : Grid} {work work′ : List ℕ} {r : Inspection} {number place : ℕ} → r .outcome ≡ Refused number place → Refused number place ≡ outcomeOn G → KeptFrom (3 * cells G) work work′ → Inspected G work work′ r
+pub inspected-refused : {G : Grid} {work work′ : List ℕ} {r : Inspection} {number place : ℕ} → r .outcome ≡ Refused number place → Refused number place ≡ outcomeOn G → KeptFrom (sizesPart * cells G) work work′ → Inspected G work work′ r
 inspected-refused e o kept = record {
   outcome = e ∙ o;
   drained = λ a. absurd (not-accepted (sym e ∙ a));
@@ -197,7 +198,7 @@ inspected-refused e o kept = record {
 
 -- a sheet of codes with an inside cell, searched
 pub inspected : {G : Grid} {work work′ : List ℕ} {r : Inspection} {x : ℕ} → First G (badCode G) Nothing → First G (inside G) (At x) → Searched G work′ (r .queued)
-    → r .outcome ≡ refusedAt 6 (first (undrained G) (cells G)) (refusedAt 7 (secondOutlet G) Accepted) → KeptFrom (3 * cells G) work work′ → Inspected G work work′ r
+    → r .outcome ≡ refusedAt 6 (first (undrained G) (cells G)) (refusedAt 7 (secondOutlet G) Accepted) → KeptFrom (sizesPart * cells G) work work′ → Inspected G work work′ r
 inspected {G} {work} {work′} {r} {x} bad some s e kept = record {
   outcome = e ∙ refused-later G bad some;
   drained = λ a. drained-of G s (none a .0) (coded-of G bad);

@@ -7,7 +7,7 @@ use Rattle.sheet.specs.declared.Outcome.the-variants.{Accepted}
 use Rattle.sheet.specs.Sheet.{Grid, cells}
 use Rattle.sheet.specs.Refusal.{outcomeOn}
 use Rattle.drainage.specs.declared.Inspection.{Inspection}
-use Rattle.upstream.specs.Work.{KeptFrom}
+use Rattle.upstream.specs.Work.{sizesPart, KeptFrom}
 use Rattle.upstream.specs.Search.{Drained, SingleOutlet}
 
 -- refusals 4 to 7; of an accepted sheet, the search
@@ -15,4 +15,4 @@ pub record Inspected (G : Grid) (work work′ : List ℕ) (r : Inspection) : Typ
   pub outcome : r .outcome ≡ outcomeOn G
   pub drained : r .outcome ≡ Accepted → Drained G work′ (r .queued)
   pub single : r .outcome ≡ Accepted → SingleOutlet G work′
-  pub kept : KeptFrom (3 * cells G) work work′
+  pub kept : KeptFrom (sizesPart * cells G) work work′

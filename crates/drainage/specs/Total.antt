@@ -12,7 +12,7 @@ use Rattle.sheet.specs.Water.{passes}
 use Rattle.sheet.specs.Area.{count, drainsInto}
 use Rattle.sheet.specs.Label.{listFrom}
 use Rattle.upstream.specs.Sum.{sumOver}
-use Rattle.upstream.specs.Work.{isReached, receiverOf, nextOfNumber}
+use Rattle.upstream.specs.Work.{sizesPart, isReached, receiverOf, nextOfNumber}
 use Rattle.upstream.specs.Search.{Queue}
 
 -- the sum of f over the cells whose water passes c
@@ -46,7 +46,7 @@ added (suc r) totals c = set totals r (getD totals r 0 + getD totals c 0)
 -- what an addition needs: the receiver is a cell of the totals, and the sum fits 32 bits
 pub record Adds (n : ℕ) (work : List ℕ) (c : ℕ) (totals : List ℕ) : Type 0 where
   pub on : c < n
-  pub receivers : 3 * n ≤ length work
+  pub receivers : sizesPart * n ≤ length work
   pub room : n ≤ length totals
   pub receiver-on : (r : ℕ) → receiverOf n work c ≡ r + 1 → r < n
   pub fits : (r : ℕ) → receiverOf n work c ≡ r + 1 → valueAt totals r + valueAt totals c < 2 ^ 32

@@ -3,6 +3,7 @@ use crate::Inspection;
 use sheet::Fault;
 use sheet::Found;
 use sheet::Outcome;
+use upstream::parts;
 use upstream::search;
 ghost use mathlib.Core.Path.{_≡_};
 ghost use Prim.Native.Nat.{_*_, _≤_};
@@ -53,16 +54,18 @@ pub fn inspect(dirs: &[u8], rows: usize, cols: usize, work: &mut [u32]) -> Inspe
     ensures { λ r. ⌜ Inspected (grid rows cols (now (dirs .entry))) (now (work .entry)) (now (work .exit)) r ⌝ }
 {
     let n = rows * cols;
-    let end = 2 * n;
-    if let Found::At(c) = checks::first_fault(dirs, rows, cols, &work[n..end], Fault::BadCode) {
+    let ranks = parts::RANKS * n;
+    let end = ranks + n;
+    if let Found::At(c) = checks::first_fault(dirs, rows, cols, &work[ranks..end], Fault::BadCode) {
         return refused(4, c);
     }
-    let Found::At(_) = checks::first_fault(dirs, rows, cols, &work[n..end], Fault::Inside) else {
+    let Found::At(_) = checks::first_fault(dirs, rows, cols, &work[ranks..end], Fault::Inside)
+    else {
         return refused(5, 0);
     };
     let queued = search(dirs, rows, cols, work);
-    let unreached = checks::first_fault(dirs, rows, cols, &work[n..end], Fault::Unreached);
-    let second = second_outlet(dirs, rows, cols, &work[n..end]);
+    let unreached = checks::first_fault(dirs, rows, cols, &work[ranks..end], Fault::Unreached);
+    let second = second_outlet(dirs, rows, cols, &work[ranks..end]);
     Inspection {
         outcome: refused_by(6, unreached, 7, second),
         queued,

@@ -1,4 +1,5 @@
 // Areas and sizes: own values of cells, added up along the queue of a search, backwards.
+use upstream::parts;
 ghost use mathlib.Core.Path.{_≡_};
 ghost use mathlib.Core.List.{_++_};
 ghost use Prim.Native.Nat.{_*_, _≤_};
@@ -6,7 +7,7 @@ ghost use lib.ListN.{length, take, drop};
 ghost use Rattle.sheet.specs.Sheet.{grid, Sized};
 ghost use Rattle.sheet.specs.Label.{areasOf, listFrom};
 ghost use Rattle.sheet.specs.Refusal.{written};
-ghost use Rattle.upstream.specs.Work.{receiverOf, withSizes};
+ghost use Rattle.upstream.specs.Work.{positionsPart, receiverOf, withSizes};
 ghost use Rattle.upstream.specs.Search.{Drained};
 ghost use Rattle.drainage.specs.Total.{Gathers, Adds, added, totalsIn, valueAt, ownCount, ownCounts, sizesOf};
 
@@ -32,7 +33,7 @@ fn add_to_receiver(work: &[u32], n: usize, cell: usize, totals: &mut [u32])
     requires { ⌜ Adds n (now work) cell (now totals) ⌝ }
     ensures { λ _. ⌜ now (totals .exit) ≡ added (receiverOf n (now (work .entry)) cell) (now (totals .entry)) cell ⌝ }
 {
-    let receiver = work[2 * n + cell] as usize;
+    let receiver = work[parts::RECEIVERS * n + cell] as usize;
     if receiver != 0 {
         let to = receiver - 1;
         totals[to] = totals[to] + totals[cell];
@@ -80,13 +81,13 @@ pub fn sizes(
     queued: usize,
     areas: &mut [u32],
 )
-    requires { ⌜ Sized rows cols (now dirs) × Drained (grid rows cols (now dirs)) (now work) queued × (rows * cols ≤ length (now areas)) × (4 * (rows * cols) ≤ length (now work)) ⌝ }
+    requires { ⌜ Sized rows cols (now dirs) × Drained (grid rows cols (now dirs)) (now work) queued × (rows * cols ≤ length (now areas)) × (positionsPart * (rows * cols) ≤ length (now work)) ⌝ }
     ensures { λ _. ⌜ (now (work .exit) ≡ withSizes (rows * cols) (sizesOf (grid rows cols (now (dirs .entry)))) (now (work .entry))) × (now (areas .exit) ≡ written (sizesOf (grid rows cols (now (dirs .entry)))) (now (areas .entry))) ⌝ }
 {
     let n = rows * cols;
     own_counts(dirs, n, areas);
     gather(work, n, queued, areas);
-    let from = 3 * n;
+    let from = parts::SIZES * n;
     copy(areas, n, &mut work[from..]);
 }
 
@@ -99,7 +100,7 @@ pub fn measure(
     queued: usize,
     lent_areas: &mut [u32],
 )
-    requires { ⌜ Sized rows cols (now dirs) × Drained (grid rows cols (now dirs)) (now work) queued × (rows * cols ≤ length (now «lent_areas»)) × (4 * (rows * cols) ≤ length (now work)) ⌝ }
+    requires { ⌜ Sized rows cols (now dirs) × Drained (grid rows cols (now dirs)) (now work) queued × (rows * cols ≤ length (now «lent_areas»)) × (positionsPart * (rows * cols) ≤ length (now work)) ⌝ }
     ensures { λ _. ⌜ (now (work .exit) ≡ withSizes (rows * cols) (sizesOf (grid rows cols (now (dirs .entry)))) (now (work .entry))) × (now («lent_areas» .exit) ≡ written (areasOf (grid rows cols (now (dirs .entry)))) (now («lent_areas» .entry))) ⌝ }
 {
     sizes(dirs, rows, cols, work, queued, lent_areas);

@@ -15,7 +15,7 @@ use Rattle.claims.proofs.Counts.{count-le}
 use Rattle.claims.proofs.Basins.{lawful}
 use Rattle.claims.proofs.Sheets.{basin, passed-on}
 use Rattle.claims.proofs.Written.{length-list, written-at}
-use Rattle.upstream.specs.Work.{withSizes, isReached}
+use Rattle.upstream.specs.Work.{sizesPart, withSizes, isReached}
 use Rattle.drainage.specs.declared.Inspection.{Inspection}
 use Rattle.upstream.specs.Search.{Drained}
 use Rattle.drainage.specs.Inspect.{Inspected as InspectedBy}
@@ -57,7 +57,7 @@ surveyed {S} {L} {queued} {areas} {work} f i e a l = rw (e, a) (record {
   size-is = size-written (S .grid) (L .work) room;
 })
   where
-    room : 3 * cells (S .grid) ≤ length (L .work)
+    room : sizesPart * cells (S .grid) ≤ length (L .work)
     room = omega (arith, f .work)
 
 -- more places are no harm

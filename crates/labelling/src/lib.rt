@@ -3,6 +3,7 @@ pub mod from_intake;
 
 use drainage::Inspection;
 use sheet::Outcome;
+use upstream::parts;
 ghost use mathlib.Core.Path.{_≡_};
 ghost use Prim.Native.Nat.{_*_, _≤_};
 ghost use lib.Dec.{leb};
@@ -56,9 +57,9 @@ fn write_labels(
     order::positions::arrange(dirs, rows, cols, areas, queued, work);
     let n = rows * cols;
     clear_labels(labels, n);
-    let cells = 5 * n;
+    let cells = parts::CELLS * n;
     let cells_end = cells + queued;
-    let sizes = 6 * n;
+    let sizes = parts::ORDERED_SIZES * n;
     let sizes_end = sizes + queued;
     rivers::units::label_basin(
         depth,

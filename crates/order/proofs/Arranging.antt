@@ -13,7 +13,7 @@ use Rattle.sheet.specs.River.{network}
 use Rattle.sheet.specs.Label.{outlet}
 use Rattle.sheet.proofs.Cells.{cells-most, inside-lt}
 use Rattle.claims.proofs.GridLaws.{area-least}
-use Rattle.upstream.specs.Work.{placed, sizeAt}
+use Rattle.upstream.specs.Work.{sizesPart, cellsPart, orderedSizesPart, placed, sizeAt}
 use Rattle.drainage.specs.Total.{size}
 use Rattle.order.specs.Places.{positionAt, cellsIn, sizesIn, Surveyed, Placed, Entered, Arranged}
 use Rattle.order.proofs.Preorder.{some}
@@ -44,16 +44,16 @@ module _ {G : Grid} {areas work now later : List ℕ} {queued : ℕ} (W : Survey
   filled : Filled (λ c. inside G c ≡ true) (outlet G) (size G) (positionAt n now) (cellsIn n later queued) (sizesIn n later queued)
   filled = record {
     first = P .first;
-    long = part-length 5 (omega arith) ∙ sym (outlet-size (W .drained) (W .single));
-    sized = part-length 6 (omega arith) ∙ sym (part-length 5 (omega arith));
+    long = part-length cellsPart (omega arith) ∙ sym (outlet-size (W .drained) (W .single));
+    sized = part-length orderedSizesPart (omega arith) ∙ sym (part-length cellsPart (omega arith));
     cell-is = λ c i.
         let q = place-of W c i in
         let e : placed now (q .0) ≡ c = queue-kept W same P (q .0) (q .1) ∙ q .2 in
-        part-at 5 (positionAt n now c) (below c i) ∙ (rw e at (E .cell-is (q .0) (q .1)));
+        part-at cellsPart (positionAt n now c) (below c i) ∙ (rw e at (E .cell-is (q .0) (q .1)));
     size-is = λ c i.
         let q = place-of W c i in
         let e : placed now (q .0) ≡ c = queue-kept W same P (q .0) (q .1) ∙ q .2 in
-        part-at 6 (positionAt n now c) (below c i) ∙ (rw e at (E .size-is (q .0) (q .1))) ∙ P .kept (3 * n + c) (omega (arith, inside-lt G c i)) ∙ W .size-is c (inside-lt G c i);
+        part-at orderedSizesPart (positionAt n now c) (below c i) ∙ (rw e at (E .size-is (q .0) (q .1))) ∙ P .kept (sizesPart * n + c) (omega (arith, inside-lt G c i)) ∙ W .size-is c (inside-lt G c i);
   }
 
   pub arranged : Arranged G areas later queued
@@ -64,7 +64,7 @@ module _ {G : Grid} {areas work now later : List ℕ} {queued : ℕ} (W : Survey
       let i = B .outlet-inside in
       record {
         some = omega (arith, below (outlet G) i);
-        long = part-length 5 (omega arith);
+        long = part-length cellsPart (omega arith);
         layout = layout B (preorder W same P) F (cells-most (W .measured .sized .rows-most) (W .measured .sized .cols-most));
         layout-of = layout-of B (preorder W same P) F areas 1 (λ c j. W .measured .area-is c (inside-lt G c j)) (λ c j. sym (le-leb _ _ (area-least G c j)));
         outlet-first = rw (P .first) at (F .cell-is (outlet G) i);

@@ -9,7 +9,7 @@ use lib.Dec.{eqb}
 use lib.ListN.{length, getD, set, length-set}
 use lib.Seq.{getD-set-same, getD-set-other}
 use borrow.Author.Tests.{eqb-true, eqb-false}
-use Rattle.upstream.specs.Work.{placed, sizeAt}
+use Rattle.upstream.specs.Work.{sizesPart, positionsPart, cellsPart, orderedSizesPart, placed, sizeAt}
 use Rattle.order.specs.Places.{positionAt, entered, Apart, Entered}
 
 -- what holds before step i, and of step i, holds before step i + 1
@@ -35,21 +35,21 @@ module _ {n queued : ℕ} {work₀ work : List ℕ} (A : Apart n work₀ queued)
   cell-kept = E .kept i (omega (arith, A .most))
 
   pub at-kept : positionAt n work (placed work i) ≡ at
-  at-kept = rw cell-kept (E .kept (4 * n + cell) (omega (arith, A .on i l)))
+  at-kept = rw cell-kept (E .kept (positionsPart * n + cell) (omega (arith, A .on i l)))
 
   pub size-kept : sizeAt n work (placed work i) ≡ sizeAt n work₀ cell
-  size-kept = rw cell-kept (E .kept (3 * n + cell) (omega (arith, A .on i l)))
+  size-kept = rw cell-kept (E .kept (sizesPart * n + cell) (omega (arith, A .on i l)))
 
   abbrev after : List ℕ
-  after = set (set work (5 * n + at) cell) (6 * n + at) (sizeAt n work₀ cell)
+  after = set (set work (cellsPart * n + at) cell) (orderedSizesPart * n + at) (sizeAt n work₀ cell)
 
   entered-is : entered n work (placed work i) ≡ after
   unfolding entered
   entered-is = rw (at-kept, size-kept, cell-kept)
 
   -- a place that is none of the two
-  elsewhere : (j : ℕ) → (j ≡ 5 * n + at → ⊥) → (j ≡ 6 * n + at → ⊥) → getD after j 0 ≡ getD work j 0
-  elsewhere j d e = getD-set-other (set work (5 * n + at) cell) (6 * n + at) j (sizeAt n work₀ cell) 0 e ∙ getD-set-other work (5 * n + at) j cell 0 d
+  elsewhere : (j : ℕ) → (j ≡ cellsPart * n + at → ⊥) → (j ≡ orderedSizesPart * n + at → ⊥) → getD after j 0 ≡ getD work j 0
+  elsewhere j d e = getD-set-other (set work (cellsPart * n + at) cell) (orderedSizesPart * n + at) j (sizeAt n work₀ cell) 0 e ∙ getD-set-other work (cellsPart * n + at) j cell 0 d
 
   -- an earlier cell's position is another
   other : (j : ℕ) → j < i → positionAt n work₀ (placed work₀ j) ≢ at
@@ -61,12 +61,12 @@ module _ {n queued : ℕ} {work₀ work : List ℕ} (A : Apart n work₀ queued)
     cell-is =
         step-cases i
         (λ j h. let b = A .below j (omega arith) in let o = other j h in elsewhere _ (λ e. omega arith) (λ e. omega arith) ∙ E .cell-is j h)
-        (getD-set-other (set work (5 * n + at) cell) (6 * n + at) (5 * n + at) (sizeAt n work₀ cell) 0 (λ e. omega (arith, A .below i l))
-        ∙ getD-set-same work (5 * n + at) cell 0 (omega (arith, A .below i l, A .room)));
+        (getD-set-other (set work (cellsPart * n + at) cell) (orderedSizesPart * n + at) (cellsPart * n + at) (sizeAt n work₀ cell) 0 (λ e. omega (arith, A .below i l))
+        ∙ getD-set-same work (cellsPart * n + at) cell 0 (omega (arith, A .below i l, A .room)));
     size-is =
         step-cases i
         (λ j h. let b = A .below j (omega arith) in let k = A .below i l in let o = other j h in elsewhere _ (λ e. omega arith) (λ e. omega arith) ∙ E .size-is j h)
-        (getD-set-same (set work (5 * n + at) cell) (6 * n + at) (sizeAt n work₀ cell) 0 (omega (arith, A .below i l, A .room, length-set work (5 * n + at) cell)));
+        (getD-set-same (set work (cellsPart * n + at) cell) (orderedSizesPart * n + at) (sizeAt n work₀ cell) 0 (omega (arith, A .below i l, A .room, length-set work (cellsPart * n + at) cell)));
   }
 
   pub entered-more : Entered n work₀ (entered n work (placed work i)) (i + 1)

@@ -18,7 +18,7 @@ use Rattle.claims.specs.Basin.{Basin}
 use Rattle.claims.proofs.Basins.{lawful}
 use Rattle.claims.proofs.Counts.{count-le}
 use Rattle.claims.proofs.Sheets.{outlet-is, is-outlet}
-use Rattle.upstream.specs.Work.{placed, rankOf, receiverOf, numbered, isReached, sizeAt}
+use Rattle.upstream.specs.Work.{sizesPart, positionsPart, placed, rankOf, receiverOf, numbered, isReached, sizeAt}
 use Rattle.upstream.specs.Search.{Upstream}
 use Rattle.drainage.specs.Total.{size}
 use Rattle.order.specs.Positions.{Consecutive, Preorder}
@@ -65,10 +65,10 @@ module _ {G : Grid} {areas work : List ℕ} {queued : ℕ} (W : Surveyed G areas
   unfolding network
   is-donor c u e = lawful whole .donors-complete c u e
 
-  pub placed-none : Placed G work (set work (4 * cells G + outlet G) 0) queued 0
+  pub placed-none : Placed G work (set work (positionsPart * cells G + outlet G) 0) queued 0
   placed-none = record {
-    kept = λ j l. getD-set-other work (4 * cells G + outlet G) j 0 0 (λ e. omega arith);
-    first = getD-set-same work (4 * cells G + outlet G) 0 0 (omega (arith, W .room, inside-lt G (outlet G) (whole .outlet-inside)));
+    kept = λ j l. getD-set-other work (positionsPart * cells G + outlet G) j 0 0 (λ e. omega arith);
+    first = getD-set-same work (positionsPart * cells G + outlet G) 0 0 (omega (arith, W .room, inside-lt G (outlet G) (whole .outlet-inside)));
     follow = λ j l. absurd (omega arith);
     within = λ j l. absurd (omega arith);
   }
@@ -101,7 +101,7 @@ module _ {G : Grid} {areas work : List ℕ} {queued : ℕ} (W : Surveyed G areas
       basin = whole;
       is-inside = queue-inside i l;
       room = omega (arith, W .room);
-      size-is = λ c h. P .kept (3 * n + c) (omega arith) ∙ W .size-is c h;
+      size-is = λ c h. P .kept (sizesPart * n + c) (omega arith) ∙ W .size-is c h;
       within = omega (arith, within-cell (next G cell) refl, queue-most, cells-most (W .measured .sized .rows-most) (W .measured .sized .cols-most));
     })
 
@@ -111,7 +111,7 @@ module _ {G : Grid} {areas work : List ℕ} {queued : ℕ} (W : Surveyed G areas
 
       -- the position of a cell that is no donor
       stays : (u : ℕ) → (next G u ≡ To cell → ⊥) → positionAt n later u ≡ positionAt n now u
-      stays u d = D .kept (4 * n + u) (λ v m e. let s : u ≡ v = omega arith in d (rw s (goes cell v m)))
+      stays u d = D .kept (positionsPart * n + u) (λ v m e. let s : u ≡ v = omega arith in d (rw s (goes cell v m)))
 
       queue-stays : (j : ℕ) → j < i + 1 → positionAt n later (placed work j) ≡ positionAt n now (placed work j)
       queue-stays j h = stays (placed work j) (λ e. let k = donor-later j i (omega arith) l e in omega arith)

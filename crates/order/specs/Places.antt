@@ -11,24 +11,24 @@ use Rattle.sheet.specs.River.{network, donors}
 use Rattle.sheet.specs.Label.{outlet}
 use Rattle.claims.specs.Basin.{Basin}
 use Rattle.claims.specs.Bounds.{sum}
-use Rattle.upstream.specs.Work.{placed, sizeAt}
+use Rattle.upstream.specs.Work.{positionsPart, cellsPart, orderedSizesPart, placed, sizeAt}
 use Rattle.upstream.specs.Search.{Coded, Drained, SingleOutlet}
 use Rattle.drainage.specs.Total.{size}
 use Rattle.rivers.specs.Layout.{Layout, LayoutOf}
 use Rattle.order.specs.Keys.{cellOf}
 use Rattle.order.specs.Positions.{Consecutive}
 
--- [4n, 5n): a queued cell's position
+-- a queued cell's position
 abbrev pub positionAt : ℕ → List ℕ → ℕ → ℕ
-positionAt n work c = getD work (4 * n + c) 0
+positionAt n work c = getD work (positionsPart * n + c) 0
 
--- [5n, 6n): the cell at each position
+-- the cell at each position
 abbrev pub cellsIn : ℕ → List ℕ → ℕ → List ℕ
-cellsIn n work queued = take queued (drop (5 * n) work)
+cellsIn n work queued = take queued (drop (cellsPart * n) work)
 
--- [6n, 7n): the size at each position
+-- the size at each position
 abbrev pub sizesIn : ℕ → List ℕ → ℕ → List ℕ
-sizesIn n work queued = take queued (drop (6 * n) work)
+sizesIn n work queued = take queued (drop (orderedSizesPart * n) work)
 
 -- ---- what is given
 
@@ -52,7 +52,7 @@ pub record Surveyed (G : Grid) (areas work : List ℕ) (queued : ℕ) : Type 0 w
 -- the cells of keys get positions one after the other from `at` on
 unfoldable pub positioned : ℕ → ℕ → List ℕ → List ℕ → List ℕ
 positioned n at [] work = work
-positioned n at (x ∷ xs) work = positioned n (at + sizeAt n work (cellOf x)) xs (set work (4 * n + cellOf x) at)
+positioned n at (x ∷ xs) work = positioned n (at + sizeAt n work (cellOf x)) xs (set work (positionsPart * n + cellOf x) at)
 
 -- the cells of keys have places, and their positions fit 32 bits
 pub record Fitting (n at : ℕ) (keys work : List ℕ) : Type 0 where
@@ -72,11 +72,11 @@ pub record Standing (G : Grid) (work : List ℕ) (cell : ℕ) : Type 0 where
 -- the donors of a cell have got their positions, and no other place is written
 pub record DonorsPlaced (G : Grid) (work work′ : List ℕ) (cell : ℕ) : Type 0 where
   pub follow : Consecutive (size G) (positionAt (cells G) work′) (positionAt (cells G) work cell + 1) (donors (network G) cell)
-  pub kept : (j : ℕ) → ((u : ℕ) → List·Memᴰ u (donors (network G) cell) → j ≢ 4 * cells G + u) → getD work′ j 0 ≡ getD work j 0
+  pub kept : (j : ℕ) → ((u : ℕ) → List·Memᴰ u (donors (network G) cell) → j ≢ positionsPart * cells G + u) → getD work′ j 0 ≡ getD work j 0
 
 -- the donors of the first i cells of the queue have their positions, and so has the outlet
 pub record Placed (G : Grid) (work work′ : List ℕ) (queued i : ℕ) : Type 0 where
-  pub kept : (j : ℕ) → j < 4 * cells G → getD work′ j 0 ≡ getD work j 0
+  pub kept : (j : ℕ) → j < positionsPart * cells G → getD work′ j 0 ≡ getD work j 0
   pub first : positionAt (cells G) work′ (outlet G) ≡ 0
   pub follow : (j : ℕ) → j < i → Consecutive (size G) (positionAt (cells G) work′) (positionAt (cells G) work′ (placed work j) + 1) (donors (network G) (placed work j))
   pub within : (j : ℕ) → j < i → positionAt (cells G) work′ (placed work j) + size G (placed work j) ≤ queued
@@ -85,7 +85,7 @@ pub record Placed (G : Grid) (work work′ : List ℕ) (queued i : ℕ) : Type 0
 
 -- a cell and its size, written at its position
 unfoldable pub entered : ℕ → List ℕ → ℕ → List ℕ
-entered n work c = set (set work (5 * n + positionAt n work c) c) (6 * n + positionAt n work c) (sizeAt n work c)
+entered n work c = set (set work (cellsPart * n + positionAt n work c) c) (orderedSizesPart * n + positionAt n work c) (sizeAt n work c)
 
 -- queued cells with different positions
 pub record Apart (n : ℕ) (work : List ℕ) (queued : ℕ) : Type 0 where
@@ -98,9 +98,9 @@ pub record Apart (n : ℕ) (work : List ℕ) (queued : ℕ) : Type 0 where
 
 -- the first i queued cells stand at their positions
 pub record Entered (n : ℕ) (work work′ : List ℕ) (i : ℕ) : Type 0 where
-  pub kept : (j : ℕ) → j < 5 * n → getD work′ j 0 ≡ getD work j 0
-  pub cell-is : (j : ℕ) → j < i → getD work′ (5 * n + positionAt n work (placed work j)) 0 ≡ placed work j
-  pub size-is : (j : ℕ) → j < i → getD work′ (6 * n + positionAt n work (placed work j)) 0 ≡ sizeAt n work (placed work j)
+  pub kept : (j : ℕ) → j < cellsPart * n → getD work′ j 0 ≡ getD work j 0
+  pub cell-is : (j : ℕ) → j < i → getD work′ (cellsPart * n + positionAt n work (placed work j)) 0 ≡ placed work j
+  pub size-is : (j : ℕ) → j < i → getD work′ (orderedSizesPart * n + positionAt n work (placed work j)) 0 ≡ sizeAt n work (placed work j)
 
 -- ---- the order along rivers
 

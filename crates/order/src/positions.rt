@@ -1,10 +1,11 @@
 // Positions in the order along rivers, and the cell and the size at each.
 use crate::donors::donors_of;
+use upstream::parts;
 ghost use mathlib.Core.Path.{_≡_};
 ghost use Prim.Native.Nat.{_+_, _*_, _<_, _≤_};
 ghost use lib.ListN.{length, set};
 ghost use Rattle.sheet.specs.Sheet.{grid};
-ghost use Rattle.upstream.specs.Work.{placed};
+ghost use Rattle.upstream.specs.Work.{positionsPart, placed};
 ghost use Rattle.order.specs.Places.{positionAt, Measured, Surveyed, positioned, Fitting, Standing, DonorsPlaced, Placed, entered, Apart, Entered, Arranged};
 
 // Gives the cells of keys positions one after the other from `first` on.
@@ -12,8 +13,8 @@ fn place_donors(n: usize, first: u32, keys: &[u64], work: &mut [u32])
     requires { ⌜ Fitting n first (now keys) (now work) ⌝ }
     ensures { λ _. ⌜ now (work .exit) ≡ positioned n first (now (keys .entry)) (now (work .entry)) ⌝ }
 {
-    let sizes = 3 * n;
-    let positions = 4 * n;
+    let sizes = parts::SIZES * n;
+    let positions = parts::POSITIONS * n;
     let mut at = first;
     for k in 0..keys.len() {
         let cell = (keys[k] % 65536) as usize;
@@ -37,10 +38,10 @@ fn place_upstream(
     ensures { λ _. ⌜ DonorsPlaced (grid rows cols (now (dirs .entry))) (now (work .entry)) (now (work .exit)) cell ⌝ }
 {
     let n = rows * cols;
-    if work[3 * n + cell] == 1 {
+    if work[parts::SIZES * n + cell] == 1 {
         return;
     }
-    let first = work[4 * n + cell] + 1;
+    let first = work[parts::POSITIONS * n + cell] + 1;
     let mut keys = [0u64; 8];
     let count = donors_of(dirs, rows, cols, areas, cell, &mut keys);
     place_donors(n, first, &keys[..count], work);
@@ -49,10 +50,10 @@ fn place_upstream(
 // Gives the outlet, which stands first in the queue, the first position.
 fn place_outlet(n: usize, work: &mut [u32])
     requires { ⌜ (n ≤ 65536) × (8 * n ≤ length (now work)) × (placed (now work) 0 < n) ⌝ }
-    ensures { λ _. ⌜ now (work .exit) ≡ set (now (work .entry)) (4 * n + placed (now (work .entry)) 0) 0 ⌝ }
+    ensures { λ _. ⌜ now (work .exit) ≡ set (now (work .entry)) (positionsPart * n + placed (now (work .entry)) 0) 0 ⌝ }
 {
     let cell = work[0] as usize;
-    work[4 * n + cell] = 0;
+    work[parts::POSITIONS * n + cell] = 0;
 }
 
 // Gives every queued cell its position. A cell's receiver stands before it in the queue.
@@ -72,10 +73,10 @@ fn enter(n: usize, cell: usize, work: &mut [u32])
     requires { ⌜ (n ≤ 65536) × (8 * n ≤ length (now work)) × (cell < n) × (positionAt n (now work) cell < n) ⌝ }
     ensures { λ _. ⌜ now (work .exit) ≡ entered n (now (work .entry)) cell ⌝ }
 {
-    let at = work[4 * n + cell] as usize;
-    let size = work[3 * n + cell];
-    work[5 * n + at] = cell as u32;
-    work[6 * n + at] = size;
+    let at = work[parts::POSITIONS * n + cell] as usize;
+    let size = work[parts::SIZES * n + cell];
+    work[parts::CELLS * n + at] = cell as u32;
+    work[parts::ORDERED_SIZES * n + at] = size;
 }
 
 // Writes every queued cell and its size at its position.

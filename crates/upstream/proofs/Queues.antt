@@ -11,14 +11,14 @@ use lib.ListN.{length, set, length-set}
 use lib.Seq.{getD-set-same, getD-set-other, drop-set-lt}
 use borrow.Author.Tests.{lt-ltb, le-ltb}
 use Rattle.claims.proofs.Counts.{count-le, count-less}
-use Rattle.upstream.specs.Work.{placed, rankOf, receiverOf, isReached, pushed, KeptFrom}
+use Rattle.upstream.specs.Work.{ranksPart, receiversPart, sizesPart, placed, rankOf, receiverOf, isReached, pushed, KeptFrom}
 use Rattle.upstream.specs.Search.{Before, Item, Stands, Queue}
 use Rattle.upstream.specs.Growth.{Grown}
 use Rattle.upstream.proofs.Sums.{count-more}
 
 -- ---- the three stores of a push
 
-module _ (n : ℕ) (work : List ℕ) (end cell receiver : ℕ) (room : 3 * n ≤ length work) (end-on : end < n) (cell-on : cell < n) where
+module _ (n : ℕ) (work : List ℕ) (end cell receiver : ℕ) (room : sizesPart * n ≤ length work) (end-on : end < n) (cell-on : cell < n) where
   pub push-long : length (pushed n work end cell receiver) ≡ length work
   unfolding pushed
   push-long = simp length-set
@@ -26,47 +26,47 @@ module _ (n : ℕ) (work : List ℕ) (end cell receiver : ℕ) (room : 3 * n ≤
   pub push-place : placed (pushed n work end cell receiver) end ≡ cell
   unfolding pushed
   push-place =
-      getD-set-other (set (set work end cell) (n + cell) (end + 1)) (2 * n + cell) end receiver 0 (λ e. omega arith)
-      ∙ getD-set-other (set work end cell) (n + cell) end (end + 1) 0 (λ e. omega arith)
+      getD-set-other (set (set work end cell) (ranksPart * n + cell) (end + 1)) (receiversPart * n + cell) end receiver 0 (λ e. omega arith)
+      ∙ getD-set-other (set work end cell) (ranksPart * n + cell) end (end + 1) 0 (λ e. omega arith)
       ∙ getD-set-same work end cell 0 (omega arith)
 
   pub push-place-other : (i : ℕ) → i < n → i ≢ end → placed (pushed n work end cell receiver) i ≡ placed work i
   unfolding pushed
   push-place-other i l d =
-      getD-set-other (set (set work end cell) (n + cell) (end + 1)) (2 * n + cell) i receiver 0 (λ e. omega arith)
-      ∙ getD-set-other (set work end cell) (n + cell) i (end + 1) 0 (λ e. omega arith)
+      getD-set-other (set (set work end cell) (ranksPart * n + cell) (end + 1)) (receiversPart * n + cell) i receiver 0 (λ e. omega arith)
+      ∙ getD-set-other (set work end cell) (ranksPart * n + cell) i (end + 1) 0 (λ e. omega arith)
       ∙ getD-set-other work end i cell 0 d
 
   pub push-rank : rankOf n (pushed n work end cell receiver) cell ≡ end + 1
   unfolding pushed
   push-rank =
-      getD-set-other (set (set work end cell) (n + cell) (end + 1)) (2 * n + cell) (n + cell) receiver 0 (λ e. omega arith)
-      ∙ getD-set-same (set work end cell) (n + cell) (end + 1) 0 (simp length-set (omega arith))
+      getD-set-other (set (set work end cell) (ranksPart * n + cell) (end + 1)) (receiversPart * n + cell) (ranksPart * n + cell) receiver 0 (λ e. omega arith)
+      ∙ getD-set-same (set work end cell) (ranksPart * n + cell) (end + 1) 0 (simp length-set (omega arith))
 
   pub push-rank-other : (c : ℕ) → c < n → c ≢ cell → rankOf n (pushed n work end cell receiver) c ≡ rankOf n work c
   unfolding pushed
   push-rank-other c l d =
-      getD-set-other (set (set work end cell) (n + cell) (end + 1)) (2 * n + cell) (n + c) receiver 0 (λ e. omega arith)
-      ∙ getD-set-other (set work end cell) (n + cell) (n + c) (end + 1) 0 (λ e. d (omega arith))
-      ∙ getD-set-other work end (n + c) cell 0 (λ e. omega arith)
+      getD-set-other (set (set work end cell) (ranksPart * n + cell) (end + 1)) (receiversPart * n + cell) (ranksPart * n + c) receiver 0 (λ e. omega arith)
+      ∙ getD-set-other (set work end cell) (ranksPart * n + cell) (ranksPart * n + c) (end + 1) 0 (λ e. d (omega arith))
+      ∙ getD-set-other work end (ranksPart * n + c) cell 0 (λ e. omega arith)
 
   pub push-receiver : receiverOf n (pushed n work end cell receiver) cell ≡ receiver
   unfolding pushed
-  push-receiver = getD-set-same (set (set work end cell) (n + cell) (end + 1)) (2 * n + cell) receiver 0 (simp length-set (omega arith))
+  push-receiver = getD-set-same (set (set work end cell) (ranksPart * n + cell) (end + 1)) (receiversPart * n + cell) receiver 0 (simp length-set (omega arith))
 
   pub push-receiver-other : (c : ℕ) → c ≢ cell → receiverOf n (pushed n work end cell receiver) c ≡ receiverOf n work c
   unfolding pushed
   push-receiver-other c d =
-      getD-set-other (set (set work end cell) (n + cell) (end + 1)) (2 * n + cell) (2 * n + c) receiver 0 (λ e. d (omega arith))
-      ∙ getD-set-other (set work end cell) (n + cell) (2 * n + c) (end + 1) 0 (λ e. omega arith)
-      ∙ getD-set-other work end (2 * n + c) cell 0 (λ e. omega arith)
+      getD-set-other (set (set work end cell) (ranksPart * n + cell) (end + 1)) (receiversPart * n + cell) (receiversPart * n + c) receiver 0 (λ e. d (omega arith))
+      ∙ getD-set-other (set work end cell) (ranksPart * n + cell) (receiversPart * n + c) (end + 1) 0 (λ e. omega arith)
+      ∙ getD-set-other work end (receiversPart * n + c) cell 0 (λ e. omega arith)
 
-  pub push-kept : KeptFrom (3 * n) work (pushed n work end cell receiver)
+  pub push-kept : KeptFrom (sizesPart * n) work (pushed n work end cell receiver)
   unfolding pushed
   push-kept =
-      drop-set-lt (3 * n) (set (set work end cell) (n + cell) (end + 1)) (2 * n + cell) receiver (omega arith)
-      ∙ drop-set-lt (3 * n) (set work end cell) (n + cell) (end + 1) (omega arith)
-      ∙ drop-set-lt (3 * n) work end cell (omega arith)
+      drop-set-lt (sizesPart * n) (set (set work end cell) (ranksPart * n + cell) (end + 1)) (receiversPart * n + cell) receiver (omega arith)
+      ∙ drop-set-lt (sizesPart * n) (set work end cell) (ranksPart * n + cell) (end + 1) (omega arith)
+      ∙ drop-set-lt (sizesPart * n) work end cell (omega arith)
 
 -- ---- the cells of a queue
 

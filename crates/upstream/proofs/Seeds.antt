@@ -2,14 +2,14 @@
 use mathlib.Core.Path.{_≡_, refl, sym, _∙_, ap, subst}
 use mathlib.Core.Bool.{Bool, true, false, true≢false}
 use mathlib.Core.List.{List}
-use Prim.Native.Nat.{ℕ, _+_, _-_, _<_}
+use Prim.Native.Nat.{ℕ, _+_, _*_, _-_, _<_}
 use native.Mathlib.Decide.{ℕ-discrete}
 use native.Mathlib.Numerals.{add-one}
 use native.Mathlib.Omega.{arith}
 use Rattle.sheet.specs.Sheet.{Grid, cells, isOutlet}
 use Rattle.sheet.specs.Area.{count}
 use Rattle.sheet.proofs.Cells.{outlet-not-to}
-use Rattle.upstream.specs.Work.{placed, rankOf, isReached, numbered, pushed}
+use Rattle.upstream.specs.Work.{ranksPart, placed, rankOf, isReached, numbered, pushed}
 use Rattle.upstream.specs.Search.{Upstream}
 use Rattle.upstream.specs.Growth.{Grown, Seeded}
 use Rattle.upstream.specs.Work.{Cleared}
@@ -32,9 +32,9 @@ module _ (G : Grid) where
     upstream = record {
       queue = record {
         room = omega (arith, f .room);
-        counted = sym (count-none (cells G) (isReached (cells G) work) (λ c l. reached-no (cells G) work c (f .zero (cells G + c) (omega arith))));
+        counted = sym (count-none (cells G) (isReached (cells G) work) (λ c l. reached-no (cells G) work c (f .zero (ranksPart * cells G + c) (omega arith))));
         item = λ i l. absurd (omega arith);
-        stands = λ c l h. absurd (omega (arith, f .zero (cells G + c) (omega arith)));
+        stands = λ c l h. absurd (omega (arith, f .zero (ranksPart * cells G + c) (omega arith)));
       };
       is-inside = λ i l. absurd (omega arith);
       receiver = λ i l. absurd (omega arith);

@@ -7,7 +7,7 @@ use Rattle.sheet.specs.declared.End.the-variants.{At}
 use Rattle.sheet.specs.declared.Next.the-variants.{To}
 use Rattle.sheet.specs.Sheet.{Grid, OnSheet, Sized, cells, isOutlet, next, donorAgainst}
 use Rattle.sheet.specs.Area.{count}
-use Rattle.upstream.specs.Work.{placed, rankOf, KeptFrom}
+use Rattle.upstream.specs.Work.{sizesPart, placed, rankOf, KeptFrom}
 use Rattle.upstream.specs.Search.{Upstream, OutletsFirst, outletCount}
 
 -- a queue has grown from `end` places to end′
@@ -15,7 +15,7 @@ pub record Grown (n : ℕ) (work : List ℕ) (end : ℕ) (work′ : List ℕ) (e
   pub more : end ≤ end′
   pub ranks : (c : ℕ) → c < n → 0 < rankOf n work c → rankOf n work′ c ≡ rankOf n work c
   pub places : (i : ℕ) → i < end → placed work′ i ≡ placed work i
-  pub kept : KeptFrom (3 * n) work work′
+  pub kept : KeptFrom (sizesPart * n) work work′
 
 -- ---- outlets
 

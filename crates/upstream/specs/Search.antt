@@ -10,7 +10,7 @@ use Rattle.sheet.specs.Water.{reachesOutlet}
 use Rattle.sheet.specs.Area.{count}
 use Rattle.sheet.specs.Label.{outlet}
 use Rattle.sheet.specs.Refusal.{both}
-use Rattle.upstream.specs.Work.{placed, rankOf, receiverOf, isReached, numbered}
+use Rattle.upstream.specs.Work.{sizesPart, placed, rankOf, receiverOf, isReached, numbered}
 
 -- ---- the queue
 
@@ -33,7 +33,7 @@ pub record Stands (n : ℕ) (work : List ℕ) (queued c : ℕ) : Type 0 where
 
 -- the first `queued` places hold the reached cells, each once
 pub record Queue (n : ℕ) (work : List ℕ) (queued : ℕ) : Type 0 where
-  pub room : 3 * n ≤ length work
+  pub room : sizesPart * n ≤ length work
   pub counted : queued ≡ count n (isReached n work)
   pub item : (i : ℕ) → i < queued → Item n work i
   pub stands : (c : ℕ) → c < n → 0 < rankOf n work c → Stands n work queued c

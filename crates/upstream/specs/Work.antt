@@ -1,4 +1,4 @@
--- The work places of a sheet of n cells, in parts of n places each: the queue of a search, ranks, receivers, sizes.
+-- The work places of a sheet of n cells, in parts of n places each.
 use mathlib.Core.Path.{_≡_}
 use mathlib.Core.Bool.{Bool}
 use mathlib.Core.List.{List, _++_}
@@ -9,26 +9,53 @@ use Rattle.sheet.specs.declared.Next.{Next}
 use Rattle.sheet.specs.declared.Next.the-variants.{Outlet, To}
 use Rattle.sheet.specs.Refusal.{written}
 
+-- ---- the parts, by their numbers; the places of part k are those from k * n on
+
+-- part 0, from the search on: the queue, which holds the reached cells in the order of the search; its places are written i for 0 * n + i
+
+-- from the search on: each cell's rank, which is its place in the queue, from 1; 0: not reached
+abbrev pub ranksPart : ℕ
+ranksPart = 1
+
+-- from the search on: each queued cell's receiver, which is the cell that its water goes to, from 1; 0 for an outlet
+abbrev pub receiversPart : ℕ
+receiversPart = 2
+
+-- once sizes are measured: each cell's size
+abbrev pub sizesPart : ℕ
+sizesPart = 3
+
+-- once the order is worked out: each queued cell's position along rivers
+abbrev pub positionsPart : ℕ
+positionsPart = 4
+
+-- once the order is worked out: the cell at each position
+abbrev pub cellsPart : ℕ
+cellsPart = 5
+
+-- once the order is worked out: the size of the cell at each position
+abbrev pub orderedSizesPart : ℕ
+orderedSizesPart = 6
+
+-- ---- what they hold
+
 -- 8n places, all 0
 pub record Cleared (n : ℕ) (work : List ℕ) : Type 0 where
   pub room : 8 * n ≤ length work
   pub zero : (j : ℕ) → j < 8 * n → getD work j 0 ≡ 0
 
--- [0, n): the cells in the order of the search
+-- the cell at a place of the queue
 abbrev pub placed : List ℕ → ℕ → ℕ
 placed work i = getD work i 0
 
--- [n, 2n): a cell's rank, which is its place in the queue, from 1; 0: not reached
 abbrev pub rankOf : ℕ → List ℕ → ℕ → ℕ
-rankOf n work c = getD work (n + c) 0
+rankOf n work c = getD work (ranksPart * n + c) 0
 
--- [2n, 3n): a queued cell's receiver, which is the cell that its water goes to, from 1; 0 for an outlet
 abbrev pub receiverOf : ℕ → List ℕ → ℕ → ℕ
-receiverOf n work c = getD work (2 * n + c) 0
+receiverOf n work c = getD work (receiversPart * n + c) 0
 
--- [3n, 4n): a cell's size
 abbrev pub sizeAt : ℕ → List ℕ → ℕ → ℕ
-sizeAt n work c = getD work (3 * n + c) 0
+sizeAt n work c = getD work (sizesPart * n + c) 0
 
 abbrev pub isReached : ℕ → List ℕ → ℕ → Bool
 isReached n work c = ltb 0 (rankOf n work c)
@@ -48,8 +75,8 @@ nextOfNumber (suc r) = To r
 
 -- a cell is queued at the place `end`
 unfoldable pub pushed : ℕ → List ℕ → ℕ → ℕ → ℕ → List ℕ
-pushed n work end cell receiver = set (set (set work end cell) (n + cell) (end + 1)) (2 * n + cell) receiver
+pushed n work end cell receiver = set (set (set work end cell) (ranksPart * n + cell) (end + 1)) (receiversPart * n + cell) receiver
 
 -- sizes are written, and no other place
 unfoldable pub withSizes : ℕ → List ℕ → List ℕ → List ℕ
-withSizes n sizes work = take (3 * n) work ++ written sizes (drop (3 * n) work)
+withSizes n sizes work = take (sizesPart * n) work ++ written sizes (drop (sizesPart * n) work)

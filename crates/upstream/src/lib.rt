@@ -1,23 +1,23 @@
 // The search upstream from the outlets: a queue of cells, each after the cell that its water goes to.
-// The work places of a sheet of n cells stand in parts of n: the queue of cells in the order of the search, each cell's
-// rank in it, each queued cell's receiver, each cell's size (specs/Work.antt).
+pub mod parts;
+
 use sheet::End;
 ghost use mathlib.Core.Path.{_≡_};
 ghost use Prim.Native.Nat.{_+_, _*_, _/_, _%_, _<_, _≤_};
 ghost use lib.ListN.{length};
 ghost use Rattle.sheet.specs.Sheet.{grid, OnSheet, Sized, isOutlet};
-ghost use Rattle.upstream.specs.Work.{Cleared, KeptFrom, pushed};
+ghost use Rattle.upstream.specs.Work.{sizesPart, Cleared, KeptFrom, pushed};
 ghost use Rattle.upstream.specs.Search.{Coded, Searched};
 ghost use Rattle.upstream.specs.Growth.{Ready, DonorsPushed, AllPushed, Seeded, Spread};
 
 // Queues a cell. Its receiver is the number, from 1, of the cell that its water goes to; 0 for an outlet.
 fn push(work: &mut [u32], n: usize, end: usize, cell: usize, receiver: usize) -> usize
-    requires { ⌜ (3 * n ≤ length (now work)) × (n ≤ 65536) × (end < n) × (cell < n) × (receiver ≤ n) ⌝ }
+    requires { ⌜ (sizesPart * n ≤ length (now work)) × (n ≤ 65536) × (end < n) × (cell < n) × (receiver ≤ n) ⌝ }
     ensures { λ r. ⌜ (r ≡ end + 1) × (now (work .exit) ≡ pushed n (now (work .entry)) end cell receiver) ⌝ }
 {
     work[end] = cell as u32;
-    work[n + cell] = (end + 1) as u32;
-    work[2 * n + cell] = receiver as u32;
+    work[parts::RANKS * n + cell] = (end + 1) as u32;
+    work[parts::RECEIVERS * n + cell] = receiver as u32;
     end + 1
 }
 
@@ -32,7 +32,7 @@ fn push_outlet(
     col: usize,
 ) -> usize
     requires { ⌜ Sized rows cols (now dirs) × OnSheet rows cols row col × Seeded (grid rows cols (now dirs)) (now work) end (row * cols + col) ⌝ }
-    ensures { λ r. ⌜ Seeded (grid rows cols (now (dirs .entry))) (now (work .exit)) r (row * cols + col + 1) × KeptFrom (3 * (rows * cols)) (now (work .entry)) (now (work .exit)) ⌝ }
+    ensures { λ r. ⌜ Seeded (grid rows cols (now (dirs .entry))) (now (work .exit)) r (row * cols + col + 1) × KeptFrom (sizesPart * (rows * cols)) (now (work .entry)) (now (work .exit)) ⌝ }
 {
     if directions::is_outlet(dirs, rows, cols, row, col) {
         push(work, rows * cols, end, row * cols + col, 0)
@@ -51,7 +51,7 @@ fn seed_row(
     row: usize,
 ) -> usize
     requires { ⌜ Sized rows cols (now dirs) × (row < rows) × Seeded (grid rows cols (now dirs)) (now work) end (row * cols) ⌝ }
-    ensures { λ r. ⌜ Seeded (grid rows cols (now (dirs .entry))) (now (work .exit)) r ((row + 1) * cols) × KeptFrom (3 * (rows * cols)) (now (work .entry)) (now (work .exit)) ⌝ }
+    ensures { λ r. ⌜ Seeded (grid rows cols (now (dirs .entry))) (now (work .exit)) r ((row + 1) * cols) × KeptFrom (sizesPart * (rows * cols)) (now (work .entry)) (now (work .exit)) ⌝ }
 {
     let mut last = end;
     for col in 0..cols {
@@ -63,7 +63,7 @@ fn seed_row(
 // Queues the outlets, in reading order.
 fn seed(dirs: &[u8], rows: usize, cols: usize, work: &mut [u32]) -> usize
     requires { ⌜ Sized rows cols (now dirs) × Cleared (rows * cols) (now work) ⌝ }
-    ensures { λ r. ⌜ Seeded (grid rows cols (now (dirs .entry))) (now (work .exit)) r (rows * cols) × KeptFrom (3 * (rows * cols)) (now (work .entry)) (now (work .exit)) ⌝ }
+    ensures { λ r. ⌜ Seeded (grid rows cols (now (dirs .entry))) (now (work .exit)) r (rows * cols) × KeptFrom (sizesPart * (rows * cols)) (now (work .entry)) (now (work .exit)) ⌝ }
 {
     let mut end = 0;
     for row in 0..rows {
@@ -90,7 +90,7 @@ fn push_donor(
     let End::At(donor) = directions::donor_at(dirs, rows, cols, row, col, k) else {
         return end;
     };
-    if work[n + donor] == 0 {
+    if work[parts::RANKS * n + donor] == 0 {
         push(work, n, end, donor, row * cols + col + 1)
     } else {
         end
@@ -121,7 +121,7 @@ fn push_donors(
 // Goes through the queue, and queues the donors of each cell.
 fn spread(dirs: &[u8], rows: usize, cols: usize, work: &mut [u32], outlets: usize) -> usize
     requires { ⌜ Sized rows cols (now dirs) × Coded (grid rows cols (now dirs)) × Spread (grid rows cols (now dirs)) (now work) outlets 0 ⌝ }
-    ensures { λ r. ⌜ Spread (grid rows cols (now (dirs .entry))) (now (work .exit)) r r × KeptFrom (3 * (rows * cols)) (now (work .entry)) (now (work .exit)) ⌝ }
+    ensures { λ r. ⌜ Spread (grid rows cols (now (dirs .entry))) (now (work .exit)) r r × KeptFrom (sizesPart * (rows * cols)) (now (work .entry)) (now (work .exit)) ⌝ }
 {
     let mut end = outlets;
     let mut head = 0;
@@ -136,7 +136,7 @@ fn spread(dirs: &[u8], rows: usize, cols: usize, work: &mut [u32], outlets: usiz
 // Queues every inside cell whose water comes to an outlet, each after the cell that its water goes to. How many there are.
 pub fn search(dirs: &[u8], rows: usize, cols: usize, work: &mut [u32]) -> usize
     requires { ⌜ Sized rows cols (now dirs) × Coded (grid rows cols (now dirs)) × Cleared (rows * cols) (now work) ⌝ }
-    ensures { λ r. ⌜ Searched (grid rows cols (now (dirs .entry))) (now (work .exit)) r × KeptFrom (3 * (rows * cols)) (now (work .entry)) (now (work .exit)) ⌝ }
+    ensures { λ r. ⌜ Searched (grid rows cols (now (dirs .entry))) (now (work .exit)) r × KeptFrom (sizesPart * (rows * cols)) (now (work .entry)) (now (work .exit)) ⌝ }
 {
     let outlets = seed(dirs, rows, cols, work);
     spread(dirs, rows, cols, work, outlets)

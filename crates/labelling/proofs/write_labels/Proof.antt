@@ -5,6 +5,7 @@ use native.Mathlib.Omega.{arith}
 use borrow.Author.Needs.{needs}
 use Rattle.sheet.specs.Sheet.{grid}
 use Rattle.sheet.proofs.Cells.{cells-most}
+use Rattle.upstream.specs.Work.{cellsPart, orderedSizesPart}
 use Rattle.labelling.specs.Labelling.{sheet}
 use Rattle.labelling.proofs.Steps.{queued-most, surveyed, part-is, network-of, places, some-cell, labels-written}
 use Rattle.labelling.proofs.write_labels.Statement.{statement}
@@ -77,7 +78,7 @@ label-basin-requires c κs =
     let n = a .rows * a .cols in
     let G = grid (a .rows) (a .cols) (a .dirs .now) in
     let r = c .before .before .before .before .before .before .before .before .before .before .before .arrange .ensures in
-    rw (part-is (5 * n) (a .queued), part-is (6 * n) (a .queued)) (
+    rw (part-is (cellsPart * n) (a .queued), part-is (orderedSizesPart * n) (a .queued)) (
       p .0 .depth-most,
       (
         some-cell G (p .1 .accepted) r,
@@ -104,7 +105,7 @@ returns c =
     let a = c .before .before .before .before .before .before .before .before .before .before .before .before .before .before .before .before .before .before .before .before .before .before .before .before .before .before .before .before .args in
     let n = a .rows * a .cols in
     let r = c .before .before .before .before .before .before .before .before .before .before .before .before .before .before .arrange .ensures in
-    let e = rw (part-is (5 * n) (a .queued), part-is (6 * n) (a .queued)) at (c .before .before .label-basin .ensures) in
+    let e = rw (part-is (cellsPart * n) (a .queued), part-is (orderedSizesPart * n) (a .queued)) at (c .before .before .label-basin .ensures) in
     (c .before .before .before .before .before .before .before .before .before .before .before .before .before .before .before .before .before .before .before .before .before .measure .ensures .1, labels-written (sheet (a .rows) (a .cols) (a .depth) (a .dirs .now)) (a .labels .now) (p .1 .accepted) r (p .0 .labels) (c .before .before .before .before .before .before .before .before .before .before .clear-labels .ensures) e)
 
 pub write-labels-spec : {M : Type 1} → statement M

@@ -22,11 +22,14 @@ add-work c = search needs
 cast-work-2 : tie.Need-cast-work-2
 cast-work-2 c = search needs
 
+mul-work-2 : tie.Need-mul-work-2
+mul-work-2 c = search needs
+
 add-work-2 : tie.Need-add-work-2
 add-work-2 c = search needs
 
-mul-work-2 : tie.Need-mul-work-2
-mul-work-2 c = search needs
+mul-work-3 : tie.Need-mul-work-3
+mul-work-3 c = search needs
 
 slice-write-work-2 : tie.Need-slice-write-work-2
 slice-write-work-2 c = simp length-set (omega arith)
@@ -34,14 +37,14 @@ slice-write-work-2 c = simp length-set (omega arith)
 cast-work-3 : tie.Need-cast-work-3
 cast-work-3 c = search needs
 
-mul-work-3 : tie.Need-mul-work-3
-mul-work-3 c = search needs
+mul-work-4 : tie.Need-mul-work-4
+mul-work-4 c = search needs
 
 add-work-3 : tie.Need-add-work-3
 add-work-3 c = search needs
 
-mul-work-4 : tie.Need-mul-work-4
-mul-work-4 c = search needs
+mul-work-5 : tie.Need-mul-work-5
+mul-work-5 c = search needs
 
 slice-write-work-3 : tie.Need-slice-write-work-3
 slice-write-work-3 c = simp length-set (omega arith)
@@ -65,13 +68,14 @@ push-spec =
     slice-write-work
     add-work
     cast-work-2
-    add-work-2
     mul-work-2
+    add-work-2
+    mul-work-3
     slice-write-work-2
     cast-work-3
-    mul-work-3
-    add-work-3
     mul-work-4
+    add-work-3
+    mul-work-5
     slice-write-work-3
     add-result
     same-length

@@ -41,11 +41,14 @@ on-sheet c = cell-lt (c .pre .0 .on .row-on) (c .pre .0 .on .col-on)
 cells-fit : (c : tie.Start) → c .args .rows * c .args .cols ≤ 65536
 cells-fit c = cells-most (c .pre .0 .sized .rows-most) (c .pre .0 .sized .cols-most)
 
+mul-if1 : tie.Need-mul-if1
+mul-if1 c = omega (arith, donor-on c, cells-fit (c .before .before .before .before .before .before))
+
 add-if1 : tie.Need-add-if1
 add-if1 c = omega (arith, donor-on c, cells-fit (c .before .before .before .before .before .before))
 
-mul-if1 : tie.Need-mul-if1
-mul-if1 c = omega (arith, donor-on c, cells-fit (c .before .before .before .before .before .before))
+mul-if1-2 : tie.Need-mul-if1-2
+mul-if1-2 c = omega (arith, donor-on c, cells-fit (c .before .before .before .before .before .before))
 
 slice-read-if1 : tie.Need-slice-read-if1
 slice-read-if1 c = omega (arith, donor-on (c .before), c .before .before .before .before .before .before .before .pre .0 .upstream .queue .room)
@@ -84,8 +87,9 @@ push-donor-spec =
     enum-known-donor
     enum-told
     returns
-    add-if1
     mul-if1
+    add-if1
+    mul-if1-2
     slice-read-if1
     mul-push
     add-push

@@ -5,7 +5,7 @@ use native.Mathlib.Omega.{arith}
 use lib.ListN.{length}
 use borrow.Author.Needs.{needs}
 use Rattle.sheet.specs.Sheet.{grid}
-use Rattle.upstream.specs.Work.{KeptFrom}
+use Rattle.upstream.specs.Work.{sizesPart, KeptFrom}
 use Rattle.upstream.specs.Growth.{Seeded}
 use Rattle.upstream.proofs.Seeds.{seeded-start}
 use Rattle.upstream.proofs.seed.Statement.{statement}
@@ -13,7 +13,7 @@ use Rattle.upstream.proofs.seed.Tie as tie
 
 abbrev Inv-loop : tie.InvT-loop
 Inv-loop dirs rows cols work₀ end₀ row₀ work end row =
-    (row ≤ rows) × (length work ≡ length work₀) × Seeded (grid rows cols dirs) work end (row * cols) × KeptFrom (3 * (rows * cols)) work₀ work
+    (row ≤ rows) × (length work ≡ length work₀) × Seeded (grid rows cols dirs) work end (row * cols) × KeptFrom (sizesPart * (rows * cols)) work₀ work
 
 abbrev μ-loop : tie.MeasureT-loop
 μ-loop dirs rows cols work₀ end₀ row₀ work end row = rows - row

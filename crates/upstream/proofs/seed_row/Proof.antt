@@ -6,14 +6,14 @@ use lib.ListN.{length}
 use borrow.Author.Needs.{needs}
 use Rattle.sheet.specs.Sheet.{grid}
 use Rattle.sheet.proofs.Cells.{row-end}
-use Rattle.upstream.specs.Work.{KeptFrom}
+use Rattle.upstream.specs.Work.{sizesPart, KeptFrom}
 use Rattle.upstream.specs.Growth.{Seeded}
 use Rattle.upstream.proofs.seed_row.Statement.{statement}
 use Rattle.upstream.proofs.seed_row.Tie as tie
 
 abbrev Inv-loop : tie.InvT-loop
 Inv-loop dirs rows cols work₀ end row last₀ col₀ work last col =
-    (col ≤ cols) × (length work ≡ length work₀) × Seeded (grid rows cols dirs) work last (row * cols + col) × KeptFrom (3 * (rows * cols)) work₀ work
+    (col ≤ cols) × (length work ≡ length work₀) × Seeded (grid rows cols dirs) work last (row * cols + col) × KeptFrom (sizesPart * (rows * cols)) work₀ work
 
 abbrev μ-loop : tie.MeasureT-loop
 μ-loop dirs rows cols work₀ end row last₀ col₀ work last col = cols - col

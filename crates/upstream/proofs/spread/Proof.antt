@@ -5,7 +5,7 @@ use native.Mathlib.Omega.{arith}
 use lib.ListN.{length}
 use Rattle.sheet.specs.Sheet.{grid}
 use Rattle.sheet.proofs.Cells.{cells-most}
-use Rattle.upstream.specs.Work.{KeptFrom}
+use Rattle.upstream.specs.Work.{sizesPart, KeptFrom}
 use Rattle.upstream.specs.Growth.{Spread}
 use Rattle.upstream.proofs.Queues.{queued-most}
 use Rattle.upstream.proofs.Spreading.{spread-ready, spread-more}
@@ -14,7 +14,7 @@ use Rattle.upstream.proofs.spread.Tie as tie
 
 abbrev Inv-loop : tie.InvT-loop
 Inv-loop dirs rows cols work₀ outlets end₀ head₀ work end head =
-    (head ≤ end) × (length work ≡ length work₀) × Spread (grid rows cols dirs) work end head × KeptFrom (3 * (rows * cols)) work₀ work
+    (head ≤ end) × (length work ≡ length work₀) × Spread (grid rows cols dirs) work end head × KeptFrom (sizesPart * (rows * cols)) work₀ work
 
 abbrev μ-loop : tie.MeasureT-loop
 μ-loop dirs rows cols work₀ outlets end₀ head₀ work end head = rows * cols - head

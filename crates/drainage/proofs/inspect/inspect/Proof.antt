@@ -31,8 +31,11 @@ unreached c = c .first-fault3 .ensures ∙ undrained-is _ _ (c .before .before .
 mul-n : tie.Need-mul-n
 mul-n c = search needs
 
-mul-end : tie.Need-mul-end
-mul-end c = search needs
+mul-ranks : tie.Need-mul-ranks
+mul-ranks c = search needs
+
+add-end : tie.Need-add-end
+add-end c = search needs
 
 mul-first-fault : tie.Need-mul-first-fault
 mul-first-fault c = search needs
@@ -143,7 +146,8 @@ inspect-spec =
     tie.close
     (tie.spec
     mul-n
-    mul-end
+    mul-ranks
+    add-end
     mul-first-fault
     sub-first-fault
     part-first-fault-start

@@ -2,7 +2,7 @@
 use mathlib.Core.Path.{_≡_}
 use Prim.Native.Nat.{ℕ, _+_, _*_, _-_, _<_}
 use native.Mathlib.Omega.{arith}
-use Rattle.upstream.specs.Work.{receiverOf}
+use Rattle.upstream.specs.Work.{receiversPart, receiverOf}
 use Rattle.drainage.proofs.Gathering.{added-none, added-some}
 use borrow.Author.Needs.{needs}
 use Rattle.drainage.proofs.measure.add_to_receiver.Statement.{statement}
@@ -21,7 +21,7 @@ shared-slice-read-receiver : tie.Need-shared-slice-read-receiver
 shared-slice-read-receiver c = search needs
 
 cast-receiver : tie.Need-cast-receiver
-cast-receiver c = omega (arith, c .shared-slice-known .given (2 * c .before .args .n + c .before .args .cell))
+cast-receiver c = omega (arith, c .shared-slice-known .given (receiversPart * c .before .args .n + c .before .args .cell))
 
 abbrev receiver : tie.Then1 → ℕ
 receiver c = receiverOf (c .before .before .args .n) (c .before .before .args .work .now) (c .before .before .args .cell)

@@ -6,6 +6,7 @@ use borrow.Rule.Slice.PartMut.{putMid}
 use Rattle.sheet.specs.Sheet.{grid}
 use Rattle.sheet.specs.Refusal.{written}
 use Rattle.sheet.proofs.Cells.{cells-most}
+use Rattle.upstream.specs.Work.{sizesPart}
 use Rattle.drainage.specs.Total.{ownCounts, sizesOf}
 use Rattle.drainage.proofs.Lists.{filled, filled-written}
 use Rattle.drainage.proofs.Measures.{sizes-long, sizes-written, sizes-put, own-gathers}
@@ -61,7 +62,7 @@ returns c =
     let a = c .before .before .before .before .before .before .before .before .before .before .before .before .before .before .before .before .before .args in
     let G = grid (a .rows) (a .cols) (a .dirs .now) in
     let n = a .rows * a .cols in (
-      ap (putMid (3 * n) (length (a .work .now) - 3 * n) (a .work .now)) (c .before .before .copy .ensures)
+      ap (putMid (sizesPart * n) (length (a .work .now) - sizesPart * n) (a .work .now)) (c .before .before .copy .ensures)
           ∙ sizes-put n (a .work .now) (sizesOf G) _ (a .areas .now) (c .before .before .before .before .before .before .before .before .before .before .before .before .before .before .before .before .before .pre .1 .searched .upstream .queue .room) (sizes-long G) (gathered (c .before .before .before .before .before .before .before)),
       gathered (c .before .before .before .before .before .before .before),
     )

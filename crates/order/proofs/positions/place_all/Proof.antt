@@ -7,6 +7,7 @@ use borrow.Author.Needs.{needs}
 use Rattle.sheet.specs.Sheet.{grid}
 use Rattle.sheet.specs.Label.{outlet}
 use Rattle.sheet.proofs.Cells.{cells-most, inside-lt}
+use Rattle.upstream.specs.Work.{positionsPart}
 use Rattle.order.specs.Places.{Surveyed, Placed}
 use Rattle.order.proofs.Queued.{whole, queue-most, placed-none, standing, placed-more}
 use Rattle.order.proofs.positions.place_all.Statement.{statement}
@@ -19,7 +20,7 @@ use Rattle.order.proofs.positions.place_upstream.Reads as place-upstrea
 abbrev Inv-loop : tie.InvT-loop
 Inv-loop dirs rows cols areas queued work₀ i₀ work i =
     (i ≤ queued) × (length work ≡ length work₀)
-    × ((entry : List ℕ) → Surveyed (grid rows cols dirs) areas entry queued → work₀ ≡ set entry (4 * (rows * cols) + outlet (grid rows cols dirs)) 0
+    × ((entry : List ℕ) → Surveyed (grid rows cols dirs) areas entry queued → work₀ ≡ set entry (positionsPart * (rows * cols) + outlet (grid rows cols dirs)) 0
     → Placed (grid rows cols dirs) entry work queued i)
 
 abbrev μ-loop : tie.MeasureT-loop
@@ -30,7 +31,7 @@ most c = cells-most (c .pre .measured .sized .rows-most) (c .pre .measured .size
 
 -- the outlet has its position
 outlet-placed : (c : tie.After-place-outlet Inv-loop μ-loop)
-    → c .place-outlet .last .1 .0 ≡ set (c .before .before .before .before .before .args .work .now) (4 * (c .before .before .before .before .before .args .rows * c .before .before .before .before .before .args .cols) + outlet (grid (c .before .before .before .before .before .args .rows) (c .before .before .before .before .before .args .cols) (c .before .before .before .before .before .args .dirs .now))) 0
+    → c .place-outlet .last .1 .0 ≡ set (c .before .before .before .before .before .args .work .now) (positionsPart * (c .before .before .before .before .before .args .rows * c .before .before .before .before .before .args .cols) + outlet (grid (c .before .before .before .before .before .args .rows) (c .before .before .before .before .before .args .cols) (c .before .before .before .before .before .args .dirs .now))) 0
 outlet-placed c = c .place-outlet .ensures ∙ (rw (c .before .before .before .before .before .pre .single .first))
 
 -- the first cells of the queue have been gone through

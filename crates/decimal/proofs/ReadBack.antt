@@ -10,25 +10,25 @@ use lib.Seq.{drop-append-seam}
 use lib.Dec.{eqb}
 use Rattle.decimal.specs.declared.Value.{Value}
 use Rattle.decimal.specs.declared.Value.the-variants.{Found}
-use Rattle.decimal.specs.Value.{isDigit, digitRun, numberFrom, isValue, foundAt, valueAt}
+use Rattle.decimal.specs.Value.{isDigit, digitRun, valueFrom, isValue, foundAt, valueAt}
 use Rattle.decimal.specs.Text.{decimalText}
 use Rattle.decimal.proofs.ValueLaws.{is-digit, run-digit, run-stop}
 use Rattle.decimal.proofs.TextLaws.{text-induction, text-small, text-few}
 
-number-append : (v : ℕ) (s : List ℕ) (b : ℕ) → numberFrom v (s ++ (b ∷ [])) ≡ numberFrom v s * 10 + (b - 48)
-unfolding numberFrom
+number-append : (v : ℕ) (s : List ℕ) (b : ℕ) → valueFrom v (s ++ (b ∷ [])) ≡ valueFrom v s * 10 + (b - 48)
+unfolding valueFrom
 number-append v [] b = refl
 number-append v (a ∷ s) b = number-append (v * 10 + (a - 48)) s b
 
 -- the digits of a text are its number
-pub text-number : (n : ℕ) → numberFrom 0 (decimalText n) ≡ n
-unfolding numberFrom
-text-number = text-induction (λ (n : ℕ) (s : List ℕ). numberFrom 0 s ≡ n) small large
+pub text-number : (n : ℕ) → valueFrom 0 (decimalText n) ≡ n
+unfolding valueFrom
+text-number = text-induction (λ (n : ℕ) (s : List ℕ). valueFrom 0 s ≡ n) small large
   where
-    small : (n : ℕ) → n < 10 → numberFrom 0 ((48 + n) ∷ []) ≡ n
+    small : (n : ℕ) → n < 10 → valueFrom 0 ((48 + n) ∷ []) ≡ n
     small n h = omega arith
 
-    large : (n : ℕ) → 10 ≤ n → numberFrom 0 (decimalText (n / 10)) ≡ n / 10 → numberFrom 0 (decimalText (n / 10) ++ ((48 + n % 10) ∷ [])) ≡ n
+    large : (n : ℕ) → 10 ≤ n → valueFrom 0 (decimalText (n / 10)) ≡ n / 10 → valueFrom 0 (decimalText (n / 10) ++ ((48 + n % 10) ∷ [])) ≡ n
     large n h ih = number-append 0 (decimalText (n / 10)) (48 + n % 10) ∙ omega arith
 
 -- a text is all digits

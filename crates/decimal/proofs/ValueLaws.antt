@@ -12,7 +12,7 @@ use lib.Seq.{drop-cons, getD-drop}
 use lib.Dec.{leb, eqb}
 use Rattle.decimal.specs.declared.Value.{Value}
 use Rattle.decimal.specs.declared.Value.the-variants.{Found, Bad}
-use Rattle.decimal.specs.Value.{isDigit, digitRun, numberFrom, isValue, foundAt, digitsAt, valueAt}
+use Rattle.decimal.specs.Value.{isDigit, digitRun, valueFrom, isValue, foundAt, numberAt, valueAt}
 
 pub digit-low : (b : ℕ) → isDigit b ≡ true → 48 ≤ b
 unfolding isDigit
@@ -50,7 +50,7 @@ module _ (s : List ℕ) (i : ℕ) where
 -- A reader of the digits `all` at position `at`, of which at most `most` are allowed, has come to position i: it has gathered v,
 -- `left` more digits are allowed, and the digits `rest` are still to come.
 pub record Gathered (all rest : List ℕ) (at most i left v : ℕ) : Type 0 where
-  pub number : numberFrom v rest ≡ numberFrom 0 all
+  pub number : valueFrom v rest ≡ valueFrom 0 all
   pub place : i + length rest ≡ at + length all
   pub count : i + left ≡ at + most
   pub small : v < 10 ^ (9 - left)
@@ -61,9 +61,9 @@ gathered-none all at most = record { number = refl; place = refl; count = refl; 
 module _ {all rest : List ℕ} {at most i left v : ℕ} (g : Gathered all rest at most i left v) where
   -- no digit is to come: the number is whole
   pub gathered-all : rest ≡ [] → Found v i ≡ foundAt (leb (length all) most) all at
-  unfolding foundAt numberFrom
+  unfolding foundAt valueFrom
   gathered-all e =
-      let n : v ≡ numberFrom 0 all = sym (ap (numberFrom v) e) ∙ g .number in
+      let n : v ≡ valueFrom 0 all = sym (ap (valueFrom v) e) ∙ g .number in
       let p : i ≡ at + length all = omega (arith, g .place, ap length e) in
       rw (le-leb (length all) most (omega (arith, g .count)), ← p, ← n)
 
@@ -80,9 +80,9 @@ module _ {all rest : List ℕ} {at most i left v : ℕ} (g : Gathered all rest a
         rw (p, pow-suc) (omega (arith, g .small, digit-low b digit, digit-high b digit))
 
     pub gathered-digit : Gathered all more at most (i + 1) (left - 1) (v * 10 + (b - 48))
-    unfolding numberFrom
+    unfolding valueFrom
     gathered-digit = record {
-      number = sym (ap (numberFrom v) e) ∙ g .number;
+      number = sym (ap (valueFrom v) e) ∙ g .number;
       place = omega (arith, g .place, ap length e);
       count = omega (arith, g .count);
       small = gathered-small;
@@ -103,7 +103,7 @@ module _ (most : ℕ) (s : List ℕ) (at : ℕ) where
     unfolding valueAt
     value-none e = rw (le-leb most 9 few, e)
 
-    pub value-zero : {b : ℕ} {more : List ℕ} → digitRun (drop at s) ≡ b ∷ more → b ≡ 48 → valueAt most s at ≡ digitsAt 1 s at
+    pub value-zero : {b : ℕ} {more : List ℕ} → digitRun (drop at s) ≡ b ∷ more → b ≡ 48 → valueAt most s at ≡ numberAt 1 s at
     unfolding valueAt
     value-zero {b} {more} e z = rw (le-leb most 9 few, e, eq-eqb b 48 z) (ap (λ (t : Bool). foundAt t (b ∷ more) at) (alone (length more)))
       where
@@ -111,7 +111,7 @@ module _ (most : ℕ) (s : List ℕ) (at : ℕ) where
         alone zero = refl
         alone (suc n) = ne-eqb (suc n) 0 (omega arith) ∙ sym (lt-leb (suc (suc n)) 1 (omega arith))
 
-    pub value-more : {b : ℕ} {more : List ℕ} → digitRun (drop at s) ≡ b ∷ more → (b ≡ 48 → ⊥) → valueAt most s at ≡ digitsAt most s at
+    pub value-more : {b : ℕ} {more : List ℕ} → digitRun (drop at s) ≡ b ∷ more → (b ≡ 48 → ⊥) → valueAt most s at ≡ numberAt most s at
     unfolding valueAt
     value-more {b} {more} e z = rw (le-leb most 9 few, e, ne-eqb b 48 z)
 

@@ -18,9 +18,9 @@ digitRun [] = []
 digitRun (b ∷ s) = cond (isDigit b) (b ∷ digitRun s) []
 
 -- the number that is written by the digits of v and then by these
-unfoldable pub numberFrom : ℕ → List ℕ → ℕ
-numberFrom v [] = v
-numberFrom v (b ∷ s) = numberFrom (v * 10 + (b - 48)) s
+unfoldable pub valueFrom : ℕ → List ℕ → ℕ
+valueFrom v [] = v
+valueFrom v (b ∷ s) = valueFrom (v * 10 + (b - 48)) s
 
 -- 0 alone, or 1 to most digits not starting with 0
 unfoldable pub isValue : ℕ → List ℕ → Bool
@@ -29,12 +29,12 @@ isValue most (b ∷ s) = cond (eqb b 48) (eqb (length s) 0) (leb (length (b ∷ 
 
 -- the number of digits that begin at a position, and the position after them, if they are good
 unfoldable pub foundAt : Bool → List ℕ → ℕ → Value
-unfolding numberFrom
-foundAt good digits at = cond good (Found (numberFrom 0 digits) (at + length digits)) Bad
+unfolding valueFrom
+foundAt good digits at = cond good (Found (valueFrom 0 digits) (at + length digits)) Bad
 
 -- all the digits at a position as a number, if there are at most `most` of them
-abbrev pub digitsAt : ℕ → List ℕ → ℕ → Value
-digitsAt most s at = let digits : List ℕ = digitRun (drop at s) in foundAt (leb (length digits) most) digits at
+abbrev pub numberAt : ℕ → List ℕ → ℕ → Value
+numberAt most s at = let digits : List ℕ = digitRun (drop at s) in foundAt (leb (length digits) most) digits at
 
 -- The value at a position of a line: all the digits that stand there have to make a value. A reader allows at most 9 digits, which
 -- always fit 32 bits; where it is to allow more, there is no value.

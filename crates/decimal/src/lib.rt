@@ -2,7 +2,7 @@
 ghost use mathlib.Core.Path.{_≡_};
 ghost use Prim.Native.Nat.{_≤_};
 ghost use lib.ListN.{length};
-ghost use Rattle.decimal.specs.Value.{isDigit, digitsAt, valueAt};
+ghost use Rattle.decimal.specs.Value.{isDigit, numberAt, valueAt};
 ghost use Rattle.decimal.specs.Text.{decimalText, writeText};
 
 // What reading a value gives: the value and the position after it, or that no value stands there.
@@ -29,7 +29,7 @@ fn is_digit(b: u8) -> bool
 // The number that the digits at a position write, if there are at most `most` of them.
 fn read_digits(line: &[u8], at: usize, most: u8) -> Value
     requires { ⌜ (at ≤ length (now line)) × (most ≤ 9) ⌝ }
-    ensures { λ r. ⌜ r ≡ digitsAt most (now (line .entry)) at ⌝ }
+    ensures { λ r. ⌜ r ≡ numberAt most (now (line .entry)) at ⌝ }
 {
     let mut end = at;
     let mut left = most;

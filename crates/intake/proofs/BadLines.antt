@@ -16,7 +16,7 @@ use Rattle.lines.proofs.OtherBytes.{values-line-feed}
 use Rattle.intake.specs.declared.Stage.{Stage}
 use Rattle.intake.specs.declared.Stage.the-variants.{WaitingForSizeNames, WaitingForSizes, WaitingForCellNames, TakingCells, Ended}
 use Rattle.intake.specs.declared.Intake.{Intake}
-use Rattle.intake.specs.declared.Outcome.the-variants.{Accepted}
+use Rattle.intake.specs.declared.TakenOutcome.the-variants.{Accepted}
 use Rattle.intake.specs.Intake.{After, refuse, unless, stateFault, lineIn, lineAfter}
 use Rattle.intake.proofs.LineLaws.{unless-none, unless-some}
 use Rattle.intake.proofs.Laws.{stageNumber, accepted-not-refused}

@@ -18,9 +18,9 @@ use Rattle.intake.specs.declared.Cell.{Cell}
 use Rattle.intake.specs.declared.Stage.{Stage}
 use Rattle.intake.specs.declared.Stage.the-variants.{WaitingForSizeNames, WaitingForSizes, WaitingForCellNames, TakingCells, Ended}
 use Rattle.intake.specs.declared.Intake.{Intake}
-use Rattle.intake.specs.declared.Outcome.the-variants.{Accepted, Refused}
+use Rattle.intake.specs.declared.TakenOutcome.the-variants.{Accepted, Refused}
 use Rattle.intake.specs.Faults.{sizesIn, cellIn, cellCount, sizesFault, cellFault}
-use Rattle.intake.specs.Intake.{refusalNumber, After, accept, refuse, unless, sizesWritten, cellWritten, onSizeNames, onSizes, onCellNames, onCells, stateFault, lineIn, lineAfter, endIn, endTaken, newIntake}
+use Rattle.intake.specs.Intake.{takenValues, After, accept, refuse, unless, sizesWritten, cellWritten, onSizeNames, onSizes, onCellNames, onCells, stateFault, lineIn, lineAfter, endIn, endTaken, newIntake}
 use Rattle.intake.proofs.FaultLaws.{Fits, sizes-fit}
 use Rattle.intake.proofs.LineLaws.{unless-none, unless-some}
 
@@ -138,11 +138,11 @@ module _ (i : Intake) (line dirs : List ℕ) where
       go (inr a) = ap (λ (b : After). length (b .dirs)) (a .is) ∙ a .as-long
 
   -- no refusal has the number 0, so the number tells the outcome
-  pub accepted-number : refusalNumber (lineAfter i line dirs .taken .outcome) ≡ 0 → lineAfter i line dirs .taken .outcome ≡ Accepted
+  pub accepted-number : takenValues (lineAfter i line dirs .taken .outcome) .number ≡ 0 → lineAfter i line dirs .taken .outcome ≡ Accepted
   accepted-number e = go (line-answer i line dirs)
     where
       go : Answer (i .stage) dirs (lineAfter i line dirs) → lineAfter i line dirs .taken .outcome ≡ Accepted
-      go (inl r) = absurd (omega (arith, r .number-some, sym (ap (λ (b : After). refusalNumber (b .taken .outcome)) (r .is)) ∙ e))
+      go (inl r) = absurd (omega (arith, r .number-some, sym (ap (λ (b : After). takenValues (b .taken .outcome) .number) (r .is)) ∙ e))
       go (inr a) = ap (λ (b : After). b .taken .outcome) (a .is)
 
   module _ (e : lineAfter i line dirs .taken .outcome ≡ Accepted) where

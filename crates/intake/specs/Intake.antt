@@ -17,15 +17,19 @@ use Rattle.intake.specs.declared.Cell.{Cell}
 use Rattle.intake.specs.declared.Stage.{Stage}
 use Rattle.intake.specs.declared.Stage.the-variants.{WaitingForSizeNames, WaitingForSizes, WaitingForCellNames, TakingCells, Ended}
 use Rattle.intake.specs.declared.Intake.{Intake}
-use Rattle.intake.specs.declared.Outcome.{Outcome}
-use Rattle.intake.specs.declared.Outcome.the-variants.{Accepted, Refused}
+use Rattle.intake.specs.declared.TakenOutcome.{TakenOutcome}
+use Rattle.intake.specs.declared.TakenOutcome.the-variants.{Accepted, Refused}
 use Rattle.intake.specs.declared.Taken.{Taken}
 use Rattle.intake.specs.Faults.{sizesIn, cellIn, cellCount, cellNumber, sizesFault, cellFault}
 
--- document 01's number of an outcome; 0 is accepted
-abbrev pub refusalNumber : Outcome → ℕ
-refusalNumber Accepted = 0
-refusalNumber (Refused number) = number
+-- document 01's number and place of an outcome: both 0 where it is accepted; all intake refusals give place 0
+pub record TakenValues : Type 0 where
+  pub number : ℕ
+  pub place : ℕ
+
+abbrev pub takenValues : TakenOutcome → TakenValues
+takenValues Accepted = record { number = 0; place = 0 }
+takenValues (Refused number) = record { number = number; place = 0 }
 
 -- what a call leaves: the next state beside the outcome, and the direction bytes
 pub record After : Type 0 where
@@ -61,7 +65,8 @@ sizesWritten z dirs = replicate (cellCount z) 0 ++ drop (cellCount z) dirs
 unfoldable pub cellWritten : Sizes → Cell → List ℕ → List ℕ
 cellWritten z x dirs = set dirs (cellNumber z x) (x .dir)
 
--- Each stage gives 8 for a line that breaks the file's rules for it. One with a byte 10 does in every stage (proofs/BadLines.antt).
+-- Each stage gives 8 for a line that breaks the file's rules for it. One with a byte 10 breaks those of every stage that takes lines
+-- (proofs/BadLines.antt); an ended intake gives 13 for it, as for any line.
 unfoldable pub onSizeNames : NamesLine → Taken
 onSizeNames (Named c) = accepted (WaitingForSizes c)
 onSizeNames BadNames = refused WaitingForSizeNames 8

@@ -7,10 +7,10 @@ ghost use Rattle.sheet.specs.Direction.{isCode};
 ghost use Rattle.intake.specs.Faults.{sizesFault, cellIn, onSheet, cellFault};
 ghost use Rattle.intake.specs.Intake.{cellWritten, onCells};
 use super::Cell;
-use super::Outcome;
 use super::Sizes;
 use super::Stage;
 use super::Taken;
+use super::TakenOutcome;
 use super::answer;
 use lines::columns::Column;
 use lines::columns::Columns;
@@ -81,9 +81,9 @@ fn take_cell(sizes: Sizes, columns: Columns, values: Values, dirs: &mut [u8]) ->
     let fault = cell_fault(sizes, cell, dirs);
     if fault == 0 {
         write_cell(sizes, cell, dirs);
-        return answer(Stage::TakingCells(sizes, columns), Outcome::Accepted);
+        return answer(Stage::TakingCells(sizes, columns), TakenOutcome::Accepted);
     }
-    answer(Stage::TakingCells(sizes, columns), Outcome::Refused(fault))
+    answer(Stage::TakingCells(sizes, columns), TakenOutcome::Refused(fault))
 }
 
 pub fn cell_line(sizes: Sizes, columns: Columns, line: &[u8], dirs: &mut [u8]) -> Taken
@@ -91,7 +91,7 @@ pub fn cell_line(sizes: Sizes, columns: Columns, line: &[u8], dirs: &mut [u8]) -
     ensures { λ r. ⌜ record { taken = r; dirs = now (dirs .exit) } ≡ onCells sizes columns (valuesLine (now (line .entry))) (now (dirs .entry)) ⌝ }
 {
     let ValuesLine::Values(values) = lines::values::read_values(line) else {
-        return answer(Stage::TakingCells(sizes, columns), Outcome::Refused(8));
+        return answer(Stage::TakingCells(sizes, columns), TakenOutcome::Refused(8));
     };
     take_cell(sizes, columns, values, dirs)
 }

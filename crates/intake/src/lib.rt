@@ -1,7 +1,7 @@
 // The intake of a sheet's file: it takes one line at a time and hands its state back.
 ghost use mathlib.Core.Path.{_≡_};
 ghost use lib.ListN.{length};
-ghost use Rattle.intake.specs.Intake.{refusalNumber, newIntake, stateFault, lineIn, lineAfter, endTaken};
+ghost use Rattle.intake.specs.Intake.{takenValues, newIntake, stateFault, lineIn, lineAfter, endTaken};
 
 mod cell_lines;
 mod name_lines;
@@ -41,8 +41,8 @@ pub struct Intake {
     pub stage: Stage,
 }
 
-// Accepted, or refused with document 01's number.
-pub enum Outcome {
+// The outcome of a line or of the end: accepted, or refused with document 01's number.
+pub enum TakenOutcome {
     Accepted,
     Refused(u8),
 }
@@ -50,20 +50,20 @@ pub enum Outcome {
 // The next state beside the outcome.
 pub struct Taken {
     pub intake: Intake,
-    pub outcome: Outcome,
+    pub outcome: TakenOutcome,
 }
 
 // Document 01's number of an outcome; 0 is accepted.
-pub fn refusal_number(outcome: Outcome) -> u8
-    ensures { λ r. ⌜ r ≡ refusalNumber outcome ⌝ }
+pub fn refusal_number(outcome: TakenOutcome) -> u8
+    ensures { λ r. ⌜ r ≡ takenValues outcome .number ⌝ }
 {
     match outcome {
-        Outcome::Accepted => 0,
-        Outcome::Refused(number) => number,
+        TakenOutcome::Accepted => 0,
+        TakenOutcome::Refused(number) => number,
     }
 }
 
-fn answer(stage: Stage, outcome: Outcome) -> Taken
+fn answer(stage: Stage, outcome: TakenOutcome) -> Taken
     ensures { λ r. ⌜ r ≡ record { intake = record { stage = stage }; outcome = outcome } ⌝ }
 {
     Taken {
@@ -95,7 +95,7 @@ fn line_in(stage: Stage, line: &[u8], dirs: &mut [u8]) -> Taken
         Stage::WaitingForSizes(columns) => sizes_line(columns, line, dirs),
         Stage::WaitingForCellNames(sizes) => cell_names_line(sizes, line),
         Stage::TakingCells(sizes, columns) => cell_line(sizes, columns, line, dirs),
-        Stage::Ended(_) => answer(stage, Outcome::Refused(13)),
+        Stage::Ended(_) => answer(stage, TakenOutcome::Refused(13)),
     }
 }
 
@@ -117,7 +117,7 @@ impl Intake {
         if fault == 0 {
             return line_in(stage, line, dirs);
         }
-        answer(stage, Outcome::Refused(fault))
+        answer(stage, TakenOutcome::Refused(fault))
     }
 
     // Takes the end of the file.
@@ -126,11 +126,11 @@ impl Intake {
     {
         let stage = self.stage;
         match stage {
-            Stage::WaitingForSizeNames => answer(stage, Outcome::Refused(14)),
-            Stage::WaitingForSizes(_) => answer(stage, Outcome::Refused(14)),
-            Stage::WaitingForCellNames(_) => answer(stage, Outcome::Refused(14)),
-            Stage::TakingCells(sizes, _) => answer(Stage::Ended(sizes), Outcome::Accepted),
-            Stage::Ended(_) => answer(stage, Outcome::Refused(13)),
+            Stage::WaitingForSizeNames => answer(stage, TakenOutcome::Refused(14)),
+            Stage::WaitingForSizes(_) => answer(stage, TakenOutcome::Refused(14)),
+            Stage::WaitingForCellNames(_) => answer(stage, TakenOutcome::Refused(14)),
+            Stage::TakingCells(sizes, _) => answer(Stage::Ended(sizes), TakenOutcome::Accepted),
+            Stage::Ended(_) => answer(stage, TakenOutcome::Refused(13)),
         }
     }
 }

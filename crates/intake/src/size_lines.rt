@@ -7,10 +7,10 @@ ghost use Rattle.lines.specs.Values.{valuesLine};
 ghost use Rattle.lines.specs.declared.values.ValuesLine.{ValuesLine};
 ghost use Rattle.intake.specs.Faults.{sizesIn, sizesFault};
 ghost use Rattle.intake.specs.Intake.{onSizes};
-use super::Outcome;
 use super::Sizes;
 use super::Stage;
 use super::Taken;
+use super::TakenOutcome;
 use super::answer;
 use checks::depth_fits;
 use checks::sizes_fit;
@@ -65,16 +65,16 @@ fn take_sizes(columns: Columns, values: Values, dirs: &mut [u8]) -> Taken
     let fault = sizes_fault(sizes, dirs.len());
     if fault == 0 {
         clear(dirs, sizes.rows * sizes.cols);
-        return answer(Stage::WaitingForCellNames(sizes), Outcome::Accepted);
+        return answer(Stage::WaitingForCellNames(sizes), TakenOutcome::Accepted);
     }
-    answer(Stage::WaitingForSizes(columns), Outcome::Refused(fault))
+    answer(Stage::WaitingForSizes(columns), TakenOutcome::Refused(fault))
 }
 
 pub fn sizes_line(columns: Columns, line: &[u8], dirs: &mut [u8]) -> Taken
     ensures { λ r. ⌜ record { taken = r; dirs = now (dirs .exit) } ≡ onSizes columns (valuesLine (now (line .entry))) (now (dirs .entry)) ⌝ }
 {
     let ValuesLine::Values(values) = lines::values::read_values(line) else {
-        return answer(Stage::WaitingForSizes(columns), Outcome::Refused(8));
+        return answer(Stage::WaitingForSizes(columns), TakenOutcome::Refused(8));
     };
     take_sizes(columns, values, dirs)
 }

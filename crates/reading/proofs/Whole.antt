@@ -10,8 +10,8 @@ use lib.Dec.{eqb, leb, ltb}
 use lib.ListN.{length, take, set, length-set, length-append}
 use lib.Seq.{take-suc-set}
 use Rattle.intake.specs.declared.Intake.{Intake}
-use Rattle.intake.specs.declared.Outcome.{Outcome}
-use Rattle.intake.specs.declared.Outcome.the-variants.{Accepted, Refused}
+use Rattle.intake.specs.declared.TakenOutcome.{TakenOutcome}
+use Rattle.intake.specs.declared.TakenOutcome.the-variants.{Accepted, Refused}
 use Rattle.intake.specs.Intake.{After, lineAfter, newIntake}
 use Rattle.intake.proofs.BadLines.{line-feed, over-eighty, bad-lines-alike}
 use Rattle.reading.specs.Lines.{linesOf, FileRead, refusedRead, onOutcome, readFrom, readFile}
@@ -111,7 +111,7 @@ handed i dirs s line held is = go (leb (length s) 80) refl
 abbrev within : Intake → ℕ → ℕ → List ℕ → List ℕ → Reading
 within i n held line dirs = record { reader = record { intake = i; lines = n; held = held; outcome = Accepted }; line = line; dirs = dirs }
 
-abbrev ended : Intake → Outcome → ℕ → List ℕ → List ℕ → Reading
+abbrev ended : Intake → TakenOutcome → ℕ → List ℕ → List ℕ → Reading
 ended i o n line dirs = record { reader = record { intake = i; lines = n; held = 0; outcome = o }; line = line; dirs = dirs }
 
 abbrev endedBy : After → ℕ → List ℕ → Reading
@@ -132,13 +132,13 @@ fed-refused i number n line dirs [] = refl
 fed-refused i number n line dirs (b ∷ bytes) = fed-refused i number n line dirs bytes
 
 -- a file goes on after an accepted line, and is refused at that line else
-after-line : (i : Intake) (o : Outcome) (n : ℕ) (line dirs bytes : List ℕ) (rest : FileRead) → finished (feedAll (ended i Accepted n line dirs) bytes) ≡ rest → finished (feedAll (ended i o n line dirs) bytes) ≡ onOutcome o rest (λ number. refusedRead number n dirs)
+after-line : (i : Intake) (o : TakenOutcome) (n : ℕ) (line dirs bytes : List ℕ) (rest : FileRead) → finished (feedAll (ended i Accepted n line dirs) bytes) ≡ rest → finished (feedAll (ended i o n line dirs) bytes) ≡ onOutcome o rest (λ number. refusedRead number n dirs)
 unfolding onOutcome finished lastLine endRead
 after-line i Accepted n line dirs bytes rest e = e
 after-line i (Refused number) n line dirs bytes rest e = ap finished (fed-refused i number n line dirs bytes)
 
 -- the end ends a line that lacks its line feed
-finish-ended : (i : Intake) (o : Outcome) (n : ℕ) (line dirs : List ℕ) → lastLine (ended i o n line dirs) ≡ ended i o n line dirs
+finish-ended : (i : Intake) (o : TakenOutcome) (n : ℕ) (line dirs : List ℕ) → lastLine (ended i o n line dirs) ≡ ended i o n line dirs
 unfolding lastLine
 finish-ended i Accepted n line dirs = refl
 finish-ended i (Refused number) n line dirs = refl

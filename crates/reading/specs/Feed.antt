@@ -4,7 +4,7 @@ use mathlib.Core.List.{List, [], _∷_}
 use Prim.Native.Nat.{ℕ, _+_}
 use lib.Dec.{eqb, leb, ltb}
 use lib.ListN.{take, set}
-use Rattle.intake.specs.declared.Outcome.the-variants.{Accepted}
+use Rattle.intake.specs.declared.TakenOutcome.the-variants.{Accepted}
 use Rattle.intake.specs.Intake.{After, lineAfter, newIntake}
 use Rattle.reading.specs.declared.Reader.{Reader}
 use Rattle.reading.specs.declared.Read.{Read}

@@ -4,8 +4,8 @@ use mathlib.Core.List.{List, [], _∷_}
 use Prim.Native.Nat.{ℕ, suc}
 use lib.Dec.{eqb}
 use Rattle.intake.specs.declared.Intake.{Intake}
-use Rattle.intake.specs.declared.Outcome.{Outcome}
-use Rattle.intake.specs.declared.Outcome.the-variants.{Accepted as Took, Refused as RefusedBy}
+use Rattle.intake.specs.declared.TakenOutcome.{TakenOutcome}
+use Rattle.intake.specs.declared.TakenOutcome.the-variants.{Accepted as Took, Refused as RefusedBy}
 use Rattle.intake.specs.Intake.{After, lineAfter, endTaken, newIntake}
 use Rattle.lines.specs.Fields.{longer}
 use Rattle.reading.specs.declared.Read.{Read}
@@ -28,7 +28,7 @@ abbrev pub refusedRead : ℕ → ℕ → List ℕ → FileRead
 refusedRead number place dirs = record { read = Refused number place; dirs = dirs }
 
 -- go on where a line or an end was accepted; else it was refused with a number
-unfoldable pub onOutcome : {A : Type 0} → Outcome → A → (ℕ → A) → A
+unfoldable pub onOutcome : {A : Type 0} → TakenOutcome → A → (ℕ → A) → A
 onOutcome Took next refused = next
 onOutcome (RefusedBy number) next refused = refused number
 

@@ -5,7 +5,7 @@ ghost use Rattle.intake.specs.Intake.{lineAfter};
 ghost use Rattle.reading.specs.Lines.{endAfter};
 ghost use Rattle.reading.specs.Feed.{nextLine, lineText, newReader, lineEnd, byteAfter, feedAll, lastLine, endRead, finished};
 use intake::Intake;
-use intake::Outcome;
+use intake::TakenOutcome;
 use intake::Taken;
 
 // The bytes of a file so far. The bytes of the line that is not ended yet stand in a lent buffer.
@@ -16,7 +16,7 @@ pub struct Reader {
     // how many bytes the present line has; 81 says more than 80
     pub held: usize,
     // that of the last line
-    pub outcome: Outcome,
+    pub outcome: TakenOutcome,
 }
 
 // How a file ends: refused, with document 01's number and place, or with an ended intake.
@@ -68,7 +68,7 @@ fn feed_byte(reader: Reader, byte: u8, line: &mut [u8; 80], dirs: &mut [u8]) -> 
     ensures { λ r. ⌜ record { reader = r; line = now (line .exit); dirs = now (dirs .exit) } ≡ byteAfter (record { reader = reader; line = now (line .entry); dirs = now (dirs .entry) }) byte ⌝ }
 {
     let outcome = reader.outcome;
-    let Outcome::Accepted = outcome else {
+    let TakenOutcome::Accepted = outcome else {
         return reader;
     };
     if byte == 10 {
@@ -98,7 +98,7 @@ fn last_line(reader: Reader, line: &[u8; 80], dirs: &mut [u8]) -> Reader
     ensures { λ r. ⌜ record { reader = r; line = now (line .entry); dirs = now (dirs .exit) } ≡ lastLine (record { reader = reader; line = now (line .entry); dirs = now (dirs .entry) }) ⌝ }
 {
     let outcome = reader.outcome;
-    let Outcome::Accepted = outcome else {
+    let TakenOutcome::Accepted = outcome else {
         return reader;
     };
     if reader.held == 0 {
@@ -115,8 +115,8 @@ fn end_intake(intake: Intake, lines: usize) -> Read
     let ended = taken.intake;
     let outcome = taken.outcome;
     match outcome {
-        Outcome::Accepted => Read::Ended(ended),
-        Outcome::Refused(number) => Read::Refused(number, next_line(lines)),
+        TakenOutcome::Accepted => Read::Ended(ended),
+        TakenOutcome::Refused(number) => Read::Refused(number, next_line(lines)),
     }
 }
 
@@ -127,8 +127,8 @@ fn end_read(reader: Reader) -> Read
     let intake = reader.intake;
     let outcome = reader.outcome;
     match outcome {
-        Outcome::Accepted => end_intake(intake, reader.lines),
-        Outcome::Refused(number) => Read::Refused(number, reader.lines),
+        TakenOutcome::Accepted => end_intake(intake, reader.lines),
+        TakenOutcome::Refused(number) => Read::Refused(number, reader.lines),
     }
 }
 
@@ -141,7 +141,7 @@ impl Reader {
             intake: Intake::new(),
             lines: 0,
             held: 0,
-            outcome: Outcome::Accepted,
+            outcome: TakenOutcome::Accepted,
         }
     }
 

@@ -14,8 +14,8 @@ use Rattle.intake.specs.declared.Sizes.{Sizes}
 use Rattle.intake.specs.declared.Stage.{Stage}
 use Rattle.intake.specs.declared.Stage.the-variants.{WaitingForSizeNames, WaitingForSizes, WaitingForCellNames, TakingCells, Ended as AtEnd}
 use Rattle.intake.specs.declared.Intake.{Intake}
-use Rattle.intake.specs.declared.Outcome.{Outcome}
-use Rattle.intake.specs.declared.Outcome.the-variants.{Accepted, Refused as RefusedBy}
+use Rattle.intake.specs.declared.TakenOutcome.{TakenOutcome}
+use Rattle.intake.specs.declared.TakenOutcome.the-variants.{Accepted, Refused as RefusedBy}
 use Rattle.intake.specs.Intake.{lineAfter, endIn, endTaken, newIntake, accepted}
 use Rattle.claims.proofs.Written.{length-list}
 use Rattle.labelling.specs.Labelling.{sheet}
@@ -45,12 +45,12 @@ one-more i n dirs line lines f e (at-line before after bad j d number parts t r 
 one-more i n dirs line lines f e (at-end j d number t r is) = at-end j d number (takes-line line e t) r (is ∙ later number n (suc (length lines)))
 one-more i n dirs line lines f e (ended j d t r is) = ended j d (takes-line line e t) r is
 
-at-end-ending : (i : Intake) (n : ℕ) (dirs : List ℕ) (o : Outcome) → endTaken i .outcome ≡ o → ReadEnding i n dirs [] (readFrom i n dirs [])
+at-end-ending : (i : Intake) (n : ℕ) (dirs : List ℕ) (o : TakenOutcome) → endTaken i .outcome ≡ o → ReadEnding i n dirs [] (readFrom i n dirs [])
 unfolding readFrom endAfter
 at-end-ending i n dirs Accepted e = ended i dirs takes-none e (rw e)
 at-end-ending i n dirs (RefusedBy number) e = at-end i dirs number takes-none e (rw e (ap (Refused number) (omega arith)))
 
-at-line-ending : (i : Intake) (n : ℕ) (dirs line : List ℕ) (lines : List (List ℕ)) (o : Outcome) → lineAfter i line dirs .taken .outcome ≡ o → ReadEnding (lineAfter i line dirs .taken .intake) (suc n) (lineAfter i line dirs .dirs) lines (readFrom (lineAfter i line dirs .taken .intake) (suc n) (lineAfter i line dirs .dirs) lines) → ReadEnding i n dirs (line ∷ lines) (readFrom i n dirs (line ∷ lines))
+at-line-ending : (i : Intake) (n : ℕ) (dirs line : List ℕ) (lines : List (List ℕ)) (o : TakenOutcome) → lineAfter i line dirs .taken .outcome ≡ o → ReadEnding (lineAfter i line dirs .taken .intake) (suc n) (lineAfter i line dirs .dirs) lines (readFrom (lineAfter i line dirs .taken .intake) (suc n) (lineAfter i line dirs .dirs) lines) → ReadEnding i n dirs (line ∷ lines) (readFrom i n dirs (line ∷ lines))
 unfolding readFrom
 at-line-ending i n dirs line lines Accepted e rest = rw e (one-more i n dirs line lines _ e rest)
 at-line-ending i n dirs line lines (RefusedBy number) e rest =

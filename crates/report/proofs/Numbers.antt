@@ -28,9 +28,9 @@ use Rattle.intake.specs.declared.Cell.{Cell}
 use Rattle.intake.specs.declared.Stage.{Stage}
 use Rattle.intake.specs.declared.Stage.the-variants.{WaitingForSizeNames, WaitingForSizes, WaitingForCellNames, TakingCells, Ended}
 use Rattle.intake.specs.declared.Intake.{Intake}
-use Rattle.intake.specs.declared.Outcome.the-variants.{Refused}
+use Rattle.intake.specs.declared.TakenOutcome.the-variants.{Refused}
 use Rattle.intake.specs.Faults.{sizesIn, cellIn, cellCount, onSheet, cellNumber, sizesFault, cellFault}
-use Rattle.intake.specs.Intake.{refusalNumber, After, accept, unless, onSizeNames, onSizes, onCellNames, onCells, stateFault, lineIn, lineAfter, endIn, endTaken}
+use Rattle.intake.specs.Intake.{takenValues, After, accept, unless, onSizeNames, onSizes, onCellNames, onCells, stateFault, lineIn, lineAfter, endIn, endTaken}
 use Rattle.listing.proofs.Answers.{rows-cols-most}
 
 -- ---- the intake's
@@ -59,7 +59,7 @@ state-fault-small (TakingCells z c) lent = sizes-fault-small z lent
 state-fault-small (Ended z) lent = omega arith
 
 abbrev Small : After → Type 0
-Small a = refusalNumber (a .taken .outcome) ≤ 15
+Small a = takenValues (a .taken .outcome) .number ≤ 15
 
 unless-small : (fault : ℕ) (s : Stage) (dirs : List ℕ) (next : After) → fault ≤ 15 → Small next → Small (unless fault s dirs next)
 unfolding unless
@@ -69,12 +69,12 @@ unless-small fault s dirs next h g = go (eqb fault 0)
     go true = g
     go false = h
 
-on-size-names : (n : NamesLine) → refusalNumber (onSizeNames n .outcome) ≤ 15
+on-size-names : (n : NamesLine) → takenValues (onSizeNames n .outcome) .number ≤ 15
 unfolding onSizeNames
 on-size-names (Named c) = omega arith
 on-size-names BadNames = omega arith
 
-on-cell-names : (z : Sizes) (n : NamesLine) → refusalNumber (onCellNames z n .outcome) ≤ 15
+on-cell-names : (z : Sizes) (n : NamesLine) → takenValues (onCellNames z n .outcome) .number ≤ 15
 unfolding onCellNames
 on-cell-names z (Named c) = omega arith
 on-cell-names z BadNames = omega arith
@@ -102,7 +102,7 @@ unfolding lineAfter
 line-number i line dirs number e =
     rw e at (unless-small (stateFault (i .stage) (length dirs)) (i .stage) dirs (lineIn (i .stage) line dirs) (state-fault-small (i .stage) (length dirs)) (line-in-small (i .stage) line dirs))
 
-end-in-small : (s : Stage) → refusalNumber (endIn s .outcome) ≤ 15
+end-in-small : (s : Stage) → takenValues (endIn s .outcome) .number ≤ 15
 unfolding endIn
 end-in-small WaitingForSizeNames = omega arith
 end-in-small (WaitingForSizes c) = omega arith

@@ -10,7 +10,7 @@ use Rattle.sheet.specs.Refusal.{Lent, outcome}
 use Rattle.intake.specs.declared.Sizes.{Sizes}
 use Rattle.intake.specs.declared.Stage.the-variants.{Ended}
 use Rattle.intake.specs.declared.Intake.{Intake}
-use Rattle.intake.specs.declared.Outcome.the-variants.{Accepted, Refused}
+use Rattle.intake.specs.declared.TakenOutcome.the-variants.{Accepted, Refused}
 use Rattle.intake.specs.Intake.{lineAfter, endTaken, newIntake, accepted}
 use Rattle.labelling.specs.Labelling.{sheet}
 use Rattle.listing.specs.Listing.{listingText, refusalText}

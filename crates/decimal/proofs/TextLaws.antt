@@ -9,15 +9,16 @@ use borrow.Author.Tests.{lt-ltb, le-ltb, ltb-true, ltb-false, le-leb, lt-leb}
 use lib.ListN.{length, take, drop, set, length-append, length-drop}
 use lib.Seq.{set-split, take-at, drop-at, length-take-le, take-set-le, drop-drop}
 use lib.Dec.{ltb}
+use Rattle.decimal.specs.Ascii.{digitZero}
 use Rattle.decimal.specs.declared.Written.the-variants.{End, NoRoom}
 use Rattle.decimal.specs.Text.{textWithin, decimalText, overwrite, writeText}
 
-within-small : (k n : ℕ) → n < 10 → textWithin k n ≡ (48 + n) ∷ []
+within-small : (k n : ℕ) → n < 10 → textWithin k n ≡ (digitZero + n) ∷ []
 unfolding textWithin
 within-small zero n h = refl
 within-small (suc k) n h = rw (lt-ltb n 10 h)
 
-within-large : (k n : ℕ) → 10 ≤ n → textWithin (suc k) n ≡ textWithin k (n / 10) ++ ((48 + n % 10) ∷ [])
+within-large : (k n : ℕ) → 10 ≤ n → textWithin (suc k) n ≡ textWithin k (n / 10) ++ ((digitZero + n % 10) ∷ [])
 unfolding textWithin
 within-large k n h = rw (le-ltb n 10 h)
 
@@ -31,22 +32,22 @@ within-same (suc j) (suc k) n h g = go (ltb n 10) refl (within-same j k (n / 10)
     go true e ih = within-small (suc j) n (ltb-true n 10 e) ∙ sym (within-small (suc k) n (ltb-true n 10 e))
     go false e ih =
         within-large j n (ltb-false n 10 e)
-        ∙ ap (λ (s : List ℕ). s ++ ((48 + n % 10) ∷ [])) ih
+        ∙ ap (λ (s : List ℕ). s ++ ((digitZero + n % 10) ∷ [])) ih
         ∙ sym (within-large k n (ltb-false n 10 e))
 
-pub text-small : (n : ℕ) → n < 10 → decimalText n ≡ (48 + n) ∷ []
+pub text-small : (n : ℕ) → n < 10 → decimalText n ≡ (digitZero + n) ∷ []
 unfolding decimalText
 text-small n h = within-small n n h
 
-pub text-large : (n : ℕ) → 10 ≤ n → decimalText n ≡ decimalText (n / 10) ++ ((48 + n % 10) ∷ [])
+pub text-large : (n : ℕ) → 10 ≤ n → decimalText n ≡ decimalText (n / 10) ++ ((digitZero + n % 10) ∷ [])
 unfolding decimalText
 text-large zero h = absurd (omega arith)
 text-large (suc k) h =
     within-large k (suc k) h
-    ∙ ap (λ (s : List ℕ). s ++ ((48 + suc k % 10) ∷ [])) (within-same k (suc k / 10) (suc k / 10) (omega arith) (omega arith))
+    ∙ ap (λ (s : List ℕ). s ++ ((digitZero + suc k % 10) ∷ [])) (within-same k (suc k / 10) (suc k / 10) (omega arith) (omega arith))
 
 -- To show something of every text: of the digits, and of a text with one digit more.
-pub text-induction : (P : ℕ → List ℕ → Type 0) → ((n : ℕ) → n < 10 → P n ((48 + n) ∷ [])) → ((n : ℕ) → 10 ≤ n → P (n / 10) (decimalText (n / 10)) → P n (decimalText (n / 10) ++ ((48 + n % 10) ∷ []))) → (n : ℕ) → P n (decimalText n)
+pub text-induction : (P : ℕ → List ℕ → Type 0) → ((n : ℕ) → n < 10 → P n ((digitZero + n) ∷ [])) → ((n : ℕ) → 10 ≤ n → P (n / 10) (decimalText (n / 10)) → P n (decimalText (n / 10) ++ ((digitZero + n % 10) ∷ []))) → (n : ℕ) → P n (decimalText n)
 text-induction P small large n = go n n (omega arith)
   where
     go : (k n : ℕ) → n ≤ k → P n (decimalText n)
@@ -58,7 +59,7 @@ text-induction P small large n = go n n (omega arith)
         pick false e ih = rw (text-large n (ltb-false n 10 e)) (large n (ltb-false n 10 e) ih)
 
 pub text-longer : (n : ℕ) → 10 ≤ n → length (decimalText n) ≡ length (decimalText (n / 10)) + 1
-text-longer n h = ap length (text-large n h) ∙ length-append (decimalText (n / 10)) ((48 + n % 10) ∷ [])
+text-longer n h = ap length (text-large n h) ∙ length-append (decimalText (n / 10)) ((digitZero + n % 10) ∷ [])
 
 pub text-some : (n : ℕ) → 0 < length (decimalText n)
 text-some = text-induction (λ (n : ℕ) (s : List ℕ). 0 < length s) (λ n h. omega arith) (λ n h ih. simp length-append (omega arith))
@@ -67,7 +68,7 @@ text-some = text-induction (λ (n : ℕ) (s : List ℕ). 0 < length s) (λ n h. 
 pub text-few : (k n : ℕ) → 0 < k → n < 10 ^ k → length (decimalText n) ≤ k
 text-few k n p h = text-induction (λ (n : ℕ) (s : List ℕ). (k : ℕ) → 0 < k → n < 10 ^ k → length s ≤ k) (λ n h k p g. omega arith) more n k p h
   where
-    more : (n : ℕ) → 10 ≤ n → ((k : ℕ) → 0 < k → n / 10 < 10 ^ k → length (decimalText (n / 10)) ≤ k) → (k : ℕ) → 0 < k → n < 10 ^ k → length (decimalText (n / 10) ++ ((48 + n % 10) ∷ [])) ≤ k
+    more : (n : ℕ) → 10 ≤ n → ((k : ℕ) → 0 < k → n / 10 < 10 ^ k → length (decimalText (n / 10)) ≤ k) → (k : ℕ) → 0 < k → n < 10 ^ k → length (decimalText (n / 10) ++ ((digitZero + n % 10) ∷ [])) ≤ k
     more n h ih zero p g = absurd (omega arith)
     more n h ih (suc zero) p g = absurd (omega arith)
     more n h ih (suc (suc k)) p g =
@@ -133,11 +134,11 @@ module _ (buffer : List ℕ) (at : ℕ) where
   not-written text h = rw (lt-leb (at + length text) (length buffer) h)
 
   -- the last digit of a number above 9 is written before the others
-  pub write-last-digit : (n end : ℕ) → 10 ≤ n → end ≡ at + length (decimalText n) → end ≤ length buffer → overwrite (set buffer (end - 1) (48 + n % 10)) at (decimalText (n / 10)) ≡ overwrite buffer at (decimalText n)
+  pub write-last-digit : (n end : ℕ) → 10 ≤ n → end ≡ at + length (decimalText n) → end ≤ length buffer → overwrite (set buffer (end - 1) (digitZero + n % 10)) at (decimalText (n / 10)) ≡ overwrite buffer at (decimalText n)
   write-last-digit n end h e g =
       let p : end - 1 ≡ at + length (decimalText (n / 10)) = omega (arith, text-longer n h) in
       rw p
-      (overwrite-last (decimalText (n / 10)) (48 + n % 10) (omega (arith, text-longer n h)) ∙ ap (overwrite buffer at) (sym (text-large n h)))
+      (overwrite-last (decimalText (n / 10)) (digitZero + n % 10) (omega (arith, text-longer n h)) ∙ ap (overwrite buffer at) (sym (text-large n h)))
 
-  pub write-first-digit : (n : ℕ) → n < 10 → at < length buffer → set buffer at (48 + n) ≡ overwrite buffer at (decimalText n)
-  write-first-digit n h g = overwrite-one (48 + n) g ∙ ap (overwrite buffer at) (sym (text-small n h))
+  pub write-first-digit : (n : ℕ) → n < 10 → at < length buffer → set buffer at (digitZero + n) ≡ overwrite buffer at (decimalText n)
+  write-first-digit n h g = overwrite-one (digitZero + n) g ∙ ap (overwrite buffer at) (sym (text-small n h))

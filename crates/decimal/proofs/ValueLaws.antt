@@ -10,21 +10,22 @@ use borrow.Author.Tests.{leb-true, le-leb, lt-leb, eq-eqb, ne-eqb}
 use lib.ListN.{length, drop, getD, drop-of-length-le}
 use lib.Seq.{drop-cons, getD-drop}
 use lib.Dec.{leb, eqb}
+use Rattle.decimal.specs.Ascii.{digitZero, digitNine}
 use Rattle.decimal.specs.declared.Value.{Value}
 use Rattle.decimal.specs.declared.Value.the-variants.{Found, Bad}
-use Rattle.decimal.specs.Value.{isDigit, digitRun, valueFrom, isValue, foundAt, numberAt, valueAt}
+use Rattle.decimal.specs.Value.{isDigit, digitRun, valueFrom, mostDigits, isValue, foundAt, numberAt, valueAt}
 
-pub digit-low : (b : ℕ) → isDigit b ≡ true → 48 ≤ b
+pub digit-low : (b : ℕ) → isDigit b ≡ true → digitZero ≤ b
 unfolding isDigit
-digit-low b e = leb-true 48 b (and-eq-true-iff (leb 48 b) (leb b 57) .0 e .0)
+digit-low b e = leb-true digitZero b (and-eq-true-iff (leb digitZero b) (leb b digitNine) .0 e .0)
 
-pub digit-high : (b : ℕ) → isDigit b ≡ true → b ≤ 57
+pub digit-high : (b : ℕ) → isDigit b ≡ true → b ≤ digitNine
 unfolding isDigit
-digit-high b e = leb-true b 57 (and-eq-true-iff (leb 48 b) (leb b 57) .0 e .1)
+digit-high b e = leb-true b digitNine (and-eq-true-iff (leb digitZero b) (leb b digitNine) .0 e .1)
 
-pub is-digit : (b : ℕ) → 48 ≤ b → b ≤ 57 → isDigit b ≡ true
+pub is-digit : (b : ℕ) → digitZero ≤ b → b ≤ digitNine → isDigit b ≡ true
 unfolding isDigit
-is-digit b l h = rw (le-leb 48 b l, le-leb b 57 h)
+is-digit b l h = rw (le-leb digitZero b l, le-leb b digitNine h)
 
 -- A list's digits, by its first byte.
 pub run-stop : (b : ℕ) (s : List ℕ) → isDigit b ≡ false → digitRun (b ∷ s) ≡ []
@@ -53,10 +54,10 @@ pub record Gathered (all rest : List ℕ) (at most i left v : ℕ) : Type 0 wher
   pub number : valueFrom v rest ≡ valueFrom 0 all
   pub place : i + length rest ≡ at + length all
   pub count : i + left ≡ at + most
-  pub small : v < 10 ^ (9 - left)
+  pub small : v < 10 ^ (mostDigits - left)
 
 pub gathered-none : (all : List ℕ) (at most : ℕ) → Gathered all all at most at most 0
-gathered-none all at most = record { number = refl; place = refl; count = refl; small = one-le-pow (9 - most) 10 (omega arith) }
+gathered-none all at most = record { number = refl; place = refl; count = refl; small = one-le-pow (mostDigits - most) 10 (omega arith) }
 
 module _ {all rest : List ℕ} {at most i left v : ℕ} (g : Gathered all rest at most i left v) where
   -- no digit is to come: the number is whole
@@ -73,13 +74,13 @@ module _ {all rest : List ℕ} {at most i left v : ℕ} (g : Gathered all rest a
   gathered-over e z = rw (lt-leb (length all) most (omega (arith, g .count, g .place, ap length e)))
 
   -- a digit is to come, and is allowed
-  module _ {b : ℕ} {more : List ℕ} (e : rest ≡ b ∷ more) (digit : isDigit b ≡ true) (allowed : left ≡ 0 → ⊥) (few : left ≤ 9) where
-    gathered-small : v * 10 + (b - 48) < 10 ^ (9 - (left - 1))
+  module _ {b : ℕ} {more : List ℕ} (e : rest ≡ b ∷ more) (digit : isDigit b ≡ true) (allowed : left ≡ 0 → ⊥) (few : left ≤ mostDigits) where
+    gathered-small : v * 10 + (b - digitZero) < 10 ^ (mostDigits - (left - 1))
     gathered-small =
-        let p : 9 - (left - 1) ≡ suc (9 - left) = omega arith in
+        let p : mostDigits - (left - 1) ≡ suc (mostDigits - left) = omega arith in
         rw (p, pow-suc) (omega (arith, g .small, digit-low b digit, digit-high b digit))
 
-    pub gathered-digit : Gathered all more at most (i + 1) (left - 1) (v * 10 + (b - 48))
+    pub gathered-digit : Gathered all more at most (i + 1) (left - 1) (v * 10 + (b - digitZero))
     unfolding valueFrom
     gathered-digit = record {
       number = sym (ap (valueFrom v) e) ∙ g .number;
@@ -89,31 +90,31 @@ module _ {all rest : List ℕ} {at most i left v : ℕ} (g : Gathered all rest a
     }
 
     -- the number fits 32 bits
-    pub gathered-fits : v * 10 + (b - 48) < 1000000000
-    gathered-fits = lt-of-lt-of-le gathered-small (pow-le-pow-right {n = 10} (omega arith) {j = 9} (omega arith))
+    pub gathered-fits : v * 10 + (b - digitZero) < 1000000000
+    gathered-fits = lt-of-lt-of-le gathered-small (pow-le-pow-right {n = 10} (omega arith) {j = mostDigits} (omega arith))
 
 -- The value at a position, by the byte there.
 module _ (most : ℕ) (s : List ℕ) (at : ℕ) where
-  pub value-over : 9 < most → valueAt most s at ≡ Bad
+  pub value-over : mostDigits < most → valueAt most s at ≡ Bad
   unfolding valueAt
-  value-over h = rw (lt-leb most 9 h)
+  value-over h = rw (lt-leb most mostDigits h)
 
-  module _ (few : most ≤ 9) where
+  module _ (few : most ≤ mostDigits) where
     pub value-none : digitRun (drop at s) ≡ [] → valueAt most s at ≡ Bad
     unfolding valueAt
-    value-none e = rw (le-leb most 9 few, e)
+    value-none e = rw (le-leb most mostDigits few, e)
 
-    pub value-zero : {b : ℕ} {more : List ℕ} → digitRun (drop at s) ≡ b ∷ more → b ≡ 48 → valueAt most s at ≡ numberAt 1 s at
+    pub value-zero : {b : ℕ} {more : List ℕ} → digitRun (drop at s) ≡ b ∷ more → b ≡ digitZero → valueAt most s at ≡ numberAt 1 s at
     unfolding valueAt
-    value-zero {b} {more} e z = rw (le-leb most 9 few, e, eq-eqb b 48 z) (ap (λ (t : Bool). foundAt t (b ∷ more) at) (alone (length more)))
+    value-zero {b} {more} e z = rw (le-leb most mostDigits few, e, eq-eqb b digitZero z) (ap (λ (t : Bool). foundAt t (b ∷ more) at) (alone (length more)))
       where
         alone : (n : ℕ) → eqb n 0 ≡ leb (suc n) 1
         alone zero = refl
         alone (suc n) = ne-eqb (suc n) 0 (omega arith) ∙ sym (lt-leb (suc (suc n)) 1 (omega arith))
 
-    pub value-more : {b : ℕ} {more : List ℕ} → digitRun (drop at s) ≡ b ∷ more → (b ≡ 48 → ⊥) → valueAt most s at ≡ numberAt most s at
+    pub value-more : {b : ℕ} {more : List ℕ} → digitRun (drop at s) ≡ b ∷ more → (b ≡ digitZero → ⊥) → valueAt most s at ≡ numberAt most s at
     unfolding valueAt
-    value-more {b} {more} e z = rw (le-leb most 9 few, e, ne-eqb b 48 z)
+    value-more {b} {more} e z = rw (le-leb most mostDigits few, e, ne-eqb b digitZero z)
 
 -- Every byte from the position to where a value stops is a digit.
 run-digits : (s : List ℕ) (i : ℕ) → i < length (digitRun s) → isDigit (getD s i 0) ≡ true
@@ -128,7 +129,7 @@ run-digits (b ∷ s) i h = go (isDigit b) refl (run-digits s) i h
 
 value-stops : (most : ℕ) (s : List ℕ) (at : ℕ) {v end : ℕ} → valueAt most s at ≡ Found v end → end ≡ at + length (digitRun (drop at s))
 unfolding valueAt
-value-stops most s at {v} {end} e = go (leb most 9) (isValue most (digitRun (drop at s))) e
+value-stops most s at {v} {end} e = go (leb most mostDigits) (isValue most (digitRun (drop at s))) e
   where
     go : (t u : Bool) → cond t (foundAt u (digitRun (drop at s)) at) Bad ≡ Found v end → end ≡ at + length (digitRun (drop at s))
     go false u e = let z : _≡_ {A = ℕ} 0 1 = cc in absurd (omega arith)

@@ -4,16 +4,17 @@ use mathlib.Core.List.{List, [], _∷_, _++_}
 use mathlib.Core.Bool.{cond}
 use lib.ListN.{length, take, drop}
 use lib.Dec.{leb, ltb}
+use Rattle.decimal.specs.Ascii.{digitZero}
 use Rattle.decimal.specs.declared.Written.{Written}
 use Rattle.decimal.specs.declared.Written.the-variants.{End, NoRoom}
 
 -- A number below 10 is one digit; a larger one is the text of its tenth part, then its last digit. The first argument bounds the
 -- recursion.
 unfoldable pub textWithin : ℕ → ℕ → List ℕ
-textWithin zero n = (48 + n) ∷ []
+textWithin zero n = (digitZero + n) ∷ []
 textWithin (suc k) n =
     let front : List ℕ = textWithin k (n / 10) in
-    cond (ltb n 10) ((48 + n) ∷ []) (front ++ ((48 + n % 10) ∷ []))
+    cond (ltb n 10) ((digitZero + n) ∷ []) (front ++ ((digitZero + n % 10) ∷ []))
 
 -- a number in decimal, in bytes; n steps are enough, since the tenth part of n is less than n
 unfoldable pub decimalText : ℕ → List ℕ

@@ -4,12 +4,12 @@ use mathlib.Core.List.{List, [], _∷_}
 use mathlib.Core.Bool.{Bool, false, cond, _&&_}
 use lib.ListN.{length, drop}
 use lib.Dec.{leb, eqb}
+use Rattle.decimal.specs.Ascii.{digitZero, digitNine}
 use Rattle.decimal.specs.declared.Value.{Value}
 use Rattle.decimal.specs.declared.Value.the-variants.{Found, Bad}
 
--- a digit is a byte from 48 to 57
 unfoldable pub isDigit : ℕ → Bool
-isDigit b = leb 48 b && leb b 57
+isDigit b = leb digitZero b && leb b digitNine
 
 -- the digits with which a list begins
 unfoldable pub digitRun : List ℕ → List ℕ
@@ -20,12 +20,16 @@ digitRun (b ∷ s) = cond (isDigit b) (b ∷ digitRun s) []
 -- the number that is written by the digits of v and then by these
 unfoldable pub valueFrom : ℕ → List ℕ → ℕ
 valueFrom v [] = v
-valueFrom v (b ∷ s) = valueFrom (v * 10 + (b - 48)) s
+valueFrom v (b ∷ s) = valueFrom (v * 10 + (b - digitZero)) s
+
+-- any nine digits fit 32 bits; a reader allows at most so many
+abbrev pub mostDigits : ℕ
+mostDigits = 9
 
 -- 0 alone, or 1 to most digits not starting with 0
 unfoldable pub isValue : ℕ → List ℕ → Bool
 isValue most [] = false
-isValue most (b ∷ s) = cond (eqb b 48) (eqb (length s) 0) (leb (length (b ∷ s)) most)
+isValue most (b ∷ s) = cond (eqb b digitZero) (eqb (length s) 0) (leb (length (b ∷ s)) most)
 
 -- the number of digits that begin at a position, and the position after them, if they are good
 unfoldable pub foundAt : Bool → List ℕ → ℕ → Value
@@ -36,11 +40,11 @@ foundAt good digits at = cond good (Found (valueFrom 0 digits) (at + length digi
 abbrev pub numberAt : ℕ → List ℕ → ℕ → Value
 numberAt most s at = let digits : List ℕ = digitRun (drop at s) in foundAt (leb (length digits) most) digits at
 
--- The value at a position of a line: all the digits that stand there have to make a value. A reader allows at most 9 digits, which
--- always fit 32 bits; where it is to allow more, there is no value.
+-- The value at a position of a line: all the digits that stand there have to make a value. Where a reader is to allow more digits
+-- than fit 32 bits, there is no value.
 unfoldable pub valueAt : ℕ → List ℕ → ℕ → Value
 unfolding isValue digitRun foundAt
 valueAt most s at =
     -- The digits begin at the position itself. What may stand in front of a value is to be passed over here.
     let digits : List ℕ = digitRun (drop at s) in
-    cond (leb most 9) (foundAt (isValue most digits) digits at) Bad
+    cond (leb most mostDigits) (foundAt (isValue most digits) digits at) Bad

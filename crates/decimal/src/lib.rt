@@ -2,7 +2,7 @@
 ghost use mathlib.Core.Path.{_≡_};
 ghost use Prim.Native.Nat.{_≤_};
 ghost use lib.ListN.{length};
-ghost use Rattle.decimal.specs.Value.{isDigit, numberAt, valueAt};
+ghost use Rattle.decimal.specs.Value.{isDigit, mostDigits, numberAt, valueAt};
 ghost use Rattle.decimal.specs.Text.{decimalText, writeText};
 
 // What reading a value gives: the value and the position after it, or that no value stands there.
@@ -17,18 +17,28 @@ pub enum Written {
     NoRoom,
 }
 
+// The digits are the bytes from the first of these to the second.
+pub const DIGIT_ZERO: u8 = b'0';
+
+pub const DIGIT_NINE: u8 = b'9';
+
+// The byte between two values, and the byte that ends a line.
+pub const COMMA: u8 = b',';
+
+pub const LINE_FEED: u8 = b'\n';
+
 // The most digits that a reader may allow: any nine fit 32 bits.
 const MOST_DIGITS: u8 = 9;
 
 fn is_digit(b: u8) -> bool
     ensures { λ r. ⌜ r ≡ isDigit b ⌝ }
 {
-    b'0' <= b && b <= b'9'
+    DIGIT_ZERO <= b && b <= DIGIT_NINE
 }
 
 // The number that the digits at a position write, if there are at most `most` of them.
 fn read_digits(line: &[u8], at: usize, most: u8) -> Value
-    requires { ⌜ (at ≤ length (now line)) × (most ≤ 9) ⌝ }
+    requires { ⌜ (at ≤ length (now line)) × (most ≤ mostDigits) ⌝ }
     ensures { λ r. ⌜ r ≡ numberAt most (now (line .entry)) at ⌝ }
 {
     let mut end = at;
@@ -41,7 +51,7 @@ fn read_digits(line: &[u8], at: usize, most: u8) -> Value
                 return Value::Bad;
             }
             left -= 1;
-            value = value * 10 + (b - b'0') as u32;
+            value = value * 10 + (b - DIGIT_ZERO) as u32;
             end += 1;
         } else {
             return Value::Found(value, end);
@@ -50,7 +60,7 @@ fn read_digits(line: &[u8], at: usize, most: u8) -> Value
     Value::Found(value, end)
 }
 
-// The value at a position: 0 alone, or 1 to `most` digits not starting with 0. Where `most` is over 9 there is none.
+// The value at a position: 0 alone, or 1 to `most` digits not starting with 0. Where `most` is over MOST_DIGITS there is none.
 pub fn read_value(line: &[u8], at: usize, most: u8) -> Value
     ensures { λ r. ⌜ r ≡ valueAt most (now (line .entry)) at ⌝ }
 {
@@ -61,7 +71,7 @@ pub fn read_value(line: &[u8], at: usize, most: u8) -> Value
         return Value::Bad;
     }
     let b = line[at];
-    if b == b'0' {
+    if b == DIGIT_ZERO {
         return read_digits(line, at, 1);
     }
     if is_digit(b) {
@@ -98,9 +108,9 @@ pub fn write_decimal(n: u64, out: &mut [u8], at: usize) -> Written
     let mut rest = n;
     while rest >= 10 {
         end -= 1;
-        out[end] = b'0' + (rest % 10) as u8;
+        out[end] = DIGIT_ZERO + (rest % 10) as u8;
         rest = rest / 10;
     }
-    out[at] = b'0' + rest as u8;
+    out[at] = DIGIT_ZERO + rest as u8;
     Written::End(at + count)
 }

@@ -1,13 +1,15 @@
--- Lines that break the file's rules in every stage: those with a line feed (byte 10), and those of more than 80 bytes.
+-- Lines that break the file's rules in every stage: those with a line feed, and those of more than 80 bytes.
 use mathlib.Core.Path.{_≡_, refl, sym, ap, _∙_}
 use mathlib.Core.List.{List}
 use Prim.Native.Nat.{ℕ, zero, suc, _<_}
 use native.Mathlib.Omega.{arith}
 use lib.ListN.{length, getD}
+use Rattle.decimal.specs.Ascii.{lineFeed}
 use Rattle.lines.specs.declared.columns.Columns.{Columns}
 use Rattle.names.specs.declared.NamesLine.the-variants.{Bad as BadNames}
 use Rattle.lines.specs.declared.values.ValuesLine.the-variants.{Bad as BadValues}
 use Rattle.names.specs.Names.{namesLine}
+use Rattle.lines.specs.Fields.{lineBytes}
 use Rattle.lines.specs.Values.{valuesLine}
 use Rattle.names.proofs.NamesLaws.{names-long}
 use Rattle.lines.proofs.ValuesLaws.{values-long}
@@ -26,10 +28,10 @@ pub record BadLine (line : List ℕ) : Type 0 where
   pub names : (expected : Columns) → namesLine expected line ≡ BadNames
   pub values : valuesLine line ≡ BadValues
 
-pub line-feed : (line : List ℕ) (at : ℕ) → at < length line → getD line at 0 ≡ 10 → BadLine line
+pub line-feed : (line : List ℕ) (at : ℕ) → at < length line → getD line at 0 ≡ lineFeed → BadLine line
 line-feed line at h e = record { names = λ expected. names-line-feed expected line at h e; values = values-line-feed line at h e }
 
-pub over-eighty : (line : List ℕ) → 80 < length line → BadLine line
+pub over-eighty : (line : List ℕ) → lineBytes < length line → BadLine line
 over-eighty line h = record { names = λ expected. names-long expected line h; values = values-long line h }
 
 -- 13 where the intake has ended, and else 8
@@ -65,7 +67,7 @@ bad-line-refused i line dirs b e = go (stateFault (i .stage) (length dirs)) (sym
     go (suc n) e = accepted-not-refused (sym e ∙ ap (λ (a : After). a .taken .outcome) (unless-some {fault = suc n} (i .stage) dirs _ (λ z. omega arith)))
 
 -- "a byte 10 in it gives 8": in a state that has not ended and whose sizes, if it has them, are good
-module _ (stage : Stage) (line dirs : List ℕ) (at : ℕ) (within : at < length line) (is : getD line at 0 ≡ 10) where
+module _ (stage : Stage) (line dirs : List ℕ) (at : ℕ) (within : at < length line) (is : getD line at 0 ≡ lineFeed) where
   pub line-feed-eight : stageNumber stage < 4 → stateFault stage (length dirs) ≡ 0 → lineAfter (record { stage = stage }) line dirs ≡ refuse stage dirs 8
   line-feed-eight early good = bad-line _ line dirs (line-feed line at within is) ∙ unless-none stage dirs _ good ∙ ap (refuse stage dirs) (eight stage early)
     where

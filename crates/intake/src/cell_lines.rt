@@ -83,7 +83,10 @@ fn take_cell(sizes: Sizes, columns: Columns, values: Values, dirs: &mut [u8]) ->
         write_cell(sizes, cell, dirs);
         return answer(Stage::TakingCells(sizes, columns), TakenOutcome::Accepted);
     }
-    answer(Stage::TakingCells(sizes, columns), TakenOutcome::Refused(fault))
+    answer(
+        Stage::TakingCells(sizes, columns),
+        TakenOutcome::Refused(fault),
+    )
 }
 
 pub fn cell_line(sizes: Sizes, columns: Columns, line: &[u8], dirs: &mut [u8]) -> Taken

@@ -67,7 +67,10 @@ fn take_sizes(columns: Columns, values: Values, dirs: &mut [u8]) -> Taken
         clear(dirs, sizes.rows * sizes.cols);
         return answer(Stage::WaitingForCellNames(sizes), TakenOutcome::Accepted);
     }
-    answer(Stage::WaitingForSizes(columns), TakenOutcome::Refused(fault))
+    answer(
+        Stage::WaitingForSizes(columns),
+        TakenOutcome::Refused(fault),
+    )
 }
 
 pub fn sizes_line(columns: Columns, line: &[u8], dirs: &mut [u8]) -> Taken

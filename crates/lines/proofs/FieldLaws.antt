@@ -9,6 +9,7 @@ use borrow.Author.Tests.{le-leb, lt-leb, leb-true, leb-false, eq-eqb, ne-eqb, eq
 use lib.ListN.{length, take, drop, getD, drop-of-length-le, length-drop}
 use lib.Seq.{drop-cons, drop-drop}
 use lib.Dec.{leb, eqb, leb·suc-suc}
+use Rattle.decimal.specs.Ascii.{comma}
 use Rattle.lines.specs.Fields.{longer, fields, firstField, fieldEnd, sameBytes}
 
 -- The end of a field, by the byte at a position.
@@ -17,23 +18,23 @@ module _ (s : List ℕ) (i : ℕ) where
   unfolding fieldEnd
   end-at-end h = rw drop-of-length-le (omega arith)
 
-  pub end-at-comma : i < length s → getD s i 0 ≡ 44 → fieldEnd s i ≡ i
+  pub end-at-comma : i < length s → getD s i 0 ≡ comma → fieldEnd s i ≡ i
   unfolding fieldEnd
   end-at-comma h e = rw (drop-cons s i 0, eq-eqb _ _ e) (omega arith)
 
-  pub end-at-other : i < length s → (getD s i 0 ≡ 44 → ⊥) → fieldEnd s (i + 1) ≡ fieldEnd s i
+  pub end-at-other : i < length s → (getD s i 0 ≡ comma → ⊥) → fieldEnd s (i + 1) ≡ fieldEnd s i
   unfolding fieldEnd
   end-at-other h e = rw (drop-cons s i 0, add-one, ne-eqb _ _ e) (omega arith)
 
 -- The first field and those after it.
 laterFields : List ℕ → List (List ℕ)
 laterFields [] = []
-laterFields (b ∷ s) = cond (eqb b 44) (fields s) (laterFields s)
+laterFields (b ∷ s) = cond (eqb b comma) (fields s) (laterFields s)
 
 fields-first : (s : List ℕ) → fields s ≡ firstField s ∷ laterFields s
 unfolding fields firstField laterFields
 fields-first [] = refl
-fields-first (b ∷ s) = go (eqb b 44) (fields-first s)
+fields-first (b ∷ s) = go (eqb b comma) (fields-first s)
   where
     go : (t : Bool) → fields s ≡ firstField s ∷ laterFields s → cond t ([] ∷ fields s) (longer b (fields s)) ≡ cond t [] (b ∷ firstField s) ∷ cond t (fields s) (laterFields s)
     go true ih = refl
@@ -42,7 +43,7 @@ fields-first (b ∷ s) = go (eqb b 44) (fields-first s)
 first-length : (s : List ℕ) → length (firstField s) ≤ length s
 unfolding firstField
 first-length [] = omega arith
-first-length (b ∷ s) = go (eqb b 44) (first-length s)
+first-length (b ∷ s) = go (eqb b comma) (first-length s)
   where
     go : (t : Bool) → length (firstField s) ≤ length s → length (cond t [] (b ∷ firstField s)) ≤ suc (length s)
     go true ih = omega arith
@@ -51,7 +52,7 @@ first-length (b ∷ s) = go (eqb b 44) (first-length s)
 first-take : (s : List ℕ) → take (length (firstField s)) s ≡ firstField s
 unfolding firstField
 first-take [] = refl
-first-take (b ∷ s) = go (eqb b 44) (first-take s)
+first-take (b ∷ s) = go (eqb b comma) (first-take s)
   where
     go : (t : Bool) → take (length (firstField s)) s ≡ firstField s → take (length (cond t [] (b ∷ firstField s))) (b ∷ s) ≡ cond t [] (b ∷ firstField s)
     go true ih = refl
@@ -65,7 +66,7 @@ fieldsFrom s at = cond (leb at (length s)) (fields (drop at s)) []
 later-from : (s : List ℕ) → laterFields s ≡ fieldsFrom s (length (firstField s) + 1)
 unfolding laterFields firstField
 later-from [] = refl
-later-from (b ∷ s) = go (eqb b 44) (later-from s)
+later-from (b ∷ s) = go (eqb b comma) (later-from s)
   where
     next : suc (length (firstField s)) + 1 ≡ suc (length (firstField s) + 1)
     next = omega arith

@@ -7,6 +7,7 @@ use native.Mathlib.Omega.{arith}
 use borrow.Author.Tests.{eq-eqb, ne-eqb, eqb-true}
 use lib.ListN.{length, getD}
 use lib.Dec.{eqb}
+use Rattle.decimal.specs.Ascii.{comma, lineFeed}
 use Rattle.decimal.specs.declared.Value.{Value}
 use Rattle.decimal.specs.declared.Value.the-variants.{Found, Bad as NoValue}
 use Rattle.decimal.specs.Value.{isDigit, valueAt}
@@ -14,7 +15,8 @@ use Rattle.decimal.proofs.ValueLaws.{value-digits}
 use Rattle.lines.specs.declared.values.Values.{Values}
 use Rattle.lines.specs.declared.values.ValuesLine.the-variants.{Bad as BadValues}
 use Rattle.lines.specs.Fields.{fitsLine, longer, fields}
-use Rattle.lines.specs.Values.{fieldValue, ifWhole, withValue, noValues, valuesFrom, valuesLine}
+use Rattle.lines.specs.Columns.{columnCount}
+use Rattle.lines.specs.Values.{valueDigits, fieldValue, ifWhole, withValue, noValues, valuesFrom, valuesLine}
 use Rattle.lines.proofs.ValuesLaws.{values-other, values-value}
 
 unfoldable pub contains : ℕ → List ℕ → Bool
@@ -41,32 +43,32 @@ at-contains b (x ∷ s) e = go (eqb x b) refl e (at-contains b s)
     go false h e ih = let (i, l, g) = ih e in (suc i, omega arith, g)
 
 -- A byte that is no comma stands in a line where it stands in one of its fields.
-pub fields-contain : (b : ℕ) (s : List ℕ) → (b ≡ 44 → ⊥) → contains b s ≡ containsAny b (fields s)
+pub fields-contain : (b : ℕ) (s : List ℕ) → (b ≡ comma → ⊥) → contains b s ≡ containsAny b (fields s)
 unfolding contains containsAny fields
 fields-contain b [] n = refl
-fields-contain b (x ∷ s) n = go (eqb x 44) refl (fields-contain b s n)
+fields-contain b (x ∷ s) n = go (eqb x comma) refl (fields-contain b s n)
   where
     put : (fs : List (List ℕ)) → containsAny b (longer x fs) ≡ (eqb x b || containsAny b fs)
     put [] = or-false (eqb x b || false) ∙ refl
     put (f ∷ fs) = or-assoc (eqb x b) (contains b f) (containsAny b fs)
 
-    go : (t : Bool) → eqb x 44 ≡ t → contains b s ≡ containsAny b (fields s) → (eqb x b || contains b s) ≡ containsAny b (cond t ([] ∷ fields s) (longer x (fields s)))
-    go true h ih = rw (ne-eqb x b (λ e. n (sym e ∙ eqb-true x 44 h))) ih
+    go : (t : Bool) → eqb x comma ≡ t → contains b s ≡ containsAny b (fields s) → (eqb x b || contains b s) ≡ containsAny b (cond t ([] ∷ fields s) (longer x (fields s)))
+    go true h ih = rw (ne-eqb x b (λ e. n (sym e ∙ eqb-true x comma h))) ih
     go false h ih = rw ih (sym (put (fields s)))
 
 -- A values line and a byte that is no digit and no comma.
 module _ (b : ℕ) (other : isDigit b ≡ false) where
   field-other : (f : List ℕ) → contains b f ≡ true → fieldValue f ≡ NoValue
   unfolding fieldValue
-  field-other f h = go (valueAt 5 f 0) refl
+  field-other f h = go (valueAt valueDigits f 0) refl
     where
-      whole : (v end : ℕ) → valueAt 5 f 0 ≡ Found v end → (t : Bool) → eqb end (length f) ≡ t → cond t (Found v end) NoValue ≡ NoValue
+      whole : (v end : ℕ) → valueAt valueDigits f 0 ≡ Found v end → (t : Bool) → eqb end (length f) ≡ t → cond t (Found v end) NoValue ≡ NoValue
       whole v end e true w =
           let (i, l, g) = at-contains b f h in
-          absurd (false≢true (sym other ∙ ap isDigit (sym g) ∙ value-digits 5 f 0 e i (omega arith) (omega (arith, eqb-true end (length f) w))))
+          absurd (false≢true (sym other ∙ ap isDigit (sym g) ∙ value-digits valueDigits f 0 e i (omega arith) (omega (arith, eqb-true end (length f) w))))
       whole v end e false w = refl
 
-      go : (x : Value) → valueAt 5 f 0 ≡ x → ifWhole f x ≡ NoValue
+      go : (x : Value) → valueAt valueDigits f 0 ≡ x → ifWhole f x ≡ NoValue
       go (Found v end) e = whole v end e (eqb end (length f)) refl
       go NoValue e = refl
 
@@ -83,15 +85,15 @@ module _ (b : ℕ) (other : isDigit b ≡ false) where
       go true e h ih = values-other count place v f fs (field-other f e)
       go false e h ih = known (fieldValue f) refl (λ y. ih y h)
 
-  pub values-other-byte : (b ≡ 44 → ⊥) → (s : List ℕ) (i : ℕ) → i < length s → getD s i 0 ≡ b → valuesLine s ≡ BadValues
+  pub values-other-byte : (b ≡ comma → ⊥) → (s : List ℕ) (i : ℕ) → i < length s → getD s i 0 ≡ b → valuesLine s ≡ BadValues
   unfolding valuesLine
-  values-other-byte comma s i h e = rw (values-from-other 3 0 (fields s) noValues (sym (fields-contain b s comma) ∙ contains-at b s i h e)) (either (fitsLine s))
+  values-other-byte no-comma s i h e = rw (values-from-other columnCount 0 (fields s) noValues (sym (fields-contain b s no-comma) ∙ contains-at b s i h e)) (either (fitsLine s))
     where
       either : (t : Bool) → cond t BadValues BadValues ≡ BadValues
       either true = refl
       either false = refl
 
--- A line feed, byte 10.
-pub values-line-feed : (s : List ℕ) (i : ℕ) → i < length s → getD s i 0 ≡ 10 → valuesLine s ≡ BadValues
+-- A line feed.
+pub values-line-feed : (s : List ℕ) (i : ℕ) → i < length s → getD s i 0 ≡ lineFeed → valuesLine s ≡ BadValues
 unfolding isDigit
-values-line-feed = values-other-byte 10 refl (λ e. omega arith)
+values-line-feed = values-other-byte lineFeed refl (λ e. omega arith)

@@ -10,21 +10,22 @@ use Rattle.decimal.specs.Value.{valueAt}
 use Rattle.lines.specs.declared.values.Values.{Values}
 use Rattle.lines.specs.declared.values.ValuesLine.{ValuesLine}
 use Rattle.lines.specs.declared.values.ValuesLine.the-variants.{Values as Valued, Bad}
-use Rattle.lines.specs.Fields.{fields, fieldEnd}
-use Rattle.lines.specs.Values.{fieldValue, withValue, noValues, valuesFrom, valuesLine}
+use Rattle.lines.specs.Fields.{lineBytes, fields, fieldEnd}
+use Rattle.lines.specs.Columns.{columnCount}
+use Rattle.lines.specs.Values.{valueDigits, fieldValue, withValue, noValues, valuesFrom, valuesLine}
 use Rattle.lines.proofs.FieldLaws.{fieldsFrom, fields-at, fields-past}
 
 -- A field.
 module _ (f : List ℕ) where
-  pub field-none : valueAt 5 f 0 ≡ NoValue → fieldValue f ≡ NoValue
+  pub field-none : valueAt valueDigits f 0 ≡ NoValue → fieldValue f ≡ NoValue
   unfolding fieldValue
   field-none e = rw e
 
-  pub field-whole : {v end : ℕ} → valueAt 5 f 0 ≡ Found v end → end ≡ length f → fieldValue f ≡ Found v end
+  pub field-whole : {v end : ℕ} → valueAt valueDigits f 0 ≡ Found v end → end ≡ length f → fieldValue f ≡ Found v end
   unfolding fieldValue
   field-whole {end = end} e w = rw (e, eq-eqb end (length f) w)
 
-  pub field-more : {v end : ℕ} → valueAt 5 f 0 ≡ Found v end → (end ≡ length f → ⊥) → fieldValue f ≡ NoValue
+  pub field-more : {v end : ℕ} → valueAt valueDigits f 0 ≡ Found v end → (end ≡ length f → ⊥) → fieldValue f ≡ NoValue
   unfolding fieldValue
   field-more {end = end} e w = rw (e, ne-eqb end (length f) w)
 
@@ -61,15 +62,15 @@ module _ (count place : ℕ) (v : Values) where
 
 -- The whole line.
 module _ (s : List ℕ) where
-  pub values-long : 80 < length s → valuesLine s ≡ Bad
+  pub values-long : lineBytes < length s → valuesLine s ≡ Bad
   unfolding valuesLine
-  values-long h = rw (lt-leb (length s) 80 h)
+  values-long h = rw (lt-leb (length s) lineBytes h)
 
-  pub values-fit : length s ≤ 80 → valuesLine s ≡ valuesFrom 3 0 (fields s) noValues
+  pub values-fit : length s ≤ lineBytes → valuesLine s ≡ valuesFrom columnCount 0 (fields s) noValues
   unfolding valuesLine
-  values-fit h = rw (le-leb (length s) 80 h)
+  values-fit h = rw (le-leb (length s) lineBytes h)
 
 -- Three fields that are values give these values, in their order.
-pub three-values : (f g h : List ℕ) {x y z p q r : ℕ} → fieldValue f ≡ Found x p → fieldValue g ≡ Found y q → fieldValue h ≡ Found z r → valuesFrom 3 0 (f ∷ g ∷ h ∷ []) noValues ≡ Valued (record { first = x; second = y; third = z })
+pub three-values : (f g h : List ℕ) {x y z p q r : ℕ} → fieldValue f ≡ Found x p → fieldValue g ≡ Found y q → fieldValue h ≡ Found z r → valuesFrom columnCount 0 (f ∷ g ∷ h ∷ []) noValues ≡ Valued (record { first = x; second = y; third = z })
 unfolding valuesFrom
 three-values f g h a b c = rw (a, b, c)

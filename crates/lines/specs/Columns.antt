@@ -5,6 +5,10 @@ use lib.Dec.{eqb}
 use Rattle.lines.specs.declared.columns.Column.{Column}
 use Rattle.lines.specs.declared.columns.Column.the-variants.{Absent, Rows, Cols, Depth, Row, Col, Dir}
 
+-- the number of columns of a sizes line, and of a cell line
+abbrev pub columnCount : ℕ
+columnCount = 3
+
 abbrev pub columnNumber : Column → ℕ
 columnNumber Absent = 0
 columnNumber Rows = 1

@@ -14,15 +14,19 @@ use Rattle.lines.specs.declared.values.Values.{Values}
 use Rattle.lines.specs.declared.values.ValuesLine.{ValuesLine}
 use Rattle.lines.specs.declared.values.ValuesLine.the-variants.{Values as Valued, Bad}
 use Rattle.lines.specs.Fields.{fitsLine, fields}
-use Rattle.lines.specs.Columns.{sameColumn}
+use Rattle.lines.specs.Columns.{columnCount, sameColumn}
 
 abbrev pub ifWhole : List ℕ → Value → Value
 ifWhole f (Found v end) = cond (eqb end (length f)) (Found v end) NoValue
 ifWhole f NoValue = NoValue
 
--- a field that is a value of at most 5 digits and nothing else
+-- the most digits of a value
+abbrev pub valueDigits : ℕ
+valueDigits = 5
+
+-- a field that is a value and nothing else
 unfoldable pub fieldValue : List ℕ → Value
-fieldValue f = ifWhole f (valueAt 5 f 0)
+fieldValue f = ifWhole f (valueAt valueDigits f 0)
 
 abbrev pub noValues : Values
 noValues = record { first = 0; second = 0; third = 0 }
@@ -45,10 +49,10 @@ unfolding fieldValue withValue
 valuesFrom count place [] v = cond (eqb place count) (Valued v) Bad
 valuesFrom count place (f ∷ fs) v = onValue (fieldValue f) (λ x. valuesFrom count (place + 1) fs (withValue v place x))
 
--- a line of three values and nothing else
+-- a line of a value for each column and nothing else
 unfoldable pub valuesLine : List ℕ → ValuesLine
 unfolding fitsLine fields valuesFrom valueAt
-valuesLine s = cond (fitsLine s) (valuesFrom 3 0 (fields s) noValues) Bad
+valuesLine s = cond (fitsLine s) (valuesFrom columnCount 0 (fields s) noValues) Bad
 
 -- The value in a column: that of the first column of the name, and 0 where there is none. So a name that stands twice has a meaning.
 unfoldable pub valueOf : Columns → Values → Column → ℕ

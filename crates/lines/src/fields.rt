@@ -11,7 +11,7 @@ pub fn field_end(line: &[u8], at: usize) -> usize
 {
     let mut end = at;
     while end < line.len() {
-        if line[end] == b',' {
+        if line[end] == decimal::COMMA {
             return end;
         }
         end += 1;

@@ -11,8 +11,8 @@ use Rattle.lines.specs.declared.columns.Column.the-variants.{Absent, Rows, Cols
 use Rattle.lines.specs.declared.columns.Columns.{Columns}
 use Rattle.names.specs.declared.NamesLine.{NamesLine}
 use Rattle.names.specs.declared.NamesLine.the-variants.{Columns as Named, Bad}
-use Rattle.lines.specs.Fields.{fitsLine, fields, fieldEnd}
-use Rattle.lines.specs.Columns.{sameColumn}
+use Rattle.lines.specs.Fields.{lineBytes, fitsLine, fields, fieldEnd}
+use Rattle.lines.specs.Columns.{columnCount, sameColumn}
 use Rattle.names.specs.Columns.{columnNamed, withColumn, noColumns, countColumn, asOften, sameColumns, sizeColumns, cellColumns}
 use Rattle.names.specs.Names.{namesFrom, ifExpected, namesLine}
 use Rattle.lines.proofs.FieldLaws.{fieldsFrom, fields-at, fields-past}
@@ -20,13 +20,13 @@ use Rattle.lines.proofs.FieldLaws.{fieldsFrom, fields-at, fields-past}
 -- Column by column.
 module _ (place : ℕ) (c : Columns) where
   -- past the end of the line
-  pub names-at-done : (s : List ℕ) {at : ℕ} → length s < at → place ≤ 3 → namesFrom place (fieldsFrom s at) c ≡ Named c
+  pub names-at-done : (s : List ℕ) {at : ℕ} → length s < at → place ≤ columnCount → namesFrom place (fieldsFrom s at) c ≡ Named c
   unfolding namesFrom
-  names-at-done s h e = rw (fields-past s _ h, le-leb place 3 e)
+  names-at-done s h e = rw (fields-past s _ h, le-leb place columnCount e)
 
-  pub names-at-over : (s : List ℕ) {at : ℕ} → length s < at → 3 < place → namesFrom place (fieldsFrom s at) c ≡ Bad
+  pub names-at-over : (s : List ℕ) {at : ℕ} → length s < at → columnCount < place → namesFrom place (fieldsFrom s at) c ≡ Bad
   unfolding namesFrom
-  names-at-over s h n = rw (fields-past s _ h, lt-leb place 3 n)
+  names-at-over s h n = rw (fields-past s _ h, lt-leb place columnCount n)
 
   module _ (f : List ℕ) (fs : List (List ℕ)) where
     pub names-other : sameColumn (columnNamed f) Absent ≡ true → namesFrom place (f ∷ fs) c ≡ Bad
@@ -51,22 +51,22 @@ module _ (place : ℕ) (c : Columns) where
 
 -- The whole line.
 module _ (expected : Columns) (s : List ℕ) where
-  pub names-long : 80 < length s → namesLine expected s ≡ Bad
+  pub names-long : lineBytes < length s → namesLine expected s ≡ Bad
   unfolding namesLine
-  names-long h = rw (lt-leb (length s) 80 h)
+  names-long h = rw (lt-leb (length s) lineBytes h)
 
-  module _ (fits : length s ≤ 80) where
+  module _ (fits : length s ≤ lineBytes) where
     pub names-bad : namesFrom 0 (fields s) noColumns ≡ Bad → namesLine expected s ≡ Bad
     unfolding namesLine
-    names-bad e = rw (le-leb (length s) 80 fits, e)
+    names-bad e = rw (le-leb (length s) lineBytes fits, e)
 
     pub names-expected : {c : Columns} → namesFrom 0 (fields s) noColumns ≡ Named c → sameColumns expected c ≡ true → namesLine expected s ≡ Named c
     unfolding namesLine
-    names-expected e t = rw (le-leb (length s) 80 fits, e, t)
+    names-expected e t = rw (le-leb (length s) lineBytes fits, e, t)
 
     pub names-unexpected : {c : Columns} → namesFrom 0 (fields s) noColumns ≡ Named c → sameColumns expected c ≡ false → namesLine expected s ≡ Bad
     unfolding namesLine
-    names-unexpected e t = rw (le-leb (length s) 80 fits, e, t)
+    names-unexpected e t = rw (le-leb (length s) lineBytes fits, e, t)
 
 -- Three fields that name columns give these columns, in their order.
 pub three-names : (f g h : List ℕ) → sameColumn (columnNamed f) Absent ≡ false → sameColumn (columnNamed g) Absent ≡ false → sameColumn (columnNamed h) Absent ≡ false → namesFrom 0 (f ∷ g ∷ h ∷ []) noColumns ≡ Named (record { first = columnNamed f; second = columnNamed g; third = columnNamed h })

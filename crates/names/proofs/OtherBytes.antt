@@ -6,7 +6,7 @@ use mathlib.Core.Bool.{Bool, true, false, cond, _||_, false≢true}
 use mathlib.Mathlib.Data.Bool.Basic.{or-eq-false-eq-eq-false-and-eq-false}
 use lib.ListN.{length, getD}
 use lib.Dec.{eqb}
-use Rattle.decimal.specs.Ascii.{ascii}
+use Rattle.decimal.specs.Ascii.{ascii, comma, lineFeed}
 use Rattle.lines.specs.declared.columns.Column.{Column}
 use Rattle.lines.specs.declared.columns.Column.the-variants.{Absent}
 use Rattle.lines.specs.declared.columns.Columns.{Columns}
@@ -20,11 +20,11 @@ use Rattle.names.specs.Names.{namesFrom, namesLine}
 use Rattle.names.proofs.NamesLaws.{names-other, names-column}
 
 -- A byte b that stands in no name and is no comma.
-without : (b : ℕ) (s t : List ℕ) → contains b (s ++ (44 ∷ t)) ≡ false → (contains b s ≡ false) × (contains b t ≡ false)
+without : (b : ℕ) (s t : List ℕ) → contains b (s ++ (comma ∷ t)) ≡ false → (contains b s ≡ false) × (contains b t ≡ false)
 unfolding contains
-without b [] t e = (refl, or-eq-false-eq-eq-false-and-eq-false (eqb 44 b) (contains b t) .0 e .1)
+without b [] t e = (refl, or-eq-false-eq-eq-false-and-eq-false (eqb comma b) (contains b t) .0 e .1)
 without b (x ∷ s) t e =
-    let both = or-eq-false-eq-eq-false-and-eq-false (eqb x b) (contains b (s ++ (44 ∷ t))) .0 e in
+    let both = or-eq-false-eq-eq-false-and-eq-false (eqb x b) (contains b (s ++ (comma ∷ t))) .0 e in
     let rest = without b s t (both .1) in
     (rw (both .0) (rest .0), rest .1)
 
@@ -68,16 +68,16 @@ module _ (b : ℕ) (n : contains b (ascii "rows,cols,depth,row,col,dir") ≡ fal
 
   pub names-other-byte : (expected : Columns) (s : List ℕ) (i : ℕ) → i < length s → getD s i 0 ≡ b → namesLine expected s ≡ BadNames
   unfolding namesLine contains
-  names-other-byte expected s i h e = rw (names-from-other 0 (fields s) noColumns (sym (fields-contain b s comma) ∙ contains-at b s i h e)) (either (fitsLine s))
+  names-other-byte expected s i h e = rw (names-from-other 0 (fields s) noColumns (sym (fields-contain b s no-comma) ∙ contains-at b s i h e)) (either (fitsLine s))
     where
       either : (t : Bool) → cond t BadNames BadNames ≡ BadNames
       either true = refl
       either false = refl
 
-      comma : b ≡ 44 → ⊥
-      comma e = false≢true (sym n ∙ ap (λ (x : ℕ). contains x (ascii "rows,cols,depth,row,col,dir")) e)
+      no-comma : b ≡ comma → ⊥
+      no-comma e = false≢true (sym n ∙ ap (λ (x : ℕ). contains x (ascii "rows,cols,depth,row,col,dir")) e)
 
--- A line feed, byte 10.
-pub names-line-feed : (expected : Columns) (s : List ℕ) (i : ℕ) → i < length s → getD s i 0 ≡ 10 → namesLine expected s ≡ BadNames
+-- A line feed.
+pub names-line-feed : (expected : Columns) (s : List ℕ) (i : ℕ) → i < length s → getD s i 0 ≡ lineFeed → namesLine expected s ≡ BadNames
 unfolding contains
-names-line-feed = names-other-byte 10 refl
+names-line-feed = names-other-byte lineFeed refl

@@ -9,13 +9,13 @@ use Rattle.lines.specs.declared.columns.Columns.{Columns}
 use Rattle.names.specs.declared.NamesLine.{NamesLine}
 use Rattle.names.specs.declared.NamesLine.the-variants.{Columns as Named, Bad}
 use Rattle.lines.specs.Fields.{fitsLine, fields}
-use Rattle.lines.specs.Columns.{sameColumn}
+use Rattle.lines.specs.Columns.{columnCount, sameColumn}
 use Rattle.names.specs.Columns.{columnIf, columnNamed, noColumns, withColumn, sameColumns}
 
--- The columns that fields name, read column by column from a place on: each field has to name a column, and there are three places.
+-- The columns that fields name, read column by column from a place on: each field has to name a column, and there is a place for each.
 unfoldable pub namesFrom : ℕ → List (List ℕ) → Columns → NamesLine
 unfolding columnNamed columnIf sameColumn withColumn
-namesFrom place [] c = cond (leb place 3) (Named c) Bad
+namesFrom place [] c = cond (leb place columnCount) (Named c) Bad
 namesFrom place (f ∷ fs) c =
     let column : Column = columnNamed f in
     let rest : NamesLine = namesFrom (place + 1) fs (withColumn c place column) in

@@ -5,8 +5,8 @@ ghost use Rattle.intake.specs.Intake.{lineAfter};
 ghost use Rattle.reading.specs.Lines.{endAfter};
 ghost use Rattle.reading.specs.Feed.{nextLine, lineText, newReader, lineEnd, byteAfter, feedAll, lastLine, endRead, finished};
 use intake::Intake;
-use intake::TakenOutcome;
 use intake::Taken;
+use intake::TakenOutcome;
 
 // The bytes of a file so far. The bytes of the line that is not ended yet stand in a lent buffer.
 pub struct Reader {

@@ -8,13 +8,14 @@ use native.Mathlib.Nat.{lt-trans}
 use borrow.Author.Needs.{needs}
 use lib.ListN.{length, drop, getD}
 use lib.Dec.{lit<}
-use Rattle.decimal.specs.Value.{isDigit, digitRun}
+use Rattle.decimal.specs.Ascii.{digitZero}
+use Rattle.decimal.specs.Value.{isDigit, digitRun, mostDigits}
 use Rattle.decimal.proofs.ValueLaws.{Gathered, gathered-none, gathered-all, gathered-over, gathered-digit, gathered-fits, digit-low, digit-high, run-at-end, run-at-other, run-at-digit}
 use Rattle.decimal.proofs.read_digits.Statement.{statement}
 use Rattle.decimal.proofs.read_digits.Tie as tie
 
 abbrev Inv-loop : tie.InvT-loop
-Inv-loop line at most end₀ left₀ value₀ end left value = Gathered (digitRun (drop at line)) (digitRun (drop end line)) at most end left value × (end ≤ length line) × (left ≤ 9)
+Inv-loop line at most end₀ left₀ value₀ end left value = Gathered (digitRun (drop at line)) (digitRun (drop end line)) at most end left value × (end ≤ length line) × (left ≤ mostDigits)
 
 abbrev μ-loop : tie.MeasureT-loop
 μ-loop line at most end₀ left₀ value₀ end left value = length line - end
@@ -43,7 +44,7 @@ sub-left : tie.Need-sub-left Inv-loop μ-loop
 sub-left c = search needs
 
 -- with the digit the number stays below 10 ^ 9
-fits : (c : tie.Else2 Inv-loop μ-loop) → c .before .before .before .before .before .loop .value * 10 + (getD (c .before .before .before .before .before .before .before .args .line .now) (c .before .before .before .before .before .loop .end) 0 - 48) < 1000000000
+fits : (c : tie.Else2 Inv-loop μ-loop) → c .before .before .before .before .before .loop .value * 10 + (getD (c .before .before .before .before .before .before .before .args .line .now) (c .before .before .before .before .before .loop .end) 0 - digitZero) < 1000000000
 fits c = let d = c .before in let l = d .before .before .before .before .loop in gathered-fits (l .inv .0) (to-come d) (digit d) (c .if2 .left) (l .inv .2)
 
 mul-value : tie.Need-mul-value Inv-loop μ-loop

@@ -2,6 +2,7 @@
 use mathlib.Core.Path.{_≡_, refl, sym, ap, _∙_}
 use mathlib.Core.Bool.{true}
 use borrow.Author.Needs.{needs}
+use Rattle.decimal.specs.Ascii.{digitZero}
 use Rattle.decimal.specs.Value.{isDigit}
 use Rattle.decimal.proofs.ValueLaws.{run-at-end, run-at-other, run-at-digit, value-over, value-none, value-zero, value-more}
 use Rattle.decimal.proofs.read_value.Statement.{statement}
@@ -19,7 +20,7 @@ shared-slice-read-b c = search needs
 read-digits-requires : tie.Need-read-digits-requires
 read-digits-requires c κs = search needs
 
-zero-digit : isDigit 48 ≡ true
+zero-digit : isDigit digitZero ≡ true
 unfolding isDigit
 zero-digit = refl
 

@@ -5,6 +5,7 @@ pub mod Layouts
 pub mod Sizes
 pub mod Ascending
 pub mod Insertion
+pub mod Listed
 mod Sorting
 pub mod Gathering
 pub mod Placing

@@ -14,7 +14,7 @@ use Rattle.claims.proofs.Basins.{lawful}
 use Rattle.upstream.specs.Work.{sizeAt}
 use Rattle.drainage.specs.Total.{size}
 use Rattle.rivers.specs.Cut.{keyIn}
-use Rattle.order.specs.Keys.{cellOf, Holds}
+use Rattle.order.specs.Keys.{cellOf}
 use Rattle.order.specs.Positions.{Consecutive, none}
 use Rattle.order.specs.Places.{positionAt, positioned, Measured, Fitting, Standing, DonorsPlaced}
 use Rattle.order.proofs.Sizes.{size-adds}

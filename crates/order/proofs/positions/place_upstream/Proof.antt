@@ -4,6 +4,7 @@ use native.Mathlib.Omega.{arith}
 use lib.Seq.{length-take-le}
 use Rattle.sheet.specs.Sheet.{grid}
 use Rattle.sheet.proofs.Cells.{inside-lt}
+use Rattle.order.proofs.Listed.{listed-first, listed-within}
 use Rattle.order.proofs.Standing.{none-placed, fitting, donors-placed}
 use borrow.Author.Needs.{needs}
 use Rattle.order.proofs.positions.place_upstream.Statement.{statement}
@@ -70,18 +71,20 @@ donors-of-requires c κs = search needs
 
 -- src/positions.rt:46:28
 array-share-prefix-keys : tie.Need-array-share-prefix-keys
-array-share-prefix-keys c = search needs
+array-share-prefix-keys c =
+    let d = c .before .donors-of in
+    omega (arith, listed-within (d .ensures), d .kept .1 .1 .1 .1 .1 .0)
 
 -- src/positions.rt:46:28
 slice-aggregate-place-donors : tie.Need-slice-aggregate-place-donors
 slice-aggregate-place-donors c =
     let d = c .before .before .donors-of in
-    sym (length-take-le (d .result) _ (omega (arith, d .ensures .most, d .kept .1 .1 .1 .1 .1 .0)))
+    sym (length-take-le (d .result) _ (listed-within (d .ensures)))
 
 -- src/positions.rt:46:5
 place-donors-requires : tie.Need-place-donors-requires
 place-donors-requires c κs =
-    rw (c .before .before .before .donors-of .ensures .are) (fitting (c .before .before .before .before .before .before .before .before .before .before .before .pre .0) (c .before .before .before .before .before .before .before .before .before .before .before .pre .1))
+    rw (listed-first (c .before .before .before .donors-of .ensures)) (fitting (c .before .before .before .before .before .before .before .before .before .before .before .pre .0) (c .before .before .before .before .before .before .before .before .before .before .before .pre .1))
 
 -- src/positions.rt:27:1
 same-length : tie.Need-same-length
@@ -90,7 +93,7 @@ same-length c = search needs
 -- src/positions.rt:27:1
 returns-2 : tie.Need-returns-2
 returns-2 c =
-    rw (c .before .before .place-donors .ensures, c .before .before .before .before .before .before .donors-of .ensures .are) (donors-placed (c .before .before .before .before .before .before .before .before .before .before .before .before .before .before .pre .0) (c .before .before .before .before .before .before .before .before .before .before .before .before .before .before .pre .1))
+    rw (c .before .before .place-donors .ensures, listed-first (c .before .before .before .before .before .before .donors-of .ensures)) (donors-placed (c .before .before .before .before .before .before .before .before .before .before .before .before .before .before .pre .0) (c .before .before .before .before .before .before .before .before .before .before .before .before .before .before .pre .1))
 
 pub place-upstream-spec : {M : Type 1} → statement M
 place-upstream-spec =

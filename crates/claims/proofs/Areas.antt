@@ -1,22 +1,22 @@
--- The area of a cell is one more than the areas of its donors together.
+-- A sum over the inside cells whose water passes a cell is what the cell adds and the sums over its donors.
 use mathlib.Core.Path.{_≡_, refl, sym, _∙_, ap}
 use mathlib.Core.Bool.{Bool, true, false, cond, true≢false}
 use mathlib.Core.Option.{Option, none, some}
 use mathlib.Core.List.{List, [], _∷_, List·Memᴰ, List·Memᴰ·head, List·Memᴰ·tail, List·Memᴰ·not-nil, List·Memᴰ·cases-cons}
 use mathlib.Core.Logic.{_⊎_, inl, inr}
-use Prim.Native.Nat.{ℕ, zero, suc, _<_}
+use Prim.Native.Nat.{ℕ, _+_, _<_}
 use native.Mathlib.Omega.{arith}
 use lib.Dec.{eqb}
 use borrow.Author.Tests.{eqb-true, eq-eqb}
 use Rattle.sheet.specs.declared.Next.the-variants.{To}
 use Rattle.sheet.specs.Water.{passes, Passes, here, there}
 use Rattle.sheet.specs.River.{donors, Network}
-use Rattle.sheet.specs.Area.{count}
+use Rattle.sheet.specs.Area.{sumOver}
 use Rattle.claims.specs.Bounds.{sum}
 use Rattle.claims.specs.Lawful.{Rising, rising-cons, Lawful}
 use Rattle.claims.proofs.Runs.{pass-trans, pass-last, pass-dist, pass-same}
 use Rattle.claims.proofs.Lawful.{passes-true, passes-all}
-use Rattle.claims.proofs.Counts.{count-either, count-one}
+use Rattle.claims.proofs.Sums.{sum-zero, sum-either, sum-one}
 
 unfoldable any-of : (ℕ → ℕ → Bool) → List ℕ → ℕ → Bool
 any-of P [] q = false
@@ -48,7 +48,7 @@ rising-over lighter x [] r w m = absurd (List·Memᴰ·not-nil m)
 rising-over lighter x (u ∷ us) (rising-cons a r) w m =
     elim (List·Memᴰ·cases-cons m) [ inl e ↦ rw e a | inr k ↦ lighter x u w (rising-over lighter u us r w k) a ]
 
-module _ {N : Network} {heavier : ℕ → ℕ → Bool} (O : Lawful N heavier) (isInside : ℕ → Bool) where
+module _ {N : Network} {heavier : ℕ → ℕ → Bool} (O : Lawful N heavier) (isInside : ℕ → Bool) (f : ℕ → ℕ) where
   -- q is inside and passes u
   abbrev under : ℕ → ℕ → Bool
   under u q = cond (isInside q) (passes (N .next) (N .cells) q u) false
@@ -63,10 +63,9 @@ module _ {N : Network} {heavier : ℕ → ℕ → Bool} (O : Lawful N heavier) (
   under-test : (u q : ℕ) → isInside q ≡ true → Passes (N .next) q u → under u q ≡ true
   under-test u q i h = rw i (passes-all (O .dist) (O .falls) (N .cells) h (omega (arith, O .short q)))
 
-  any-none : (n : ℕ) → count n (any-of under []) ≡ 0
-  unfolding count any-of
-  any-none zero = refl
-  any-none (suc n) = any-none n
+  any-none : (n : ℕ) → sumOver n (any-of under []) f ≡ 0
+  unfolding any-of
+  any-none n = sum-zero n (any-of under []) f (λ q l. refl)
 
   any-split : (u : ℕ) (us : List ℕ) (q : ℕ) → any-of under (u ∷ us) q ≡ true → (under u q ≡ true) ⊎ (any-of under us q ≡ true)
   unfolding any-of
@@ -94,24 +93,32 @@ module _ {N : Network} {heavier : ℕ → ℕ → Bool} (O : Lawful N heavier) (
       let over : heavier (w .0) u ≡ true = rising-over (O .lighter) u us r (w .0) (w .1) in
       true≢false (sym over ∙ (rw (← same) (O .unlike u)))
 
-  any-count : (c n : ℕ) (old : Option ℕ) (us : List ℕ) → Rising heavier old us → ((u : ℕ) → List·Memᴰ u us → N .next u ≡ To c)
-      → count n (any-of under us) ≡ sum (λ u. count n (under u)) us
+  any-sum : (c n : ℕ) (old : Option ℕ) (us : List ℕ) → Rising heavier old us → ((u : ℕ) → List·Memᴰ u us → N .next u ≡ To c)
+      → sumOver n (any-of under us) f ≡ sum (λ u. sumOver n (under u) f) us
   unfolding sum
-  any-count c n old [] r m = any-none n
-  any-count c n old (u ∷ us) (rising-cons a r) m =
-      let e = count-either n (any-of under (u ∷ us)) (under u) (any-of under us) (any-split u us)
-      (λ q h. any-has under (u ∷ us) q u (List·Memᴰ·head refl) h) (more-any u us)
-      (apart c u us r (m u (List·Memᴰ·head refl)) (λ w k. m w (List·Memᴰ·tail k))) in
-      let i = any-count c n (some u) us r (λ w k. m w (List·Memᴰ·tail k)) in
+  any-sum c n old [] r m = any-none n
+  any-sum c n old (u ∷ us) (rising-cons a r) m =
+      let e = sum-either n (any-of under (u ∷ us)) (under u) (any-of under us) f (record {
+        split = λ q l. any-split u us q;
+        left = λ q l h. any-has under (u ∷ us) q u (List·Memᴰ·head refl) h;
+        right = λ q l. more-any u us q;
+        apart = λ q l. apart c u us r (m u (List·Memᴰ·head refl)) (λ w k. m w (List·Memᴰ·tail k)) q;
+      }) in
+      let i = any-sum c n (some u) us r (λ w k. m w (List·Memᴰ·tail k)) in
       omega arith
 
   -- every cell under c is c or is under one donor of it
   pub area-sum : (c : ℕ) → isInside c ≡ true → c < N .cells
-      → count (N .cells) (under c) ≡ suc (sum (λ u. count (N .cells) (under u)) (donors N c))
+      → sumOver (N .cells) (under c) f ≡ f c + sum (λ u. sumOver (N .cells) (under u) f) (donors N c)
   area-sum c i l =
-      let e = count-either (N .cells) (under c) (λ q. eqb q c) (any-of under (donors N c)) way (λ q h. under-test c q (rw (eqb-true q c h) i) (rw (eqb-true q c h) here)) down back in
-      let k = any-count c (N .cells) none (donors N c) (O .donors-rising c) (O .donor-steps c) in
-      let o = count-one (N .cells) c l in
+      let e = sum-either (N .cells) (under c) (λ q. eqb q c) (any-of under (donors N c)) f (record {
+        split = λ q b. way q;
+        left = λ q b h. under-test c q (rw (eqb-true q c h) i) (rw (eqb-true q c h) here);
+        right = λ q b. down q;
+        apart = λ q b. back q;
+      }) in
+      let k = any-sum c (N .cells) none (donors N c) (O .donors-rising c) (O .donor-steps c) in
+      let o = sum-one (N .cells) c f l in
       omega arith
     where
       way : (q : ℕ) → under c q ≡ true → (eqb q c ≡ true) ⊎ (any-of under (donors N c) q ≡ true)

@@ -14,9 +14,10 @@ use Rattle.sheet.proofs.Faults.{is-inside}
 use Rattle.claims.specs.Basin.{Ends, Basin, ends-here, ends-after}
 use Rattle.claims.specs.Demand.{Shares, OneOutlet, DemandThree, OutletRule}
 use Rattle.claims.specs.Parting.{PartAt, RuleAt}
-use Rattle.claims.specs.Runs.{MouthOf}
+use Rattle.claims.specs.Runs.{MouthOf, Headed}
 use Rattle.claims.specs.Lawful.{Lawful}
 use Rattle.claims.proofs.Runs.{pass-trans}
+use Rattle.claims.proofs.Rivers.{mouth-goes}
 use Rattle.claims.proofs.Parting.{parted-at, part-differs, both-ways, Parted, Rule}
 use Rattle.claims.proofs.DigitRule.{unitOutlet, outlet-rule, cell-rule}
 use Rattle.claims.proofs.Units.{drains-passes, one-outlet, digitsIn, begins-all, unit-outlet, named-outlet}
@@ -59,9 +60,9 @@ module _ {N : Network} {inside : ℕ → Type 0} {outlet : ℕ} (B : Basin N ins
     dist = steps (N .next) (N .cells);
     falls = λ u r e. steps-fall (all-end u) r e;
     short = λ u. steps-short (all-end u);
-    donor-steps = λ c u m. (donors-only N (N .cells) c u m) .1;
-    donors-complete = λ c u e. donors-all N (N .cells) c u (B .small u (B .from-inside u c e)) e;
-    donors-rising = donors-rise N (heavier-total (N .area)) (N .cells);
+    donor-steps = λ c u m. (donors-only (N .next) (heavier N) (N .cells) c u m) .1;
+    donors-complete = λ c u e. donors-all (N .next) (heavier N) (N .cells) c u (B .small u (B .from-inside u c e)) e;
+    donors-rising = donors-rise (N .next) (heavier N) (heavier-total (N .area)) (N .cells);
     lighter = heavier-trans (N .area);
     unlike = heavier-irrefl (N .area);
     upward = λ R u v m t k h. taken-upward N (B .upwards) R u v t h;
@@ -90,7 +91,7 @@ module _ {N : Network} {inside : ℕ → Type 0} {outlet : ℕ} (B : Basin N ins
   }
 
   -- demand 3, where every mouth counts
-  pub demand-three-holds : ((v : ℕ) → N .counted v ≡ true) → (depth : ℕ)
+  pub demand-three-holds : ((v : ℕ) → inside v → N .counted v ≡ true) → (depth : ℕ)
       → DemandThree (N .next) inside depth (digitsIn N outlet depth) (digitsIn N outlet depth)
   demand-three-holds all depth = record {
     labels-part = λ p q i j d. elim (named-rule depth p q i j) [ inl e ↦ absurd (d e) | inr r ↦ parted-at (r .0) ];
@@ -99,8 +100,10 @@ module _ {N : Network} {inside : ℕ → Type 0} {outlet : ℕ} (B : Basin N ins
     one-outlet = units-drain depth;
   }
     where
-      no-mouth : (R : Run) → finished N R ≡ true → (v : ℕ) → MouthOf R v → ⊥
-      no-mouth R e v m = true≢false (sym (all v) ∙ finished-none N R e v m)
+      no-mouth : (R : Run) → Headed (N .next) (heavier N) R → finished N R ≡ true → (v : ℕ) → MouthOf R v → ⊥
+      no-mouth R w e v m =
+          let g = mouth-goes w m in
+          true≢false (sym (all v (B .from-inside v (g .0) (g .1))) ∙ finished-none N R e v m)
 
   -- at any depth: water that passes p meets the rule, so a rule that is not met is a sure No
   pub passes-rule : (depth p q : ℕ) → inside p → inside q → (k : ℕ) → PartAt (digitsIn N outlet depth p) (digitsIn N outlet depth q) k

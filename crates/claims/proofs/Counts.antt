@@ -1,11 +1,11 @@
 -- Counts over the first n cells.
 use mathlib.Core.Path.{_≡_, refl, sym}
 use mathlib.Core.Bool.{Bool, true, false, cond, true≢false}
-use mathlib.Core.Logic.{_⊎_, inl, inr, _≢_}
-use Prim.Native.Nat.{ℕ, zero, suc, _+_, _≤_, _<_}
+use mathlib.Core.Logic.{_≢_}
+use Prim.Native.Nat.{ℕ, zero, suc, _≤_, _<_}
 use native.Mathlib.Omega.{arith}
 use lib.Dec.{eqb}
-use borrow.Author.Tests.{eqb-true, eqb-false, ne-eqb}
+use borrow.Author.Tests.{eqb-true, eqb-false}
 use Rattle.sheet.specs.Area.{count}
 
 pub count-le : (n : ℕ) (f : ℕ → Bool) → count n f ≤ n
@@ -47,39 +47,6 @@ count-less (suc n) f g h c a b l = go (eqb c n) refl (λ k. count-less n f g h c
 
 pub count-some : (n : ℕ) (f : ℕ → Bool) (c : ℕ) → f c ≡ true → c < n → 0 < count n f
 count-some n f c a l = let k = count-less n f (λ x. false) (λ x e. absurd (true≢false (sym e))) c a refl l in omega arith
-
--- a count over a test that one of two others passes, never both
-pub count-either : (n : ℕ) (f g h : ℕ → Bool)
-    → ((q : ℕ) → f q ≡ true → (g q ≡ true) ⊎ (h q ≡ true)) → ((q : ℕ) → g q ≡ true → f q ≡ true) → ((q : ℕ) → h q ≡ true → f q ≡ true)
-    → ((q : ℕ) → g q ≡ true → h q ≡ true → ⊥) → count n f ≡ count n g + count n h
-unfolding count
-count-either zero f g h a b c d = refl
-count-either (suc n) f g h a b c d = go (f n) (g n) (h n) (a n) (b n) (c n) (d n) (count-either n f g h a b c d)
-  where
-    go : (x y z : Bool) → (x ≡ true → (y ≡ true) ⊎ (z ≡ true)) → (y ≡ true → x ≡ true) → (z ≡ true → x ≡ true) → (y ≡ true → z ≡ true → ⊥)
-        → count n f ≡ count n g + count n h
-        → cond x (suc (count n f)) (count n f) ≡ cond y (suc (count n g)) (count n g) + cond z (suc (count n h)) (count n h)
-    go true true true p q r s e = absurd (s refl refl)
-    go true true false p q r s e = omega arith
-    go true false true p q r s e = omega arith
-    go true false false p q r s e = elim (p refl) [ inl i ↦ absurd (true≢false (sym i)) | inr i ↦ absurd (true≢false (sym i)) ]
-    go false true z p q r s e = absurd (true≢false (sym (q refl)))
-    go false false true p q r s e = absurd (true≢false (sym (r refl)))
-    go false false false p q r s e = e
-
-count-none : (n c : ℕ) → n ≤ c → count n (λ q. eqb q c) ≡ 0
-unfolding count
-count-none zero c l = refl
-count-none (suc n) c l = rw (ne-eqb n c (λ e. omega arith)) (count-none n c (omega arith))
-
-pub count-one : (n c : ℕ) → c < n → count n (λ q. eqb q c) ≡ 1
-unfolding count
-count-one zero c l = absurd (omega arith)
-count-one (suc n) c l = go (eqb n c) refl (count-one n c)
-  where
-    go : (b : Bool) → eqb n c ≡ b → (c < n → count n (λ q. eqb q c) ≡ 1) → cond b (suc (count n (λ q. eqb q c))) (count n (λ q. eqb q c)) ≡ 1
-    go true e f = let s = eqb-true n c e in rw (count-none n c (omega arith)) refl
-    go false e f = let d : n ≢ c = eqb-false n c e in f (omega arith)
 
 pub not-true : (b : Bool) → (b ≡ true → ⊥) → b ≡ false
 not-true true f = absurd (f refl)

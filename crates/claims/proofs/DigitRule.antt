@@ -104,7 +104,7 @@ module _ {N : Network} {heavier : ℕ → ℕ → Bool} (O : Lawful N heavier) w
       go true e r = on-stem (headed-first w i)
       go false e r = place-lies R c _ _ i r
 
-  module _ (ends : (R : Run) → finished N R ≡ true → (v : ℕ) → MouthOf R v → ⊥) where
+  module _ (ends : (R : Run) → Headed (N .next) heavier R → finished N R ≡ true → (v : ℕ) → MouthOf R v → ⊥) where
     -- the cell itself, if its label is shorter than the depth
     pub lies-cell : (d : ℕ) (R : Run) (c : ℕ) → Headed (N .next) heavier R → In (N .next) R c → length (label N d R c) < d
         → Lies (N .next) R c (allOdd (label N d R c))
@@ -116,7 +116,7 @@ module _ {N : Network} {heavier : ℕ → ℕ → Bool} (O : Lawful N heavier) w
             → (length (label N d (placeOf N R c .unit) c) < d → Lies (N .next) (placeOf N R c .unit) c (allOdd (label N d (placeOf N R c .unit) c)))
             → length (cond b [] (placeOf N R c .digit ∷ label N d (placeOf N R c .unit) c)) < suc d
             → Lies (N .next) R c (allOdd (cond b [] (placeOf N R c .digit ∷ label N d (placeOf N R c .unit) c)))
-        go true e r m = on-stem (no-mouth-stem (ends R e) i)
+        go true e r m = on-stem (no-mouth-stem (ends R w e) i)
         go false e r m = place-lies R c c _ i (r (omega arith))
 
 odd-case : {next : ℕ → Next} {q t : ℕ} {R : Run} {b : Bool} (a : ℕ) (x : List ℕ) → isOdd a ≡ true → ((s : ℕ) → StemOf R s → Passes next q s) → ¬ In next R q
@@ -184,7 +184,7 @@ module _ {N : Network} {heavier : ℕ → ℕ → Bool} (O : Lawful N heavier) (
       [ inl e ↦ inl e | inr k ↦ inr (k .0, k .1 tt) ]
 
   -- does q pass p? The unit of p must be finished
-  module _ (ends : (R : Run) → finished N R ≡ true → (v : ℕ) → MouthOf R v → ⊥) where
+  module _ (ends : (R : Run) → Headed (N .next) heavier R → finished N R ≡ true → (v : ℕ) → MouthOf R v → ⊥) where
     pub cell-rule : (label N depth (river N root) p ≡ label N depth (river N root) q)
         ⊎ (Parted (label N depth (river N root) p) (label N depth (river N root) q)
         × (length (label N depth (river N root) p) < depth

@@ -9,14 +9,15 @@ use Rattle.sheet.specs.Water.{passes, reachesOutlet, Passes, here, there}
 use Rattle.sheet.specs.Label.{outlet}
 use Rattle.sheet.specs.River.{network, donors}
 use Rattle.sheet.specs.Refusal.{undrained}
-use Rattle.sheet.specs.Area.{count, drainsInto, area}
-use Rattle.sheet.specs.Sheet.{cells, inside, next, Grid}
+use Rattle.sheet.specs.Area.{count, sumOver, drainsInto, weight, area}
+use Rattle.sheet.specs.Sheet.{cells, inside, next, Grid, Sheet}
 use Rattle.sheet.proofs.Cells.{inside-lt, next-goes}
 use Rattle.sheet.proofs.Faults.{is-inside}
 use Rattle.claims.specs.Basin.{Ends, Basin}
 use Rattle.claims.specs.Bounds.{sum, ComesToOutlet, NeverComes, FuelIsEnough}
 use Rattle.claims.proofs.Lawful.{passes-true}
-use Rattle.claims.proofs.Counts.{count-mono, count-some, not-true}
+use Rattle.claims.proofs.Counts.{count-mono, not-true}
+use Rattle.claims.proofs.Sums.{sum-mono, sum-has, count-sum}
 use Rattle.claims.proofs.Fuel.{passes-self, ends-within, reaches-ends, ends-reaches, ends-at, at-ends, passes-enough}
 use Rattle.claims.proofs.Areas.{area-sum}
 use Rattle.claims.proofs.Basins.{lawful}
@@ -81,14 +82,6 @@ module _ (G : Grid) where
   pub fuel-is-enough : FuelIsEnough G
   fuel-is-enough = record { passes-is = passes-is; undrained-is = undrained-is }
 
-  -- ---- areas
-  area-inside : (c : ℕ) → inside G c ≡ true → area G c ≡ count (cells G) (drainsInto G c)
-  unfolding area
-  area-inside c i = go (inside G c) i
-    where
-      go : (b : Bool) → b ≡ true → cond b (count (cells G) (drainsInto G c)) 0 ≡ count (cells G) (drainsInto G c)
-      go b e = rw e
-
   drains-inside : (c q : ℕ) → drainsInto G c q ≡ true → inside G q ≡ true
   unfolding drainsInto
   drains-inside c q e = go (inside G q) e
@@ -97,27 +90,52 @@ module _ (G : Grid) where
       go true e = refl
       go false e = absurd (true≢false (sym e))
 
-  drains-itself : (c : ℕ) → inside G c ≡ true → drainsInto G c c ≡ true
+  pub drains-itself : (c : ℕ) → inside G c ≡ true → drainsInto G c c ≡ true
   unfolding drainsInto
   drains-itself c i = go (inside G c) i
     where
       go : (b : Bool) → b ≡ true → cond b (passes (next G) (cells G) c c) false ≡ true
       go b e = rw e (passes-self (next G) (cells G) c)
 
-  pub area-least : (c : ℕ) → inside G c ≡ true → 1 ≤ area G c
-  area-least c i = rw (area-inside c i) (count-some (cells G) (drainsInto G c) c (drains-itself c i) (inside-lt G c i))
+pub sum-same : (f g : ℕ → ℕ) (us : List ℕ) → ((u : ℕ) → List·Memᴰ u us → f u ≡ g u) → sum f us ≡ sum g us
+unfolding sum
+sum-same f g [] h = refl
+sum-same f g (u ∷ us) h = ap₂ _+_ (h u (List·Memᴰ·head refl)) (sum-same f g us (λ x m. h x (List·Memᴰ·tail m)))
 
-  pub area-most : (c : ℕ) → inside G c ≡ true → area G c ≤ count (cells G) (inside G)
-  area-most c i = rw (area-inside c i) (count-mono (cells G) (inside G) (drainsInto G c) (drains-inside c))
+-- ---- areas
+module _ (S : Sheet) where
+  abbrev G : Grid
+  G = S .grid
 
-  sum-same : (f g : ℕ → ℕ) (us : List ℕ) → ((u : ℕ) → List·Memᴰ u us → f u ≡ g u) → sum f us ≡ sum g us
-  unfolding sum
-  sum-same f g [] h = refl
-  sum-same f g (u ∷ us) h = ap₂ _+_ (h u (List·Memᴰ·head refl)) (sum-same f g us (λ x m. h x (List·Memᴰ·tail m)))
+  area-inside : (c : ℕ) → inside G c ≡ true → area S c ≡ sumOver (cells G) (drainsInto G c) (weight S)
+  unfolding area
+  area-inside c i = go (inside G c) i
+    where
+      go : (b : Bool) → b ≡ true → cond b (sumOver (cells G) (drainsInto G c) (weight S)) 0 ≡ sumOver (cells G) (drainsInto G c) (weight S)
+      go b e = rw e
 
-  pub area-adds : Basin (network G) (λ c. inside G c ≡ true) (outlet G) → (c : ℕ) → inside G c ≡ true → area G c ≡ 1 + sum (area G) (donors (network G) c)
+  weight-some : (c : ℕ) → 1 ≤ weight S c
+  unfolding weight
+  weight-some c = omega arith
+
+  -- where every weight is 1, areas count cells
+  pub area-count : (c : ℕ) → inside G c ≡ true → area S c ≡ count (cells G) (drainsInto G c)
+  unfolding weight
+  area-count c i = area-inside c i ∙ sym (count-sum (cells G) (drainsInto G c))
+
+  pub area-least : (c : ℕ) → inside G c ≡ true → 1 ≤ area S c
+  area-least c i = omega (arith, area-inside c i, weight-some c, sum-has (cells G) (drainsInto G c) (weight S) c (drains-itself G c i) (inside-lt G c i))
+
+  pub area-most : (c : ℕ) → inside G c ≡ true → area S c ≤ sumOver (cells G) (inside G) (weight S)
+  area-most c i = rw (area-inside c i) (sum-mono (cells G) (inside G) (drainsInto G c) (weight S) (drains-inside G c))
+
+  pub area-most-cells : (c : ℕ) → inside G c ≡ true → area S c ≤ count (cells G) (inside G)
+  area-most-cells c i = rw (area-count c i) (count-mono (cells G) (inside G) (drainsInto G c) (drains-inside G c))
+
+  pub area-adds : Basin (network S) (λ c. inside G c ≡ true) (outlet G) → (c : ℕ) → inside G c ≡ true
+      → area S c ≡ weight S c + sum (area S) (donors (network S) c)
   unfolding network drainsInto
   area-adds B c i =
-      let s = area-sum (lawful B) (inside G) c i (inside-lt G c i) in
-      let d = sum-same (area G) (λ u. count (cells G) (drainsInto G u)) (donors (network G) c) (λ u m. area-inside u (next-goes G u (lawful B .donor-steps c u m) .from-inside)) in
-      area-inside c i ∙ s ∙ (rw d (omega arith))
+      let s = area-sum (lawful B) (inside G) (weight S) c i (inside-lt G c i) in
+      let d = sum-same (area S) (λ u. sumOver (cells G) (drainsInto G u) (weight S)) (donors (network S) c) (λ u m. area-inside u (next-goes G u (lawful B .donor-steps c u m) .from-inside)) in
+      area-inside c i ∙ s ∙ (rw d refl)

@@ -5,13 +5,13 @@ use mathlib.Core.Bool.{Bool, true, false, cond, true≢false}
 use mathlib.Core.Option.{Option, none, some}
 use mathlib.Core.List.{List, [], _∷_, List·Memᴰ, List·Memᴰ·head, List·Memᴰ·tail, List·Memᴰ·not-nil, List·Memᴰ·cases-cons}
 use mathlib.Core.Logic.{_⊎_, inl, inr, _≢_}
-use Prim.Native.Nat.{ℕ, zero, suc, _<_}
+use Prim.Native.Nat.{ℕ, zero, suc, _<_, _≤_}
 use native.Mathlib.Omega.{arith}
-use lib.Dec.{eqb, ltb}
-use borrow.Author.Tests.{eqb-true, eqb-false, eq-eqb, ne-eqb, ltb-true, ltb-false, lt-ltb}
+use lib.Dec.{eqb, ltb, leb}
+use borrow.Author.Tests.{eqb-true, eqb-false, eq-eqb, ne-eqb, ltb-true, ltb-false, lt-ltb, leb-true, le-leb}
 use Rattle.sheet.specs.declared.Next.{Next}
 use Rattle.sheet.specs.declared.Next.the-variants.{Outlet, To}
-use Rattle.sheet.specs.River.{heavier, insert, endsOn, donorsBelow, Network}
+use Rattle.sheet.specs.River.{insert, endsOn, donorsBelow}
 use Rattle.sheet.specs.Area.{heavierBy}
 use Rattle.claims.specs.Runs.{Above}
 use Rattle.claims.specs.Lawful.{Rising, rising-end, rising-cons}
@@ -63,6 +63,14 @@ module _ (area : ℕ → ℕ) where
       go true e h = let k = ltb-false v u h in let a = eqb-true (area u) (area v) e in more-test v u (later (sym a) (omega arith))
       go false e h = let k = ltb-false (area v) (area u) h in let d : area u ≢ area v = eqb-false (area u) (area v) e in more-test v u (larger (omega arith))
 
+-- a cell that is heavier than one of an area that counts has such an area
+pub heavier-counts : (area : ℕ → ℕ) (least u v : ℕ) → heavierBy area u v ≡ true → leb least (area v) ≡ true → leb least (area u) ≡ true
+heavier-counts area least u v h k = go (more area u v h) (leb-true least (area v) k)
+  where
+    go : More area u v → least ≤ area v → leb least (area u) ≡ true
+    go (larger l) m = le-leb least (area u) (omega arith)
+    go (later e l) m = le-leb least (area u) (omega arith)
+
 ends-true : (x : Next) (c : ℕ) → endsOn x c ≡ true → x ≡ To c
 unfolding endsOn
 ends-true Outlet c h = absurd (true≢false (sym h))
@@ -106,38 +114,38 @@ module _ (heavier : ℕ → ℕ → Bool) where
         go true e f = rising-cons b (f e)
         go false e f = rising-cons a (rising-cons (total u v (λ s. n (List·Memᴰ·head s)) e) r)
 
-module _ (N : Network) where
-  pub donors-only : (n c u : ℕ) → List·Memᴰ u (donorsBelow N n c) → (u < n) × (N .next u ≡ To c)
+module _ (next : ℕ → Next) (heavier : ℕ → ℕ → Bool) where
+  pub donors-only : (n c u : ℕ) → List·Memᴰ u (donorsBelow next heavier n c) → (u < n) × (next u ≡ To c)
   unfolding donorsBelow
   donors-only zero c u m = absurd (List·Memᴰ·not-nil m)
-  donors-only (suc n) c u m = go (endsOn (N .next n) c) refl (donors-only n c u) m
+  donors-only (suc n) c u m = go (endsOn (next n) c) refl (donors-only n c u) m
     where
-      go : (b : Bool) → endsOn (N .next n) c ≡ b → (List·Memᴰ u (donorsBelow N n c) → (u < n) × (N .next u ≡ To c))
-          → List·Memᴰ u (cond b (insert (heavier N) n (donorsBelow N n c)) (donorsBelow N n c)) → (u < suc n) × (N .next u ≡ To c)
-      go true e f m = elim (insert-mem (heavier N) n (donorsBelow N n c) u m)
-          [ inl s ↦ (omega arith, rw s (ends-true (N .next n) c e)) | inr k ↦ let r = f k in (omega (arith, r .0), r .1) ]
+      go : (b : Bool) → endsOn (next n) c ≡ b → (List·Memᴰ u (donorsBelow next heavier n c) → (u < n) × (next u ≡ To c))
+          → List·Memᴰ u (cond b (insert heavier n (donorsBelow next heavier n c)) (donorsBelow next heavier n c)) → (u < suc n) × (next u ≡ To c)
+      go true e f m = elim (insert-mem heavier n (donorsBelow next heavier n c) u m)
+          [ inl s ↦ (omega arith, rw s (ends-true (next n) c e)) | inr k ↦ let r = f k in (omega (arith, r .0), r .1) ]
       go false e f m = let r = f m in (omega (arith, r .0), r .1)
 
-  pub donors-all : (n c u : ℕ) → u < n → N .next u ≡ To c → List·Memᴰ u (donorsBelow N n c)
+  pub donors-all : (n c u : ℕ) → u < n → next u ≡ To c → List·Memᴰ u (donorsBelow next heavier n c)
   unfolding donorsBelow
   donors-all zero c u l e = absurd (omega arith)
   donors-all (suc n) c u l e = go (eqb u n) refl (λ k. donors-all n c u k e)
     where
-      keep : (b : Bool) → List·Memᴰ u (donorsBelow N n c) → List·Memᴰ u (cond b (insert (heavier N) n (donorsBelow N n c)) (donorsBelow N n c))
-      keep true m = insert-has (heavier N) n (donorsBelow N n c) u (inr m)
+      keep : (b : Bool) → List·Memᴰ u (donorsBelow next heavier n c) → List·Memᴰ u (cond b (insert heavier n (donorsBelow next heavier n c)) (donorsBelow next heavier n c))
+      keep true m = insert-has heavier n (donorsBelow next heavier n c) u (inr m)
       keep false m = m
 
-      go : (b : Bool) → eqb u n ≡ b → (u < n → List·Memᴰ u (donorsBelow N n c)) → List·Memᴰ u (cond (endsOn (N .next n) c) (insert (heavier N) n (donorsBelow N n c)) (donorsBelow N n c))
+      go : (b : Bool) → eqb u n ≡ b → (u < n → List·Memᴰ u (donorsBelow next heavier n c)) → List·Memᴰ u (cond (endsOn (next n) c) (insert heavier n (donorsBelow next heavier n c)) (donorsBelow next heavier n c))
       go true x f =
           let s : u ≡ n = eqb-true u n x in
-          rw (ends-at (N .next n) c (rw s at e)) (insert-has (heavier N) n (donorsBelow N n c) u (inl s))
-      go false x f = let d : u ≢ n = eqb-false u n x in keep (endsOn (N .next n) c) (f (omega arith))
+          rw (ends-at (next n) c (rw s at e)) (insert-has heavier n (donorsBelow next heavier n c) u (inl s))
+      go false x f = let d : u ≢ n = eqb-false u n x in keep (endsOn (next n) c) (f (omega arith))
 
-  pub donors-rise : ((u v : ℕ) → u ≢ v → heavier N u v ≡ false → heavier N v u ≡ true) → (n c : ℕ) → Rising (heavier N) none (donorsBelow N n c)
+  pub donors-rise : ((u v : ℕ) → u ≢ v → heavier u v ≡ false → heavier v u ≡ true) → (n c : ℕ) → Rising heavier none (donorsBelow next heavier n c)
   unfolding donorsBelow
   donors-rise total zero c = rising-end
-  donors-rise total (suc n) c = go (endsOn (N .next n) c) (donors-rise total n c)
+  donors-rise total (suc n) c = go (endsOn (next n) c) (donors-rise total n c)
     where
-      go : (b : Bool) → Rising (heavier N) none (donorsBelow N n c) → Rising (heavier N) none (cond b (insert (heavier N) n (donorsBelow N n c)) (donorsBelow N n c))
-      go true r = insert-rise (heavier N) total none n (donorsBelow N n c) (λ m. let k = (donors-only n c n m) .0 in omega arith) tt r
+      go : (b : Bool) → Rising heavier none (donorsBelow next heavier n c) → Rising heavier none (cond b (insert heavier n (donorsBelow next heavier n c)) (donorsBelow next heavier n c))
+      go true r = insert-rise heavier total none n (donorsBelow next heavier n c) (λ m. let k = (donors-only n c n m) .0 in omega arith) tt r
       go false r = r

@@ -8,6 +8,7 @@ pub mod Dictionary
 pub mod DigitRule
 pub mod Units
 pub mod Counts
+pub mod Sums
 pub mod Heavier
 pub mod Mouths
 pub mod Fuel

@@ -11,10 +11,20 @@ use Rattle.sheet.specs.declared.Next.{Next}
 use Rattle.sheet.specs.declared.Next.the-variants.{To}
 use Rattle.sheet.specs.Water.{Passes, here}
 use Rattle.sheet.specs.River.{donors, Run, upstream, riverWithin, river, Network, stem, mouth}
-use Rattle.claims.specs.Runs.{Above, Chain, chain-end, chain-stem, chain-mouth, Headed, headed-none, headed-stem}
+use Rattle.claims.specs.Runs.{MouthOf, mouth-here, mouth-there, Above, Chain, chain-end, chain-stem, chain-mouth, Headed, headed-none, headed-stem}
 use Rattle.claims.specs.Lawful.{Rising, rising-cons, Lawful}
 use Rattle.claims.proofs.Runs.{has-stem, in-none, in-cons, pass-last, In, is-stem, is-under, at-head, in-tail}
 use Rattle.claims.proofs.Order.{chain-passes, stem-ordered, Ordered, ordered-end}
+
+-- the water of a mouth goes on
+module _ {next : ℕ → Next} {heavier : ℕ → ℕ → Bool} where
+  chain-goes : {s v : ℕ} {old : Option ℕ} {R : Run} → Chain next heavier s old R → MouthOf R v → (t : ℕ) × (next v ≡ To t)
+  chain-goes (chain-stem e a w) (mouth-there m) = chain-goes w m
+  chain-goes {s} (chain-mouth e a w) mouth-here = (s, e)
+  chain-goes (chain-mouth e a w) (mouth-there m) = chain-goes w m
+
+  pub mouth-goes : {v : ℕ} {R : Run} → Headed next heavier R → MouthOf R v → (t : ℕ) × (next v ≡ To t)
+  mouth-goes (headed-stem w) (mouth-there m) = chain-goes w m
 
 module _ {N : Network} {heavier : ℕ → ℕ → Bool} (O : Lawful N heavier) where
   pub headed-ordered : {R : Run} → Headed (N .next) heavier R → Ordered (N .next) R

@@ -14,13 +14,14 @@ use Rattle.sheet.specs.declared.Outcome.{Outcome}
 use Rattle.sheet.specs.declared.Outcome.the-variants.{Accepted, Refused}
 use Rattle.sheet.specs.Water.{reachesOutlet, Passes, here, there}
 use Rattle.sheet.specs.Label.{outlet}
-use Rattle.sheet.specs.River.{network}
+use Rattle.sheet.specs.River.{networkBy}
 use Rattle.sheet.specs.Refusal.{sizesFit, depthFits, slicesFit, badCode, undrained, outletFrom, firstAfter, secondOutlet, refusedAt, refusedIfNone, outcomeOn, outcome, Lent}
 use Rattle.sheet.specs.Sheet.{cells, inside, next, goesNowhere, isOutlet, first, Grid, Sheet}
 use Rattle.sheet.proofs.First.{NoneBelow, none-first, at-first, first-same, FirstAt}
 use Rattle.sheet.proofs.Cells.{inside-lt, next-goes}
 use Rattle.claims.specs.Basin.{Ends, Basin}
 use Rattle.claims.proofs.Units.{one-outlet}
+use Rattle.claims.proofs.Heavier.{heavier-counts}
 use Rattle.claims.proofs.Fuel.{reaches-ends, ends-at}
 
 pub record Passed (S : Sheet) (L : Lent) : Type 0 where
@@ -91,13 +92,28 @@ module _ (G : Grid) where
       go b i x e = rw (i, e)
 
   -- an inside cell that is not undrained comes to an outlet
-  pub drained-ends : (c : ℕ) → inside G c ≡ true → undrained G c ≡ false → Ends (next G) (cells G) c
+  drained-reaches : (c : ℕ) → inside G c ≡ true → undrained G c ≡ false → reachesOutlet (next G) (cells G) c ≡ true
   unfolding undrained
-  drained-ends c i u = reaches-ends (next G) (cells G) c (go (reachesOutlet (next G) (cells G) c) (rw i at u))
+  drained-reaches c i u = go (reachesOutlet (next G) (cells G) c) (rw i at u)
     where
       go : (b : Bool) → not b ≡ false → b ≡ true
       go true e = refl
       go false e = absurd (true≢false e)
+
+  -- the cells of a grid whose inside cells come to an outlet, of which there is one, are a basin, whatever their areas and the mouths that count
+  pub one-basin : ((c : ℕ) → inside G c ≡ true → reachesOutlet (next G) (cells G) c ≡ true) → isOutlet G (outlet G) ≡ true
+      → ((c : ℕ) → isOutlet G c ≡ true → c ≡ outlet G)
+      → (area : ℕ → ℕ) (least split : ℕ) → Basin (networkBy G area least split) (λ c. inside G c ≡ true) (outlet G)
+  unfolding networkBy
+  one-basin reaches is-one only area least split = record {
+    small = inside-lt G;
+    from-inside = λ u r e. next-goes G u e .from-inside;
+    to-inside = λ u r e. next-goes G u e .to-inside;
+    outlet-inside = (outlet-is (outlet G) is-one) .0;
+    one-outlet = λ u i e. only u (is-outlet u i e);
+    ends = λ u i. (cells G, reaches-ends (next G) (cells G) u (reaches u i));
+    upwards = heavier-counts area least;
+  }
 
   from-zero : (c : ℕ) → outletFrom G 0 c ≡ isOutlet G c
   unfolding outletFrom
@@ -110,7 +126,7 @@ module _ (G : Grid) where
   -- the outlets of a sheet that has no second one
   module _ (P : PassedOn G) where
     some-end : (o : ℕ) × Passes (next G) (P .some-inside .0) o × (next G o ≡ Outlet)
-    some-end = let s = P .some-inside in ends-at (drained-ends (s .0) (s .2) (P .drained (s .0) (s .1)))
+    some-end = let s = P .some-inside in ends-at (reaches-ends (next G) (cells G) (s .0) (drained-reaches (s .0) (s .2) (P .drained (s .0) (s .1))))
 
     way-inside : {c x : ℕ} → inside G c ≡ true → Passes (next G) c x → inside G x ≡ true
     way-inside i here = i
@@ -153,18 +169,9 @@ module _ (G : Grid) where
             absurd (true≢false (sym e ∙ (sym (from-later (suc (first-outlet .0)) u k) ∙ none-later u l)))
         go false x false y = let p = ltb-false u (first-outlet .0) x in let q = ltb-false (first-outlet .0) u y in omega arith
 
-    outlet-in : inside G (first-outlet .0) ≡ true
-    outlet-in = (outlet-is (first-outlet .0) (sym (from-zero (first-outlet .0)) ∙ first-fact .passes)) .0
+    outlet-one : isOutlet G (outlet G) ≡ true
+    outlet-one = rw outlet-found (sym (from-zero (first-outlet .0)) ∙ first-fact .passes)
 
     -- the cells of the sheet are a basin
-    pub basin : Basin (network G) (λ c. inside G c ≡ true) (outlet G)
-    unfolding network
-    basin = record {
-      small = inside-lt G;
-      from-inside = λ u r e. next-goes G u e .from-inside;
-      to-inside = λ u r e. next-goes G u e .to-inside;
-      outlet-inside = rw outlet-found outlet-in;
-      one-outlet = λ u i e. only-outlet u (inside-lt G u i) (is-outlet u i e) ∙ sym outlet-found;
-      ends = λ u i. (cells G, drained-ends u i (P .drained u (inside-lt G u i)));
-      upwards = λ u v h k. refl;
-    }
+    pub basin : (area : ℕ → ℕ) (least split : ℕ) → Basin (networkBy G area least split) (λ c. inside G c ≡ true) (outlet G)
+    basin = one-basin (λ c i. drained-reaches c i (P .drained c (inside-lt G c i))) outlet-one (λ u e. only-outlet u (inside-lt G u (outlet-is u e .0)) e ∙ sym outlet-found)

@@ -5,8 +5,8 @@ use mathlib.Core.Bool.{Bool, true, false, cond}
 use mathlib.Core.List.{List}
 use Prim.Native.Nat.{ℕ}
 use native.Mathlib.Omega.{arith}
-use lib.Dec.{eqb}
-use borrow.Author.Tests.{eqb-true, eqb-false}
+use lib.Dec.{eqb, leb}
+use borrow.Author.Tests.{eqb-true, eqb-false, le-leb}
 use Rattle.sheet.specs.declared.Next.{Next}
 use Rattle.sheet.specs.declared.Outcome.the-variants.{Accepted}
 use Rattle.sheet.specs.declared.Flow.{Flow}
@@ -14,7 +14,8 @@ use Rattle.sheet.specs.declared.Flow.the-variants.{Same}
 use Rattle.sheet.specs.Water.{Passes, DrainsTo}
 use Rattle.sheet.specs.Flow.{partAt, answerAt}
 use Rattle.sheet.specs.Label.{number, labelDigits, labelAt}
-use Rattle.sheet.specs.River.{network}
+use Rattle.sheet.specs.Area.{area}
+use Rattle.sheet.specs.River.{network, least}
 use Rattle.sheet.specs.Refusal.{outcome, written, lentAfter, Lent}
 use Rattle.sheet.specs.Sheet.{next, Sheet}
 use Rattle.sheet.proofs.Digits.{number-fits}
@@ -27,9 +28,8 @@ use Rattle.claims.proofs.Lawful.{yes, no}
 use Rattle.claims.proofs.Rivers.{river-whole}
 use Rattle.claims.proofs.DigitRule.{cell-rule}
 use Rattle.claims.proofs.Units.{drains-map, one-outlet}
-use Rattle.claims.proofs.Mouths.{least}
 use Rattle.claims.proofs.Basins.{lawful, outlet-rule-holds, demand-three-holds, passes-rule}
-use Rattle.claims.proofs.GridLaws.{area-least, area-most, area-adds}
+use Rattle.claims.proofs.GridLaws.{area-least, area-most, area-most-cells, area-adds}
 use Rattle.claims.proofs.Written.{the-basin, depth-most, one-to-nine, at-most-depth, label-written, digits-written}
 use Rattle.claims.proofs.FlowMeaning.{the-answer, answer-at, Answered, answered-yes, answered-undecided, answered-no}
 
@@ -74,6 +74,11 @@ module _ (next : ℕ → Next) {inside : ℕ → Type 0} {digits written : ℕ �
         rw (same p i, same q j) (D .rule p q i j o (drains-from-written (digits p) o (rw (same p i) at d)) k (rw (same p i, same q j) at t));
   }
 
+-- every mouth counts
+counts : (S : Sheet) (v : ℕ) → Inside S v → leb (least S) (area S v) ≡ true
+unfolding least
+counts S v i = le-leb 1 (area S v) (area-least S v i)
+
 -- ---- demand 3 and the outlet rule
 module _ (S : Sheet) (L : Lent) (accepted : outcome S L ≡ Accepted) where
   -- demand 3, whole
@@ -82,7 +87,7 @@ module _ (S : Sheet) (L : Lent) (accepted : outcome S L ≡ Accepted) where
   demand-three =
       same-demand (next (S .grid)) (digits-written S L accepted) (S .depth) (labelAt (lentAfter S L .labels))
       (λ p q i j e. label-written S L accepted p i ∙ ap number e ∙ sym (label-written S L accepted q j))
-      (demand-three-holds (the-basin S L accepted) (λ v. refl) (S .depth))
+      (demand-three-holds (the-basin S L accepted) (counts S) (S .depth))
 
   pub outlet-rule : OutletRuleOf S (lentAfter S L .labels)
   unfolding network labelDigits
@@ -147,13 +152,14 @@ module _ (S : Sheet) (L : Lent) (accepted : outcome S L ≡ Accepted) where
             let t = demand-three .labels-part p q i j (eqb-false (labelAt (lentAfter S L .labels) p) (labelAt (lentAfter S L .labels) q) e) in
             by-parting (t .0) (t .1) answer (answer-at (S .depth) (digitsAt (lentAfter S L .labels) p) (digitsAt (lentAfter S L .labels) q) (t .0) (t .1)) f
 
-  pub rivers-are-whole : RiversAreWhole (S .grid)
+  pub rivers-are-whole : RiversAreWhole S
   unfolding network
   rivers-are-whole = record { whole = river-whole (lawful (the-basin S L accepted)) }
 
-  pub area-bounds : AreaBounds (S .grid)
+  pub area-bounds : AreaBounds S
   area-bounds = record {
-    least = λ c i. area-least (S .grid) c i;
-    most = λ c i. area-most (S .grid) c i;
-    donors-add = area-adds (S .grid) (the-basin S L accepted);
+    least = area-least S;
+    most = area-most S;
+    most-cells = area-most-cells S;
+    donors-add = area-adds S (the-basin S L accepted);
   }

@@ -10,7 +10,8 @@ use borrow.Author.Tests.{leb-true}
 use Rattle.sheet.specs.declared.Outcome.{Outcome}
 use Rattle.sheet.specs.declared.Outcome.the-variants.{Accepted}
 use Rattle.sheet.specs.Label.{number, digitsOf, outlet, labelDigits, labelOf, listFrom, labelsOf, labelAt, Digits}
-use Rattle.sheet.specs.River.{network, river}
+use Rattle.sheet.specs.Area.{area}
+use Rattle.sheet.specs.River.{network, river, least, split}
 use Rattle.sheet.specs.Refusal.{within, depthFits, outcome, written, ifAccepted, lentAfter, Lent}
 use Rattle.sheet.specs.Sheet.{cells, inside, Sheet}
 use Rattle.sheet.proofs.Digits.{digits-number}
@@ -43,8 +44,9 @@ module _ (S : Sheet) (L : Lent) (accepted : outcome S L ≡ Accepted) where
   pub checks : Passed S L
   checks = accepted-passed S L accepted
 
-  pub the-basin : Basin (network (S .grid)) (Inside S) (outlet (S .grid))
-  the-basin = basin (S .grid) (passed-on (S .grid) (checks .rest))
+  pub the-basin : Basin (network S) (Inside S) (outlet (S .grid))
+  unfolding network
+  the-basin = basin (S .grid) (passed-on (S .grid) (checks .rest)) (area S) (least S) (split S)
 
   pub depth-most : S .depth ≤ 18
   unfolding depthFits within
@@ -58,11 +60,11 @@ module _ (S : Sheet) (L : Lent) (accepted : outcome S L ≡ Accepted) where
   unfolding labelDigits network
   one-to-nine c i =
       let O = lawful the-basin in
-      label-range O (S .depth) (river (network (S .grid)) (outlet (S .grid))) c (river-headed O (outlet (S .grid))) (river-covers O (outlet (S .grid)) c (drain the-basin c i))
+      label-range O (S .depth) (river (network S) (outlet (S .grid))) c (river-headed O (outlet (S .grid))) (river-covers O (outlet (S .grid)) c (drain the-basin c i))
 
   pub at-most-depth : (c : ℕ) → length (labelDigits S c) ≤ S .depth
   unfolding labelDigits
-  at-most-depth c = label-at-most (network (S .grid)) (S .depth) (river (network (S .grid)) (outlet (S .grid))) c
+  at-most-depth c = label-at-most (network S) (S .depth) (river (network S) (outlet (S .grid))) c
 
   label-inside : (c : ℕ) → Inside S c → labelOf S c ≡ number (labelDigits S c)
   unfolding labelOf

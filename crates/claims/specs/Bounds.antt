@@ -7,7 +7,7 @@ use Prim.Native.Nat.{ℕ, suc, _+_, _≤_, _<_, _^_}
 use lib.ListN.{length}
 use Rattle.sheet.specs.Sheet.{Grid, Sheet, cells, inside, next, isOutlet}
 use Rattle.sheet.specs.Water.{Passes, passes, reachesOutlet}
-use Rattle.sheet.specs.Area.{count, area}
+use Rattle.sheet.specs.Area.{count, sumOver, weight, area}
 use Rattle.sheet.specs.River.{network, donors, riverWithin, river}
 use Rattle.sheet.specs.Label.{Digits, labelAt}
 use Rattle.sheet.specs.Refusal.{undrained}
@@ -30,19 +30,21 @@ pub record FuelIsEnough (G : Grid) : Type 0 where
   pub undrained-is : (c : ℕ) → (undrained G c ≡ true) ↔ NeverComes G c
 
 -- the river lists of an accepted sheet are whole: more fuel adds nothing
-pub record RiversAreWhole (G : Grid) : Type 0 where
-  pub whole : (m k : ℕ) → riverWithin (network G) (cells G + k) m ≡ river (network G) m
+pub record RiversAreWhole (S : Sheet) : Type 0 where
+  pub whole : (m k : ℕ) → riverWithin (network S) (cells (S .grid) + k) m ≡ river (network S) m
 
 unfoldable pub sum : (ℕ → ℕ) → List ℕ → ℕ
 sum f [] = 0
 sum f (u ∷ us) = f u + sum f us
 
 -- the areas of an accepted sheet
-pub record AreaBounds (G : Grid) : Type 0 where
-  pub least : (c : ℕ) → inside G c ≡ true → 1 ≤ area G c
-  pub most : (c : ℕ) → inside G c ≡ true → area G c ≤ count (cells G) (inside G)
-  -- a cell's own area, and the areas of its donors
-  pub donors-add : (c : ℕ) → inside G c ≡ true → area G c ≡ 1 + sum (area G) (donors (network G) c)
+pub record AreaBounds (S : Sheet) : Type 0 where
+  pub least : (c : ℕ) → Inside S c → 1 ≤ area S c
+  -- the weights of all inside cells together, and, each being 1, the number of inside cells
+  pub most : (c : ℕ) → Inside S c → area S c ≤ sumOver (cells (S .grid)) (inside (S .grid)) (weight S)
+  pub most-cells : (c : ℕ) → Inside S c → area S c ≤ count (cells (S .grid)) (inside (S .grid))
+  -- a cell's own weight, and the areas of its donors
+  pub donors-add : (c : ℕ) → Inside S c → area S c ≡ weight S c + sum (area S) (donors (network S) c)
 
 -- the labels that were written for a sheet
 pub record LabelBounds (S : Sheet) (labels : List ℕ) : Type 0 where

@@ -20,7 +20,7 @@ use Rattle.sheet.proofs.Cells.{outlet-not-to}
 use Rattle.upstream.specs.Work.{placed, rankOf, receiverOf, nextOfNumber, KeptFrom}
 use Rattle.upstream.specs.Search.{Item, Queue}
 use Rattle.drainage.specs.Total.{total, nextIn, valueAt, Gathers, Adds, totalsIn, added}
-use Rattle.upstream.proofs.Sums.{sum-same, sum-one, sum-most}
+use Rattle.claims.proofs.Sums.{sum-same, sum-one, sum-most}
 use Rattle.upstream.proofs.Queues.{before-of, rank-once}
 use Rattle.drainage.proofs.Lists.{written-from}
 use Rattle.drainage.proofs.Ways.{Stays, Opens, total-same, total-kept, total-more}

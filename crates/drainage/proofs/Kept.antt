@@ -13,7 +13,7 @@ use Rattle.claims.proofs.Counts.{count-le}
 use Rattle.upstream.specs.Work.{ranksPart, receiversPart, sizesPart, positionsPart, placed, rankOf, receiverOf, sizeAt, isReached, KeptFrom, withSizes}
 use Rattle.upstream.specs.Search.{Before, Queue, Upstream, OutletsFirst, Searched, Drained, SingleOutlet}
 use Rattle.drainage.specs.Total.{size, sizesOf}
-use Rattle.upstream.proofs.Sums.{sum-same, count-sum}
+use Rattle.claims.proofs.Sums.{sum-same, count-sum}
 use Rattle.upstream.proofs.Queues.{item-at, queued-most}
 use Rattle.upstream.proofs.Upstream.{outlet-lt}
 use Rattle.drainage.proofs.Lists.{list-at}

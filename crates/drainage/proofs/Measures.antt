@@ -1,4 +1,4 @@
--- Areas and sizes are totals of own counts; what the slices hold that they were written to.
+-- Areas and sizes are totals of own values; what the slices hold that they were written to.
 use mathlib.Core.Path.{_≡_, refl, sym, _∙_, ap}
 use mathlib.Core.Bool.{Bool, true, false, cond, not, true≢false}
 use mathlib.Core.List.{List, [], _++_, append-nil}
@@ -12,9 +12,9 @@ use borrow.Rule.Slice.PartMut.{putMid, postOf, post-is}
 use borrow.Author.Tests.{not-false}
 use Rattle.sheet.specs.declared.Next.{Next}
 use Rattle.sheet.specs.declared.Next.the-variants.{Outlet, To}
-use Rattle.sheet.specs.Sheet.{Grid, cells, dirAt, inside, next}
+use Rattle.sheet.specs.Sheet.{Grid, Sheet, cells, dirAt, inside, next}
 use Rattle.sheet.specs.Water.{passes, Passes, here, there}
-use Rattle.sheet.specs.Area.{count, drainsInto, area}
+use Rattle.sheet.specs.Area.{count, sumOver, drainsInto, area}
 use Rattle.sheet.specs.Label.{listFrom, areasOf}
 use Rattle.sheet.specs.Refusal.{written}
 use Rattle.sheet.proofs.Cells.{inside-is, next-outside, next-to-lt, next-goes}
@@ -22,9 +22,8 @@ use Rattle.claims.proofs.Counts.{not-true}
 use Rattle.claims.proofs.Lawful.{passes-true}
 use Rattle.upstream.specs.Work.{sizesPart, rankOf, numbered, nextOfNumber, withSizes}
 use Rattle.upstream.specs.Search.{Drained}
-use Rattle.drainage.specs.Total.{total, nextIn, valueAt, Gathers, totalsIn, ownCount, ownCounts, size, sizesOf}
-use Rattle.upstream.specs.Sum.{sumOver}
-use Rattle.upstream.proofs.Sums.{sum-alike, sum-zero, sum-ones, count-sum}
+use Rattle.drainage.specs.Total.{total, nextIn, valueAt, Gathers, totalsIn, ownValue, ownValues, ones, size, sizesOf}
+use Rattle.claims.proofs.Sums.{sum-alike, sum-zero, sum-ones, count-sum}
 use Rattle.upstream.proofs.Queues.{reached-yes, reached-no}
 use Rattle.upstream.proofs.Upstream.{receiver-of, way-inside}
 use Rattle.drainage.proofs.Lists.{filled, filled-at, filled-long, filled-kept, list-same, list-long}
@@ -34,11 +33,11 @@ next-number : (x : Next) → nextOfNumber (numbered x) ≡ x
 next-number Outlet = refl
 next-number (To r) = refl
 
-pub count-most : (code : ℕ) → ownCount code ≤ 1
-unfolding ownCount
-count-most code = go (eqb code 0)
+own-most : (code value : ℕ) → ownValue code value ≤ value
+unfolding ownValue
+own-most code value = go (eqb code 0)
   where
-    go : (b : Bool) → cond b 0 1 ≤ 1
+    go : (b : Bool) → cond b 0 value ≤ value
     go true = omega arith
     go false = omega arith
 
@@ -56,7 +55,11 @@ module _ {G : Grid} {work : List ℕ} {queued : ℕ} (d : Drained G work queued)
         rw (reached-yes (cells G) work c h, receiver-of (d .searched .upstream) c l h) (next-number (next G c))
   ]
 
--- ---- counts
+-- ---- sums of own values
+
+-- the sum of f over the inside cells whose water passes an inside cell; 0 for an outside cell
+unfoldable sumInto : Grid → (ℕ → ℕ) → ℕ → ℕ
+sumInto G f c = cond (inside G c) (sumOver (cells G) (drainsInto G c) f) 0
 
 module _ (G : Grid) where
   -- an outside cell is passed by itself alone
@@ -64,38 +67,43 @@ module _ (G : Grid) where
   passed-outside out here = refl
   passed-outside {c = c} out (there {q = q} e h) = absurd (true≢false (sym (way-inside G (next-goes G q e .from-inside) (there e h)) ∙ out))
 
-  own-outside : (c : ℕ) → c < cells G → inside G c ≡ false → ownCount (dirAt G c) ≡ 0
-  unfolding ownCount
-  own-outside c l out = let z : eqb (dirAt G c) 0 ≡ true = not-false (eqb (dirAt G c) 0) (sym (inside-is G c l) ∙ out) in rw z
+  module _ (f : ℕ → ℕ) where
+    own-outside : (c : ℕ) → c < cells G → inside G c ≡ false → ownValues (G .dirs) f c ≡ 0
+    unfolding ownValue
+    own-outside c l out = let z : eqb (dirAt G c) 0 ≡ true = not-false (eqb (dirAt G c) 0) (sym (inside-is G c l) ∙ out) in rw z
 
-  own-drains : (c q : ℕ) → q < cells G → cond (passes (next G) (cells G) q c) (ownCount (dirAt G q)) 0 ≡ cond (drainsInto G c q) 1 0
-  unfolding drainsInto ownCount
-  own-drains c q l = rw (inside-is G q l) (pick (eqb (dirAt G q) 0) (passes (next G) (cells G) q c))
-    where
-      pick : (b p : Bool) → _≡_ {A = ℕ} (cond p (cond b 0 1) 0) (cond (cond (not b) p false) 1 0)
-      pick true true = refl
-      pick true false = refl
-      pick false p = refl
+    own-drains : (c q : ℕ) → q < cells G → cond (passes (next G) (cells G) q c) (ownValues (G .dirs) f q) 0 ≡ cond (drainsInto G c q) (f q) 0
+    unfolding drainsInto ownValue
+    own-drains c q l = rw (inside-is G q l) (pick (eqb (dirAt G q) 0) (passes (next G) (cells G) q c))
+      where
+        pick : (b p : Bool) → _≡_ {A = ℕ} (cond p (cond b 0 (f q)) 0) (cond (cond (not b) p false) (f q) 0)
+        pick true true = refl
+        pick true false = refl
+        pick false p = refl
 
-  -- the total of own counts is the size
-  pub total-size : (c : ℕ) → c < cells G → total (cells G) (next G) (ownCounts (G .dirs)) c ≡ size G c
-  unfolding total size
-  total-size c l = go (inside G c) refl
-    where
-      test : ℕ → Bool
-      test q = passes (next G) (cells G) q c
+    total-own : (c : ℕ) → c < cells G → total (cells G) (next G) (ownValues (G .dirs) f) c ≡ sumInto G f c
+    unfolding total sumInto
+    total-own c l = go (inside G c) refl
+      where
+        test : ℕ → Bool
+        test q = passes (next G) (cells G) q c
 
-      none : inside G c ≡ false → (q : ℕ) → (p : Bool) → passes (next G) (cells G) q c ≡ p → cond p (ownCounts (G .dirs) q) 0 ≡ 0
-      none out q true e = let z = passed-outside out (passes-true (next G) (cells G) q c e) in rw z (own-outside c l out)
-      none out q false e = refl
+        none : inside G c ≡ false → (q : ℕ) → (p : Bool) → passes (next G) (cells G) q c ≡ p → cond p (ownValues (G .dirs) f q) 0 ≡ 0
+        none out q true e = let z = passed-outside out (passes-true (next G) (cells G) q c e) in rw z (own-outside c l out)
+        none out q false e = refl
 
-      go : (b : Bool) → inside G c ≡ b → sumOver (cells G) test (ownCounts (G .dirs)) ≡ cond b (count (cells G) (drainsInto G c)) 0
-      go true i = sum-alike (cells G) test (drainsInto G c) (ownCounts (G .dirs)) (λ q. 1) (λ q h. own-drains c q h) ∙ sym (count-sum (cells G) (drainsInto G c))
-      go false i = sum-zero (cells G) test (ownCounts (G .dirs)) (λ q h. none i q (test q) refl)
+        go : (b : Bool) → inside G c ≡ b → sumOver (cells G) test (ownValues (G .dirs) f) ≡ cond b (sumOver (cells G) (drainsInto G c) f) 0
+        go true i = sum-alike (cells G) test (drainsInto G c) (ownValues (G .dirs) f) f (λ q h. own-drains c q h)
+        go false i = sum-zero (cells G) test (ownValues (G .dirs) f) (λ q h. none i q (test q) refl)
 
-  pub area-size : (c : ℕ) → area G c ≡ size G c
-  unfolding area size
-  area-size c = refl
+  -- with 1 for each cell it is the size, and the area of any sheet with this grid
+  sum-size : (c : ℕ) → sumInto G ones c ≡ size G c
+  unfolding sumInto size
+  sum-size c = rw (count-sum (cells G) (drainsInto G c)) refl
+
+  sum-area : (S : Sheet) → S .grid ≡ G → (c : ℕ) → sumInto G ones c ≡ area S c
+  unfolding sumInto area
+  sum-area S e c = rw e refl
 
 -- ---- the slices
 
@@ -104,37 +112,37 @@ unfolding sizesOf
 sizes-long G = list-long (size G) 0 (cells G)
 
 module _ {G : Grid} {work : List ℕ} {queued : ℕ} (d : Drained G work queued) (old : List ℕ) where
-  -- the totals of own counts, by the receivers in the work places
+  -- what the cells add by themselves to counts
   abbrev own : List ℕ
-  own = filled (ownCounts (G .dirs)) (cells G) old
+  own = filled (ownValues (G .dirs) ones) (cells G) old
 
-  totals-size : (c : ℕ) → c < cells G → total (cells G) (nextIn (cells G) work) (valueAt own) c ≡ size G c
-  totals-size c l =
+  totals-are : (c : ℕ) → c < cells G → total (cells G) (nextIn (cells G) work) (valueAt own) c ≡ sumInto G ones c
+  totals-are c l =
       total-same (λ q r h e. next-to-lt G q e) (next-in d) (valueAt own) c
-      ∙ total-alike (cells G) (next G) (valueAt own) (ownCounts (G .dirs)) c (λ q h. filled-at (ownCounts (G .dirs)) (cells G) old q h)
-      ∙ total-size G c l
+      ∙ total-alike (cells G) (next G) (valueAt own) (ownValues (G .dirs) ones) c (λ q h. filled-at (ownValues (G .dirs) ones) (cells G) old q h)
+      ∙ total-own G ones c l
 
-  written-own : (new : List ℕ) → length new ≡ cells G → written new own ≡ written new old
-  written-own new e = ap (λ (l : List ℕ). new ++ l) (rw e (filled-kept (ownCounts (G .dirs)) (cells G) old))
+  -- the totals, where g gives them
+  totals-written : (g : ℕ → ℕ) → ((c : ℕ) → sumInto G ones c ≡ g c) → written (totalsIn (cells G) work (valueAt own)) own ≡ written (listFrom g 0 (cells G)) old
+  unfolding totalsIn
+  totals-written g same =
+      ap (λ (l : List ℕ). written l own) (list-same (total (cells G) (nextIn (cells G) work) (valueAt own)) g (cells G) (λ c l. totals-are c l ∙ same c))
+      ∙ ap (λ (l : List ℕ). listFrom g 0 (cells G) ++ l) (rw (list-long g 0 (cells G)) (filled-kept (ownValues (G .dirs) ones) (cells G) old))
 
   pub sizes-written : written (totalsIn (cells G) work (valueAt own)) own ≡ written (sizesOf G) old
-  unfolding totalsIn sizesOf
-  sizes-written =
-      ap (λ (l : List ℕ). written l own) (list-same (total (cells G) (nextIn (cells G) work) (valueAt own)) (size G) (cells G) totals-size)
-      ∙ written-own (listFrom (size G) 0 (cells G)) (list-long (size G) 0 (cells G))
+  unfolding sizesOf
+  sizes-written = totals-written (size G) (sum-size G)
 
-  pub areas-written : written (totalsIn (cells G) work (valueAt own)) own ≡ written (areasOf G) old
-  unfolding totalsIn areasOf
-  areas-written =
-      ap (λ (l : List ℕ). written l own) (list-same (total (cells G) (nextIn (cells G) work) (valueAt own)) (area G) (cells G) (λ c l. totals-size c l ∙ sym (area-size G c)))
-      ∙ written-own (listFrom (area G) 0 (cells G)) (list-long (area G) 0 (cells G))
+  pub areas-written : (S : Sheet) → S .grid ≡ G → written (totalsIn (cells G) work (valueAt own)) own ≡ written (areasOf S) old
+  unfolding areasOf
+  areas-written S e = totals-written (area S) (sum-area G S e) ∙ ap (λ (H : Grid). written (listFrom (area S) 0 (cells H)) old) (sym e)
 
   -- own counts are small enough to be gathered
   pub own-gathers : cells G ≤ 65536 → cells G ≤ length old → Gathers (cells G) work queued own
   own-gathers small room = record {
     queue = d .searched .upstream .queue;
-    room = omega (arith, filled-long (ownCounts (G .dirs)) (cells G) old room);
-    fits = omega (arith, sum-ones (cells G) (valueAt own) (λ q l. rw (filled-at (ownCounts (G .dirs)) (cells G) old q l) (count-most (dirAt G q))));
+    room = omega (arith, filled-long (ownValues (G .dirs) ones) (cells G) old room);
+    fits = omega (arith, sum-ones (cells G) (valueAt own) (λ q l. rw (filled-at (ownValues (G .dirs) ones) (cells G) old q l) (own-most (dirAt G q) 1)));
   }
 
 -- a slice that is written twice
@@ -142,9 +150,9 @@ pub written-over : (new former old : List ℕ) → length former ≡ length new 
 written-over new former old e =
     ap (λ (l : List ℕ). new ++ l) (drop-at former (drop (length former) old) (length new) e ∙ ap (λ (k : ℕ). drop k old) e)
 
-pub areas-long : (G : Grid) → length (areasOf G) ≡ cells G
+pub areas-long : (S : Sheet) → length (areasOf S) ≡ cells (S .grid)
 unfolding areasOf
-areas-long G = list-long (area G) 0 (cells G)
+areas-long S = list-long (area S) 0 (cells (S .grid))
 
 -- sizes that are copied into their part of the work places
 pub sizes-put : (n : ℕ) (work sizes areas old : List ℕ) → sizesPart * n ≤ length work → length sizes ≡ n → areas ≡ written sizes old

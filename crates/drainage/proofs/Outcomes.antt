@@ -28,7 +28,7 @@ use Rattle.drainage.specs.declared.Inspection.{Inspection}
 use Rattle.upstream.specs.Work.{ranksPart, sizesPart, placed, rankOf, KeptFrom}
 use Rattle.upstream.specs.Search.{Searched, Coded, Drained, SingleOutlet, outletCount}
 use Rattle.drainage.specs.Inspect.{Inspected}
-use Rattle.upstream.proofs.Sums.{sum-same, sum-one, count-sum}
+use Rattle.claims.proofs.Sums.{sum-same, sum-one, count-sum}
 use Rattle.upstream.proofs.Upstream.{outlet-lt, way-inside}
 
 -- ---- what was looked for is what the definition looks for

@@ -13,7 +13,7 @@ use Rattle.claims.proofs.Runs.{pass-trans}
 use Rattle.claims.proofs.Lawful.{passes-true}
 use Rattle.claims.proofs.Fuel.{passes-enough}
 use Rattle.drainage.specs.Total.{total}
-use Rattle.upstream.proofs.Sums.{sum-same, sum-either}
+use Rattle.claims.proofs.Sums.{sum-same, sum-either}
 
 -- water stays among the first n cells
 abbrev pub Stays : ℕ → (ℕ → Next) → Type 0

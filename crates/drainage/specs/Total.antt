@@ -9,9 +9,8 @@ use Rattle.sheet.specs.declared.Next.{Next}
 use Rattle.sheet.specs.declared.Next.the-variants.{Outlet}
 use Rattle.sheet.specs.Sheet.{Grid, cells, inside}
 use Rattle.sheet.specs.Water.{passes}
-use Rattle.sheet.specs.Area.{count, drainsInto}
+use Rattle.sheet.specs.Area.{count, sumOver, drainsInto}
 use Rattle.sheet.specs.Label.{listFrom}
-use Rattle.upstream.specs.Sum.{sumOver}
 use Rattle.upstream.specs.Work.{sizesPart, isReached, receiverOf, nextOfNumber}
 use Rattle.upstream.specs.Search.{Queue}
 
@@ -51,13 +50,17 @@ pub record Adds (n : ℕ) (work : List ℕ) (c : ℕ) (totals : List ℕ) : Type
   pub receiver-on : (r : ℕ) → receiverOf n work c ≡ r + 1 → r < n
   pub fits : (r : ℕ) → receiverOf n work c ≡ r + 1 → valueAt totals r + valueAt totals c < 2 ^ 32
 
--- what a cell counts by itself, told from its byte: 1 inside, 0 outside
-unfoldable pub ownCount : ℕ → ℕ
-ownCount code = cond (eqb code 0) 0 1
+-- what a cell adds by itself, told from its byte: a value inside, 0 outside
+unfoldable pub ownValue : ℕ → ℕ → ℕ
+ownValue code value = cond (eqb code 0) 0 value
 
--- the own counts of the cells
-abbrev pub ownCounts : List ℕ → ℕ → ℕ
-ownCounts dirs c = ownCount (getD dirs c 0)
+-- what the cells add by themselves, of values f
+abbrev pub ownValues : List ℕ → (ℕ → ℕ) → ℕ → ℕ
+ownValues dirs f c = ownValue (getD dirs c 0) (f c)
+
+-- the values of a count
+abbrev pub ones : ℕ → ℕ
+ones c = 1
 
 -- "size" of an inside cell: the count of inside cells whose water passes it; outside cells have size 0
 unfoldable pub size : Grid → ℕ → ℕ

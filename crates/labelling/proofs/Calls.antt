@@ -49,7 +49,7 @@ module _ (S : Sheet) (L : Lent) where
     where
       go : (o : Outcome) → o ≡ Refused number place → (b : Bool) → b ≡ false
           → L ≡ record {
-            areas = ifAccepted o (areasOf (S .grid)) (L .areas);
+            areas = ifAccepted o (areasOf S) (L .areas);
             labels = ifAccepted o (labelsOf S) (L .labels);
             work = cond b (written (replicate (8 * cells (S .grid)) 0) (L .work)) (L .work);
           }
@@ -123,7 +123,7 @@ module _ (S : Sheet) (L : Lent) where
         }
 
     -- after checks 4 to 7
-    pub labelled : {r : Outcome} {areas labels work : List ℕ} → r ≡ outcomeOn (S .grid) → areas ≡ ifAccepted r (areasOf (S .grid)) (L .areas)
+    pub labelled : {r : Outcome} {areas labels work : List ℕ} → r ≡ outcomeOn (S .grid) → areas ≡ ifAccepted r (areasOf S) (L .areas)
         → labels ≡ ifAccepted r (labelsOf S) (L .labels) → work ≡ replicate (8 * cells (S .grid)) 0 ++ drop (8 * cells (S .grid)) (L .work)
         → (r ≡ outcome S L) × (record { areas = areas; labels = labels; work = work } ≡ lentAfter S L)
     unfolding lentAfter
@@ -133,7 +133,7 @@ module _ (S : Sheet) (L : Lent) where
       where
         go : (x : Outcome) → r ≡ x → (b : Bool) → b ≡ true
             → _≡_ {A = Lent} (record { areas = areas; labels = labels; work = work }) (record {
-              areas = ifAccepted x (areasOf (S .grid)) (L .areas);
+              areas = ifAccepted x (areasOf S) (L .areas);
               labels = ifAccepted x (labelsOf S) (L .labels);
               work = cond b (written (replicate (8 * cells (S .grid)) 0) (L .work)) (L .work);
             })

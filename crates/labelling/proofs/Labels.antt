@@ -32,19 +32,26 @@ written-past new old c l =
     let e : length new + (c - length new) ≡ c = omega arith in
     ap (λ (k : ℕ). getD (written new old) k 0) (sym e) ∙ getD-append-add new (drop (length new) old) (c - length new) 0 ∙ getD-drop (length new) old (c - length new) 0 ∙ ap (λ (k : ℕ). getD old k 0) e
 
+pub outside-past : (G : Grid) (c : ℕ) → cells G ≤ c → inside G c ≡ false
+outside-past G c l = go (inside G c) refl
+  where
+    go : (b : Bool) → inside G c ≡ b → b ≡ false
+    go true e = absurd (omega (arith, inside-lt G c e))
+    go false e = refl
+
 -- ---- the labels
-module _ (S : Sheet) (B : Basin (network (S .grid)) (λ c. inside (S .grid) c ≡ true) (outlet (S .grid))) where
+module _ (S : Sheet) (B : Basin (network S) (λ c. inside (S .grid) c ≡ true) (outlet (S .grid))) where
   -- the river of the outlet holds the inside cells
-  held : (c : ℕ) → holds (network (S .grid)) (river (network (S .grid)) (outlet (S .grid))) c ≡ inside (S .grid) c
-  held c = go (inside (S .grid) c) refl (in-test (lawful B) (river (network (S .grid)) (outlet (S .grid))) c)
+  held : (c : ℕ) → holds (network S) (river (network S) (outlet (S .grid))) c ≡ inside (S .grid) c
+  held c = go (inside (S .grid) c) refl (in-test (lawful B) (river (network S) (outlet (S .grid))) c)
     where
-      go : (b : Bool) → inside (S .grid) c ≡ b → Test (holds (network (S .grid)) (river (network (S .grid)) (outlet (S .grid))) c) (In (network (S .grid) .next) (river (network (S .grid)) (outlet (S .grid))) c) → holds (network (S .grid)) (river (network (S .grid)) (outlet (S .grid))) c ≡ b
+      go : (b : Bool) → inside (S .grid) c ≡ b → Test (holds (network S) (river (network S) (outlet (S .grid))) c) (In (network S .next) (river (network S) (outlet (S .grid))) c) → holds (network S) (river (network S) (outlet (S .grid))) c ≡ b
       go true i (yes e h) = e
       go true i (no e n) = absurd (n (river-covers (lawful B) (outlet (S .grid)) c (drain B c i)))
       go false i (yes e h) = absurd (true≢false (sym (upstream-inside B c (river-passes (lawful B) (outlet (S .grid)) c h)) ∙ i))
       go false i (no e n) = e
 
-  label-of : (c : ℕ) → labelOf S c ≡ cond (inside (S .grid) c) (number (label (network (S .grid)) (S .depth) (river (network (S .grid)) (outlet (S .grid))) c)) 0
+  label-of : (c : ℕ) → labelOf S c ≡ cond (inside (S .grid) c) (number (label (network S) (S .depth) (river (network S) (outlet (S .grid))) c)) 0
   unfolding labelOf labelDigits
   label-of c = refl
 
@@ -75,13 +82,6 @@ module _ (S : Sheet) (B : Basin (network (S .grid)) (λ c. inside (S .grid) c �
     unfolding labelsOf
     label-at c l = written-at (labelOf S) (cells (S .grid)) c labels l
 
-    outside-past : (c : ℕ) → cells (S .grid) ≤ c → inside (S .grid) c ≡ false
-    outside-past c l = go (inside (S .grid) c) refl
-      where
-        go : (b : Bool) → inside (S .grid) c ≡ b → b ≡ false
-        go true e = absurd (omega (arith, inside-lt (S .grid) c e))
-        go false e = refl
-
     past : (c : ℕ) → cells (S .grid) ≤ c → getD (written (labelsOf S) labels) c 0 ≡ getD zeros c 0
     unfolding labelsOf
     past c l =
@@ -89,13 +89,13 @@ module _ (S : Sheet) (B : Basin (network (S .grid)) (λ c. inside (S .grid) c �
         ∙ sym (written-past (replicate (cells (S .grid)) 0) labels c (rw length-replicate l))
 
     -- the river's labels, over cleared places
-    pub basin-labels : relabelled (holds (network (S .grid)) (river (network (S .grid)) (outlet (S .grid))))
-        (λ c. number (label (network (S .grid)) (S .depth) (river (network (S .grid)) (outlet (S .grid))) c)) zeros
+    pub basin-labels : relabelled (holds (network S) (river (network S) (outlet (S .grid))))
+        (λ c. number (label (network S) (S .depth) (river (network S) (outlet (S .grid))) c)) zeros
         ≡ written (labelsOf S) labels
     basin-labels = sym (relabelled-is _ _ zeros (written (labelsOf S) labels) (labels-length ∙ sym zeros-length) (λ c l. go c (cleared-at c (rw zeros-length at l))))
       where
         go : (c : ℕ) → (c < cells (S .grid)) ⊎ (cells (S .grid) ≤ c)
             → getD (written (labelsOf S) labels) c 0
-            ≡ cond (holds (network (S .grid)) (river (network (S .grid)) (outlet (S .grid))) c) (number (label (network (S .grid)) (S .depth) (river (network (S .grid)) (outlet (S .grid))) c)) (getD zeros c 0)
+            ≡ cond (holds (network S) (river (network S) (outlet (S .grid))) c) (number (label (network S) (S .depth) (river (network S) (outlet (S .grid))) c)) (getD zeros c 0)
         go c (inl l) = label-at c l ∙ label-of c ∙ (rw (held c, zero-at c l))
-        go c (inr l) = past c l ∙ (rw (held c, outside-past c l))
+        go c (inr l) = past c l ∙ (rw (held c, outside-past (S .grid) c l))

@@ -1,16 +1,19 @@
 -- What each step of labelling hands to the next.
-use mathlib.Core.Path.{_≡_, refl, sym, ap, _∙_, subst}
+use mathlib.Core.Path.{_≡_, refl, sym, ap, _∙_, subst, fun-ext}
 use mathlib.Core.Bool.{true}
 use mathlib.Core.List.{List, append-nil}
 use Prim.Native.Nat.{ℕ, _+_, _*_, _-_, _<_, _≤_}
+use native.Mathlib.Decide.{decLt}
 use native.Mathlib.Omega.{arith}
-use lib.ListN.{length, getD, take, drop, replicate, length-replicate, getD-replicate, List·getD-append, drop-of-length-le}
+use lib.ListN.{length, getD, take, drop, replicate, length-take, length-replicate, getD-replicate, List·getD-append, List·getD-eq-default, drop-of-length-le}
+use lib.Seq.{getD-take}
 use Rattle.sheet.specs.declared.Outcome.the-variants.{Accepted}
 use Rattle.sheet.specs.Sheet.{Grid, Sheet, cells, inside, Sized}
 use Rattle.sheet.specs.Area.{area}
-use Rattle.sheet.specs.River.{network, river}
+use Rattle.sheet.specs.River.{network, networkBy, least, split, river}
 use Rattle.sheet.specs.Label.{areasOf, labelsOf, outlet, holds, label, number}
 use Rattle.sheet.specs.Refusal.{Lent, written, outcomeOn}
+use Rattle.claims.specs.Basin.{Basin}
 use Rattle.claims.proofs.Counts.{count-le}
 use Rattle.claims.proofs.Basins.{lawful}
 use Rattle.claims.proofs.Sheets.{basin, passed-on}
@@ -25,31 +28,48 @@ use Rattle.drainage.proofs.Kept.{with-sizes-same, drained-same, single-same, si
 use Rattle.rivers.specs.Layout.{Layout}
 use Rattle.rivers.specs.Labelled.{relabelled}
 use Rattle.rivers.specs.UnitAt.{NetworkOf, Places}
+use Rattle.order.specs.Network.{areaIn, networkIn}
 use Rattle.order.specs.Places.{cellsIn, sizesIn, Surveyed, Arranged}
 use Rattle.labelling.specs.Labelling.{Fitting, Inspected}
-use Rattle.labelling.proofs.Labels.{written-length, basin-labels}
+use Rattle.labelling.proofs.Labels.{written-length, outside-past, basin-labels}
 
-areas-length : (G : Grid) (areas : List ℕ) → cells G ≤ length areas → length (written (areasOf G) areas) ≡ length areas
-unfolding areasOf
-areas-length G areas l = written-length (areasOf G) areas (rw (length-list (area G) 0 (cells G)) l)
+module _ (S : Sheet) where
+  areas-length : (areas : List ℕ) → cells (S .grid) ≤ length areas → length (written (areasOf S) areas) ≡ length areas
+  unfolding areasOf
+  areas-length areas l = written-length (areasOf S) areas (rw (length-list (area S) 0 (cells (S .grid))) l)
 
-area-at : (G : Grid) (areas : List ℕ) (c : ℕ) → c < cells G → getD (written (areasOf G) areas) c 0 ≡ area G c
-unfolding areasOf
-area-at G areas c l = written-at (area G) (cells G) c areas l
+  area-past : (c : ℕ) → cells (S .grid) ≤ c → area S c ≡ 0
+  unfolding area
+  area-past c l = rw (outside-past (S .grid) c l)
+
+  -- the areas that are written are those of the sheet
+  areas-in : (old : List ℕ) → areaIn (cells (S .grid)) (written (areasOf S) old) ≡ area S
+  unfolding areasOf
+  areas-in old =
+      let n = cells (S .grid) in
+      let areas = written (areasOf S) old in
+      fun-ext (λ c. elim (decLt c n) [
+        | yes l ↦ getD-take n areas c 0 l ∙ written-at (area S) n c old l
+        | no h ↦ List·getD-eq-default (take n areas) 0 {n = c} (omega (arith, length-take n areas)) ∙ sym (area-past c (omega arith))
+      ])
+
+  -- so the network by them is the sheet's
+  pub network-in : {areas : List ℕ} (old : List ℕ) → areas ≡ written (areasOf S) old → networkIn (S .grid) areas (least S) (split S) ≡ network S
+  unfolding network
+  network-in old e = ap (λ (f : ℕ → ℕ). networkBy (S .grid) f (least S) (split S)) (ap (areaIn (cells (S .grid))) e ∙ areas-in old)
 
 pub queued-most : {G : Grid} {work : List ℕ} {queued : ℕ} → Drained G work queued → queued ≤ cells G
 queued-most {G} {work} {queued} d = let q = d .searched .upstream .queue in omega (arith, q .counted, count-le (cells G) (isReached (cells G) work))
 
 -- after the areas and sizes, the order along rivers can be worked out
 pub surveyed : {S : Sheet} {L : Lent} {queued : ℕ} {areas work : List ℕ} → Fitting S L → Inspected (S .grid) (L .work) queued
-    → work ≡ withSizes (cells (S .grid)) (sizesOf (S .grid)) (L .work) → areas ≡ written (areasOf (S .grid)) (L .areas) → length work ≡ length (L .work)
+    → work ≡ withSizes (cells (S .grid)) (sizesOf (S .grid)) (L .work) → areas ≡ written (areasOf S) (L .areas) → length work ≡ length (L .work)
     → Surveyed (S .grid) areas work queued
 surveyed {S} {L} {queued} {areas} {work} f i e a l = rw (e, a) (record {
   measured = record {
     sized = f .sized;
     coded = i .drained .coded;
-    room = rw (areas-length (S .grid) (L .areas) (f .areas)) (f .areas);
-    area-is = area-at (S .grid) (L .areas);
+    room = rw (areas-length S (L .areas) (f .areas)) (f .areas);
   };
   room = rw e at (let w = f .work in let r : 8 * cells (S .grid) ≤ length work = omega arith in r);
   drained = drained-same (with-sizes-same _ _ _ room) (i .drained);
@@ -75,12 +95,29 @@ layout-more {n = n} {m = m} h l = record {
 pub part-is : (a q : ℕ) (work : List ℕ) → take (a + q - a) (drop a work) ≡ take q (drop a work)
 part-is a q work = let e : a + q - a ≡ q = omega arith in ap (λ (k : ℕ). take k (drop a work)) e
 
--- what labelling a basin asks
-module _ (G : Grid) {areas work : List ℕ} {queued : ℕ} (accepted : outcomeOn G ≡ Accepted) (r : Arranged G areas work queued) where
-  pub network-of : NetworkOf (cellsIn (cells G) work queued) (sizesIn (cells G) work queued) areas 4 1
-  network-of = record { network = network G; lawful = lawful (basin G (passed-on G accepted)); laid-out = r .layout-of }
+-- the cells of an accepted sheet are a basin
+the-basin : (S : Sheet) → outcomeOn (S .grid) ≡ Accepted → Basin (network S) (λ c. inside (S .grid) c ≡ true) (outlet (S .grid))
+unfolding network
+the-basin S accepted = basin (S .grid) (passed-on (S .grid) accepted) (area S) (least S) (split S)
 
-  pub places : (n m : ℕ) → cells G ≤ n → cells G ≤ m → Places (cellsIn (cells G) work queued) (sizesIn (cells G) work queued) n m 4
+-- what labelling a basin asks
+module _ (S : Sheet) {areas work : List ℕ} {queued : ℕ} (accepted : outcomeOn (S .grid) ≡ Accepted)
+    (same : networkIn (S .grid) areas (least S) (split S) ≡ network S) (r : Arranged (S .grid) areas work queued) where
+  abbrev cell : List ℕ
+  cell = cellsIn (cells (S .grid)) work queued
+
+  abbrev size : List ℕ
+  size = sizesIn (cells (S .grid)) work queued
+
+  pub network-of : NetworkOf cell size areas (split S) (least S)
+  network-of = record {
+    network = network S;
+    lawful = lawful (the-basin S accepted);
+    laid-out = rw same at (r .layout-of (least S) (split S));
+  }
+
+  pub places : (n m : ℕ) → cells (S .grid) ≤ n → cells (S .grid) ≤ m → Places cell size n m (split S)
+  unfolding split
   places n m a l = record {
     for-areas = layout-more a (r .layout);
     for-labels = layout-more l (r .layout);
@@ -88,19 +125,17 @@ module _ (G : Grid) {areas work : List ℕ} {queued : ℕ} (accepted : outcomeOn
     split-most = omega arith;
   }
 
-  pub some-cell : 0 < length (cellsIn (cells G) work queued)
+  pub some-cell : 0 < length cell
   some-cell = rw (r .long) (r .some)
 
--- the labels that a basin's river gets are those of the sheet
-pub labels-written : (S : Sheet) (labels : List ℕ) {areas work labels′ labels″ : List ℕ} {queued : ℕ} → (accepted : outcomeOn (S .grid) ≡ Accepted) → (r : Arranged (S .grid) areas work queued)
-    → cells (S .grid) ≤ length labels → labels′ ≡ written (replicate (cells (S .grid)) 0) labels
-    → ((n : NetworkOf (cellsIn (cells (S .grid)) work queued) (sizesIn (cells (S .grid)) work queued) areas 4 1)
-    → labels″ ≡ relabelled (holds (n .network) (river (n .network) (getD (cellsIn (cells (S .grid)) work queued) 0 0)))
-    (λ c. number (label (n .network) (S .depth) (river (n .network) (getD (cellsIn (cells (S .grid)) work queued) 0 0)) c)) labels′)
-    → labels″ ≡ written (labelsOf S) labels
-unfolding network-of
-labels-written S labels accepted r room e f =
-    f (network-of (S .grid) accepted r) ∙ (rw (r .outlet-first, e) (basin-labels S (basin (S .grid) (passed-on (S .grid) accepted)) labels room))
+  -- the labels that a basin's river gets are those of the sheet
+  pub labels-written : (labels : List ℕ) {labels′ labels″ : List ℕ} → cells (S .grid) ≤ length labels → labels′ ≡ written (replicate (cells (S .grid)) 0) labels
+      → ((n : NetworkOf cell size areas (split S) (least S))
+      → labels″ ≡ relabelled (holds (n .network) (river (n .network) (getD cell 0 0))) (λ c. number (label (n .network) (S .depth) (river (n .network) (getD cell 0 0)) c)) labels′)
+      → labels″ ≡ written (labelsOf S) labels
+  unfolding network-of
+  labels-written labels room e f =
+      f network-of ∙ (rw (r .outlet-first, e) (basin-labels S (the-basin S accepted) labels room))
 
 -- ---- the work places
 pub cleared : (n : ℕ) (old : List ℕ) {work : List ℕ} → work ≡ written (replicate (8 * n) 0) old → 8 * n ≤ length old → Cleared n work

@@ -50,7 +50,7 @@ fn write_labels(
 )
     requires { ⌜ Fitting (sheet rows cols depth (now dirs)) (lent (now areas) (now labels) (now work)) ⌝ }
     requires { ⌜ Inspected (grid rows cols (now dirs)) (now work) queued ⌝ }
-    ensures areas { λ _. ⌜ now (areas .exit) ≡ written (areasOf (grid rows cols (now (dirs .entry)))) (now (areas .entry)) ⌝ }
+    ensures areas { λ _. ⌜ now (areas .exit) ≡ written (areasOf (sheet rows cols depth (now (dirs .entry)))) (now (areas .entry)) ⌝ }
     ensures labels { λ _. ⌜ now (labels .exit) ≡ written (labelsOf (sheet rows cols depth (now (dirs .entry)))) (now (labels .entry)) ⌝ }
 {
     drainage::measure::measure(dirs, rows, cols, work, queued, areas);
@@ -85,7 +85,7 @@ fn write_if_accepted(
 )
     requires { ⌜ Fitting (sheet rows cols depth (now dirs)) (lent (now areas) (now labels) (now work)) ⌝ }
     requires { ⌜ (found .outcome ≡ Outcome.Accepted → Inspected (grid rows cols (now dirs)) (now work) (found .queued)) ⌝ }
-    ensures areas { λ _. ⌜ now (areas .exit) ≡ ifAccepted (found .outcome) (areasOf (grid rows cols (now (dirs .entry)))) (now (areas .entry)) ⌝ }
+    ensures areas { λ _. ⌜ now (areas .exit) ≡ ifAccepted (found .outcome) (areasOf (sheet rows cols depth (now (dirs .entry)))) (now (areas .entry)) ⌝ }
     ensures labels { λ _. ⌜ now (labels .exit) ≡ ifAccepted (found .outcome) (labelsOf (sheet rows cols depth (now (dirs .entry)))) (now (labels .entry)) ⌝ }
 {
     let outcome = found.outcome;
@@ -108,7 +108,7 @@ fn label_fitting(
 ) -> Outcome
     requires { ⌜ Fitting (sheet rows cols depth (now dirs)) (lent (now areas) (now labels) (now work)) ⌝ }
     ensures outcome { λ r. ⌜ r ≡ outcomeOn (grid rows cols (now (dirs .entry))) ⌝ }
-    ensures areas { λ r. ⌜ now (areas .exit) ≡ ifAccepted r (areasOf (grid rows cols (now (dirs .entry)))) (now (areas .entry)) ⌝ }
+    ensures areas { λ r. ⌜ now (areas .exit) ≡ ifAccepted r (areasOf (sheet rows cols depth (now (dirs .entry)))) (now (areas .entry)) ⌝ }
     ensures labels { λ r. ⌜ now (labels .exit) ≡ ifAccepted r (labelsOf (sheet rows cols depth (now (dirs .entry)))) (now (labels .entry)) ⌝ }
     ensures work { λ _. ⌜ now (work .exit) ≡ replicate (8 * (rows * cols)) 0 ⌝ }
 {

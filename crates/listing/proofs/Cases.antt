@@ -40,7 +40,7 @@ unfolding listingText
 sample-listing = refl
 
 -- from its areas and its labels at depth 2 as they are defined
-pub sample-defined : listingText sampleA (areasOf sampleA) (labelsOf (record { grid = sampleA; depth = 2 })) ≡ sampleLines
+pub sample-defined : listingText sampleA (areasOf (record { grid = sampleA; depth = 2 })) (labelsOf (record { grid = sampleA; depth = 2 })) ≡ sampleLines
 unfolding listingText areasOf labelsOf
 sample-defined = refl
 

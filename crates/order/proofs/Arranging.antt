@@ -7,12 +7,10 @@ use native.Mathlib.Nat.{mul-le-mul-right}
 use native.Mathlib.Omega.{arith}
 use lib.ListN.{length, getD, take, drop, length-drop}
 use lib.Seq.{length-take-le, getD-take, getD-drop}
-use borrow.Author.Tests.{le-leb}
 use Rattle.sheet.specs.Sheet.{Grid, cells, inside}
-use Rattle.sheet.specs.River.{network}
+use Rattle.sheet.specs.River.{networkBy}
 use Rattle.sheet.specs.Label.{outlet}
 use Rattle.sheet.proofs.Cells.{cells-most, inside-lt}
-use Rattle.claims.proofs.GridLaws.{area-least}
 use Rattle.upstream.specs.Work.{sizesPart, cellsPart, orderedSizesPart, placed, sizeAt}
 use Rattle.drainage.specs.Total.{size}
 use Rattle.order.specs.Places.{positionAt, cellsIn, sizesIn, Surveyed, Placed, Entered, Arranged}
@@ -21,7 +19,7 @@ use Rattle.order.proofs.Layouts.{Filled, layout, layout-of}
 use Rattle.order.proofs.Sizes.{outlet-size}
 use Rattle.order.proofs.Queued.{whole, queue-most, place-of, queue-kept, preorder}
 
-module _ {G : Grid} {areas work now later : List ℕ} {queued : ℕ} (W : Surveyed G areas work queued) (same : length now ≡ length work) (P : Placed G work now queued queued)
+module _ {G : Grid} {areas work now later : List ℕ} {queued : ℕ} (W : Surveyed G areas work queued) (same : length now ≡ length work) (P : Placed G areas work now queued queued)
     (same′ : length later ≡ length now) (E : Entered (cells G) now later queued) where
   abbrev n : ℕ
   n = cells G
@@ -39,7 +37,7 @@ module _ {G : Grid} {areas work now later : List ℕ} {queued : ℕ} (W : Survey
   below c i =
       let q = place-of W c i in
       let b = rw (q .2) at (P .within (q .0) (q .1)) in
-      omega (arith, b, some (whole W) (preorder W same P) c i)
+      omega (arith, b, some (whole W 0 0) (preorder W same P 0 0) c i)
 
   filled : Filled (λ c. inside G c ≡ true) (outlet G) (size G) (positionAt n now) (cellsIn n later queued) (sizesIn n later queued)
   filled = record {
@@ -57,16 +55,16 @@ module _ {G : Grid} {areas work now later : List ℕ} {queued : ℕ} (W : Survey
   }
 
   pub arranged : Arranged G areas later queued
-  unfolding network
+  unfolding networkBy
   arranged =
-      let B = whole W in
+      let B = whole W 0 0 in
       let F = filled in
       let i = B .outlet-inside in
       record {
         some = omega (arith, below (outlet G) i);
         long = part-length cellsPart (omega arith);
-        layout = layout B (preorder W same P) F (cells-most (W .measured .sized .rows-most) (W .measured .sized .cols-most));
-        layout-of = layout-of B (preorder W same P) F areas 1 (λ c j. W .measured .area-is c (inside-lt G c j)) (λ c j. sym (le-leb _ _ (area-least G c j)));
+        layout = layout B (preorder W same P 0 0) F (cells-most (W .measured .sized .rows-most) (W .measured .sized .cols-most));
+        layout-of = λ least split. layout-of (whole W least split) (preorder W same P least split) F areas least (λ c j. sym (getD-take n areas c 0 (inside-lt G c j))) (λ c j. refl);
         outlet-first = rw (P .first) at (F .cell-is (outlet G) i);
         whole = (rw (P .first) at (F .size-is (outlet G) i)) ∙ outlet-size (W .drained) (W .single);
       }

@@ -11,29 +11,36 @@ use lib.Seq.{getD-set-same, getD-set-other}
 use Rattle.sheet.specs.declared.Next.{Next}
 use Rattle.sheet.specs.declared.Next.the-variants.{Outlet, To}
 use Rattle.sheet.specs.Sheet.{Grid, cells, inside, next}
-use Rattle.sheet.specs.River.{network, donors}
+use Rattle.sheet.specs.River.{networkBy, donors}
 use Rattle.sheet.specs.Label.{outlet}
 use Rattle.sheet.proofs.Cells.{cells-most, inside-lt, next-goes, outlet-not-to}
 use Rattle.claims.specs.Basin.{Basin}
-use Rattle.claims.proofs.Basins.{lawful}
+use Rattle.claims.specs.Bounds.{sum}
 use Rattle.claims.proofs.Counts.{count-le}
 use Rattle.claims.proofs.Sheets.{outlet-is, is-outlet}
 use Rattle.upstream.specs.Work.{sizesPart, positionsPart, placed, rankOf, receiverOf, numbered, isReached, sizeAt}
 use Rattle.upstream.specs.Search.{Upstream}
 use Rattle.drainage.specs.Total.{size}
+use Rattle.order.specs.Network.{areaIn, donorsIn, networkIn}
 use Rattle.order.specs.Positions.{Consecutive, Preorder}
 use Rattle.order.specs.Places.{positionAt, Surveyed, Standing, DonorsPlaced, Placed, Apart}
 use Rattle.order.proofs.Intervals.{between, moved}
 use Rattle.order.proofs.Preorder.{some, same-cell}
 use Rattle.order.proofs.Sizes.{basin, size-adds, outlet-size}
+use Rattle.order.proofs.Gathering.{donor-goes, goes-donor}
 use Rattle.order.proofs.Entering.{step-cases}
 
 module _ {G : Grid} {areas work : List ℕ} {queued : ℕ} (W : Surveyed G areas work queued) where
   up : Upstream G work queued
   up = W .drained .searched .upstream
 
-  pub whole : Basin (network G) (λ c. inside G c ≡ true) (outlet G)
-  whole = basin (W .drained) (W .single)
+  pub whole : (least split : ℕ) → Basin (networkIn G areas least split) (λ c. inside G c ≡ true) (outlet G)
+  whole = basin (W .drained) (W .single) (areaIn (cells G) areas)
+
+  -- a cell's size is one more than those of its donors together
+  adds : (c : ℕ) → inside G c ≡ true → size G c ≡ suc (sum (size G) (donorsIn G areas c))
+  unfolding donors networkBy
+  adds c i = size-adds G (areaIn (cells G) areas) 0 0 (whole 0 0) c i
 
   pub queue-inside : (i : ℕ) → i < queued → inside G (placed work i) ≡ true
   queue-inside i l = up .is-inside i l
@@ -57,23 +64,15 @@ module _ {G : Grid} {areas work : List ℕ} {queued : ℕ} (W : Surveyed G areas
       let b = up .queue .item i l .before (placed work j) (up .receiver i l ∙ ap numbered e ∙ sym (add-one _)) in
       omega (arith, b .earlier, up .queue .item j h .rank)
 
-  goes : (c u : ℕ) → List·Memᴰ u (donors (network G) c) → next G u ≡ To c
-  unfolding network
-  goes c u m = lawful whole .donor-steps c u m
-
-  is-donor : (c u : ℕ) → next G u ≡ To c → List·Memᴰ u (donors (network G) c)
-  unfolding network
-  is-donor c u e = lawful whole .donors-complete c u e
-
-  pub placed-none : Placed G work (set work (positionsPart * cells G + outlet G) 0) queued 0
+  pub placed-none : Placed G areas work (set work (positionsPart * cells G + outlet G) 0) queued 0
   placed-none = record {
     kept = λ j l. getD-set-other work (positionsPart * cells G + outlet G) j 0 0 (λ e. omega arith);
-    first = getD-set-same work (positionsPart * cells G + outlet G) 0 0 (omega (arith, W .room, inside-lt G (outlet G) (whole .outlet-inside)));
+    first = getD-set-same work (positionsPart * cells G + outlet G) 0 0 (omega (arith, W .room, inside-lt G (outlet G) (whole 0 0 .outlet-inside)));
     follow = λ j l. absurd (omega arith);
     within = λ j l. absurd (omega arith);
   }
 
-  module _ {now : List ℕ} {i : ℕ} (P : Placed G work now queued i) (l : i < queued) where
+  module _ {now : List ℕ} {i : ℕ} (P : Placed G areas work now queued i) (l : i < queued) where
     abbrev n : ℕ
     n = cells G
 
@@ -89,39 +88,39 @@ module _ {G : Grid} {areas work : List ℕ} {queued : ℕ} (W : Surveyed G areas
         let q = place-of r (next-goes G cell e .to-inside) in
         let t : next G cell ≡ To (placed work (q .0)) = rw (q .2) e in
         let j = donor-later i (q .0) l (q .1) t in
-        let b = between (P .follow (q .0) j) cell (is-donor (placed work (q .0)) cell t) in
-        omega (arith, b .upto, size-adds G whole (placed work (q .0)) (queue-inside (q .0) (q .1)), P .within (q .0) j)
+        let b = between (P .follow (q .0) j) cell (goes-donor G areas (placed work (q .0)) cell t) in
+        omega (arith, b .upto, adds (placed work (q .0)) (queue-inside (q .0) (q .1)), P .within (q .0) j)
 
     -- the queue is as it was
     cell-kept : placed now i ≡ cell
     cell-kept = P .kept i (omega (arith, queue-most))
 
-    pub standing : length now ≡ length work → Standing G now (placed now i)
+    pub standing : length now ≡ length work → Standing G areas now (placed now i)
     standing same = rw cell-kept (record {
-      basin = whole;
       is-inside = queue-inside i l;
       room = omega (arith, W .room);
       size-is = λ c h. P .kept (sizesPart * n + c) (omega arith) ∙ W .size-is c h;
       within = omega (arith, within-cell (next G cell) refl, queue-most, cells-most (W .measured .sized .rows-most) (W .measured .sized .cols-most));
+      adds = adds cell (queue-inside i l);
     })
 
-    module _ {later : List ℕ} (placing : DonorsPlaced G now later (placed now i)) where
-      D : DonorsPlaced G now later cell
+    module _ {later : List ℕ} (placing : DonorsPlaced G areas now later (placed now i)) where
+      D : DonorsPlaced G areas now later cell
       D = rw cell-kept at placing
 
       -- the position of a cell that is no donor
       stays : (u : ℕ) → (next G u ≡ To cell → ⊥) → positionAt n later u ≡ positionAt n now u
-      stays u d = D .kept (positionsPart * n + u) (λ v m e. let s : u ≡ v = omega arith in d (rw s (goes cell v m)))
+      stays u d = D .kept (positionsPart * n + u) (λ v m e. let s : u ≡ v = omega arith in d (rw s (donor-goes G areas cell v m)))
 
       queue-stays : (j : ℕ) → j < i + 1 → positionAt n later (placed work j) ≡ positionAt n now (placed work j)
       queue-stays j h = stays (placed work j) (λ e. let k = donor-later j i (omega arith) l e in omega arith)
 
-      donor-stays : (j : ℕ) → j < i → (u : ℕ) → List·Memᴰ u (donors (network G) (placed work j)) → positionAt n later u ≡ positionAt n now u
+      donor-stays : (j : ℕ) → j < i → (u : ℕ) → List·Memᴰ u (donorsIn G areas (placed work j)) → positionAt n later u ≡ positionAt n now u
       donor-stays j h u m =
-          let d = goes (placed work j) u m in
+          let d = donor-goes G areas (placed work j) u m in
           stays u (λ e. let s : placed work j ≡ cell = cc in let k = queue-once j i (omega arith) l s in omega arith)
 
-      pub placed-more : Placed G work later queued (i + 1)
+      pub placed-more : Placed G areas work later queued (i + 1)
       placed-more = record {
         kept = λ j h. D .kept j (λ u m e. omega arith) ∙ P .kept j h;
         first = stays (outlet G) (λ e. outlet-not-to (sym ((outlet-is G (outlet G) (W .single .is-outlet)) .1) ∙ e)) ∙ P .first;
@@ -135,10 +134,11 @@ module _ {G : Grid} {areas work : List ℕ} {queued : ℕ} (W : Surveyed G areas
 
 -- ---- all queued cells have their positions
 
-module _ {G : Grid} {areas work now : List ℕ} {queued : ℕ} (W : Surveyed G areas work queued) (same : length now ≡ length work) (P : Placed G work now queued queued) where
-  pub preorder : Preorder (network G) (λ c. inside G c ≡ true) (size G) (positionAt (cells G) now)
-  preorder = record {
-    adds = size-adds G (whole W);
+module _ {G : Grid} {areas work now : List ℕ} {queued : ℕ} (W : Surveyed G areas work queued) (same : length now ≡ length work) (P : Placed G areas work now queued queued) where
+  pub preorder : (least split : ℕ) → Preorder (networkIn G areas least split) (λ c. inside G c ≡ true) (size G) (positionAt (cells G) now)
+  unfolding donors networkBy
+  preorder least split = record {
+    adds = adds W;
     follow = λ c i. let q = place-of W c i in rw (q .2) at (P .follow (q .0) (q .1));
   }
 
@@ -152,7 +152,7 @@ module _ {G : Grid} {areas work now : List ℕ} {queued : ℕ} (W : Surveyed G a
     room = omega (arith, W .room);
     most = queue-most W;
     on = λ i l. rw (queue-kept i l) (inside-lt G _ (queue-inside W i l));
-    below = λ i l. rw (queue-kept i l) (omega (arith, P .within i l, queue-most W, some (whole W) preorder (placed work i) (queue-inside W i l)));
+    below = λ i l. rw (queue-kept i l) (omega (arith, P .within i l, queue-most W, some (whole W 0 0) (preorder 0 0) (placed work i) (queue-inside W i l)));
     apart = λ i j l h e.
-        queue-once W i j l h (same-cell (whole W) preorder (placed work i) (placed work j) (queue-inside W i l) (queue-inside W j h) (rw (queue-kept i l, queue-kept j h) at e));
+        queue-once W i j l h (same-cell (whole W 0 0) (preorder 0 0) (placed work i) (placed work j) (queue-inside W i l) (queue-inside W j h) (rw (queue-kept i l, queue-kept j h) at e));
   }

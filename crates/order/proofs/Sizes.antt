@@ -1,24 +1,25 @@
 -- The cells of a drained sheet with one outlet are a basin; laws of their sizes.
-use mathlib.Core.Path.{_≡_, refl, sym, _∙_, ap₂}
+use mathlib.Core.Path.{_≡_, refl, sym, _∙_}
 use mathlib.Core.Bool.{Bool, true, false, cond, true≢false}
-use mathlib.Core.List.{List, [], _∷_, List·Memᴰ, List·Memᴰ·head, List·Memᴰ·tail}
-use Prim.Native.Nat.{ℕ, zero, suc, _+_, _≤_, _<_}
+use mathlib.Core.List.{List}
+use Prim.Native.Nat.{ℕ, zero, suc, _≤_, _<_}
 use native.Mathlib.Omega.{arith}
 use borrow.Author.Tests.{lt-ltb}
 use Rattle.sheet.specs.Sheet.{Grid, cells, inside, next}
 use Rattle.sheet.specs.Water.{passes, reachesOutlet}
-use Rattle.sheet.specs.Area.{count, drainsInto}
-use Rattle.sheet.specs.River.{network, donors}
+use Rattle.sheet.specs.Area.{count, sumOver, drainsInto}
+use Rattle.sheet.specs.River.{networkBy, donors}
 use Rattle.sheet.specs.Label.{outlet}
 use Rattle.sheet.specs.Refusal.{both}
 use Rattle.sheet.proofs.Cells.{inside-lt, next-goes}
 use Rattle.claims.specs.Basin.{Basin}
 use Rattle.claims.specs.Bounds.{sum}
 use Rattle.claims.proofs.Basins.{lawful, drain}
-use Rattle.claims.proofs.Fuel.{reaches-ends}
+use Rattle.claims.proofs.Counts.{count-some}
+use Rattle.claims.proofs.Sums.{count-sum}
 use Rattle.claims.proofs.Areas.{area-sum}
-use Rattle.claims.proofs.GridLaws.{passes-is}
-use Rattle.claims.proofs.Sheets.{outlet-is, is-outlet}
+use Rattle.claims.proofs.GridLaws.{passes-is, drains-itself, sum-same}
+use Rattle.claims.proofs.Sheets.{one-basin}
 use Rattle.upstream.specs.Work.{isReached}
 use Rattle.upstream.specs.Search.{Drained, SingleOutlet}
 use Rattle.drainage.specs.Total.{size}
@@ -27,11 +28,6 @@ count-same : (n : ℕ) (f g : ℕ → Bool) → ((c : ℕ) → c < n → f c ≡
 unfolding count
 count-same zero f g h = refl
 count-same (suc n) f g h = rw (h n (omega arith), count-same n f g (λ c l. h c (omega arith)))
-
-sum-same : (f g : ℕ → ℕ) (us : List ℕ) → ((u : ℕ) → List·Memᴰ u us → f u ≡ g u) → sum f us ≡ sum g us
-unfolding sum
-sum-same f g [] h = refl
-sum-same f g (u ∷ us) h = ap₂ _+_ (h u (List·Memᴰ·head refl)) (sum-same f g us (λ x m. h x (List·Memᴰ·tail m)))
 
 module _ {G : Grid} {work : List ℕ} {queued : ℕ} (D : Drained G work queued) where
   reached : (c : ℕ) → inside G c ≡ true → isReached (cells G) work c ≡ true
@@ -45,17 +41,8 @@ module _ {G : Grid} {work : List ℕ} {queued : ℕ} (D : Drained G work queued)
       go false b e = absurd (true≢false (sym e))
 
   module _ (S : SingleOutlet G work) where
-    pub basin : Basin (network G) (λ c. inside G c ≡ true) (outlet G)
-    unfolding network
-    basin = record {
-      small = inside-lt G;
-      from-inside = λ u r e. next-goes G u e .from-inside;
-      to-inside = λ u r e. next-goes G u e .to-inside;
-      outlet-inside = (outlet-is G (outlet G) (S .is-outlet)) .0;
-      one-outlet = λ u i e. S .only u (is-outlet G u i e);
-      ends = λ u i. (cells G, reaches-ends (next G) (cells G) u (reaches u i));
-      upwards = λ u v h k. refl;
-    }
+    pub basin : (area : ℕ → ℕ) (least split : ℕ) → Basin (networkBy G area least split) (λ c. inside G c ≡ true) (outlet G)
+    basin = one-basin G reaches (S .is-outlet) (S .only)
 
 module _ (G : Grid) where
   size-inside : (c : ℕ) → inside G c ≡ true → size G c ≡ count (cells G) (drainsInto G c)
@@ -65,18 +52,22 @@ module _ (G : Grid) where
       go : (b : Bool) → b ≡ true → cond b (count (cells G) (drainsInto G c)) 0 ≡ count (cells G) (drainsInto G c)
       go b e = rw e
 
-  module _ (B : Basin (network G) (λ c. inside G c ≡ true) (outlet G)) where
+  pub size-some : (c : ℕ) → inside G c ≡ true → 1 ≤ size G c
+  size-some c i = rw (size-inside c i) (count-some (cells G) (drainsInto G c) c (drains-itself G c i) (inside-lt G c i))
+
+  module _ (area : ℕ → ℕ) (least split : ℕ) (B : Basin (networkBy G area least split) (λ c. inside G c ≡ true) (outlet G)) where
     -- a cell's size is one more than those of its donors together
-    pub size-adds : (c : ℕ) → inside G c ≡ true → size G c ≡ suc (sum (size G) (donors (network G) c))
-    unfolding network drainsInto
+    pub size-adds : (c : ℕ) → inside G c ≡ true → size G c ≡ suc (sum (size G) (donors (networkBy G area least split) c))
+    unfolding networkBy drainsInto
     size-adds c i =
-        let s = area-sum (lawful B) (inside G) c i (inside-lt G c i) in
-        let d = sum-same (size G) (λ u. count (cells G) (drainsInto G u)) (donors (network G) c) (λ u m. size-inside u (next-goes G u (lawful B .donor-steps c u m) .from-inside)) in
-        size-inside c i ∙ s ∙ (rw d refl)
+        let s = area-sum (lawful B) (inside G) (λ q. 1) c i (inside-lt G c i) in
+        let d = sum-same (size G) (λ u. sumOver (cells G) (drainsInto G u) (λ q. 1)) (donors (networkBy G area least split) c)
+        (λ u m. size-inside u (next-goes G u (lawful B .donor-steps c u m) .from-inside) ∙ count-sum (cells G) (drainsInto G u)) in
+        size-inside c i ∙ count-sum (cells G) (drainsInto G c) ∙ s ∙ (rw d (omega arith))
 
     -- all inside cells drain into the outlet
     drains-all : (c : ℕ) → inside G c ≡ drainsInto G (outlet G) c
-    unfolding network drainsInto
+    unfolding networkBy drainsInto
     drains-all c = go (inside G c) refl
       where
         go : (b : Bool) → inside G c ≡ b → b ≡ cond b (passes (next G) (cells G) c (outlet G)) false
@@ -86,9 +77,9 @@ module _ (G : Grid) where
 -- the outlet's size is the number of queued cells
 pub outlet-size : {G : Grid} {work : List ℕ} {queued : ℕ} → Drained G work queued → SingleOutlet G work → size G (outlet G) ≡ queued
 outlet-size {G} {work} {queued} D S =
-    let B = basin D S in
+    let B = basin D S (size G) 0 0 in
     size-inside G (outlet G) (B .outlet-inside)
-    ∙ count-same (cells G) (drainsInto G (outlet G)) (isReached (cells G) work) (λ c l. sym (drains-all G B c) ∙ inside-reached c l)
+    ∙ count-same (cells G) (drainsInto G (outlet G)) (isReached (cells G) work) (λ c l. sym (drains-all G (size G) 0 0 B c) ∙ inside-reached c l)
     ∙ sym (D .searched .upstream .queue .counted)
   where
     inside-reached : (c : ℕ) → c < cells G → inside G c ≡ isReached (cells G) work c

@@ -7,44 +7,43 @@ use Prim.Native.Nat.{ℕ, suc, _+_, _*_, _≤_, _<_, _^_}
 use native.Mathlib.Omega.{arith}
 use lib.ListN.{length, getD}
 use Rattle.sheet.specs.Sheet.{Grid, cells, inside}
-use Rattle.sheet.specs.River.{network, donors}
 use Rattle.sheet.proofs.Cells.{cells-most, inside-lt, next-goes, next-from-lt}
 use Rattle.claims.specs.Bounds.{sum}
-use Rattle.claims.proofs.Basins.{lawful}
 use Rattle.upstream.specs.Work.{sizeAt}
 use Rattle.drainage.specs.Total.{size}
 use Rattle.rivers.specs.Cut.{keyIn}
+use Rattle.order.specs.Network.{donorsIn}
 use Rattle.order.specs.Keys.{cellOf}
 use Rattle.order.specs.Positions.{Consecutive, none}
 use Rattle.order.specs.Places.{positionAt, positioned, Measured, Fitting, Standing, DonorsPlaced}
-use Rattle.order.proofs.Sizes.{size-adds}
+use Rattle.order.proofs.Sizes.{size-some}
 use Rattle.order.proofs.Gathering.{key-cell, donor-goes, donors-ascending}
 use Rattle.order.proofs.Placing.{positioned-kept, positioned-follow, sum-keys}
 
-module _ {G : Grid} {work : List ℕ} {cell : ℕ} (S : Standing G work cell) where
+module _ {G : Grid} {areas work : List ℕ} {cell : ℕ} (S : Standing G areas work cell) where
   -- a cell of size 1 has no donors
-  no-donors : (us : List ℕ) → donors (network G) cell ≡ us → size G cell ≡ 1 → donors (network G) cell ≡ []
+  no-donors : (us : List ℕ) → donorsIn G areas cell ≡ us → size G cell ≡ 1 → donorsIn G areas cell ≡ []
   unfolding sum
   no-donors [] e s = e
   no-donors (u ∷ us) e s =
-      let a : size G cell ≡ suc (sum (size G) (u ∷ us)) = rw e at (size-adds G (S .basin) cell (S .is-inside)) in
-      let i = S .basin .from-inside u cell (lawful (S .basin) .donor-steps cell u (rw e (List·Memᴰ·head refl))) in
-      absurd (omega (arith, a, size-adds G (S .basin) u i))
+      let a : size G cell ≡ suc (sum (size G) (u ∷ us)) = rw e at (S .adds) in
+      let i = next-goes G u (donor-goes G areas cell u (rw e (List·Memᴰ·head refl))) .from-inside in
+      absurd (omega (arith, a, size-some G u i))
 
-  pub none-placed : sizeAt (cells G) work cell ≡ 1 → DonorsPlaced G work work cell
+  pub none-placed : sizeAt (cells G) work cell ≡ 1 → DonorsPlaced G areas work work cell
   none-placed e =
       let d = no-donors _ refl (sym (S .size-is cell (inside-lt G cell (S .is-inside))) ∙ e) in
       record { follow = rw d none; kept = λ j h. refl }
 
-module _ {G : Grid} {areas work : List ℕ} {cell : ℕ} (M : Measured G areas) (S : Standing G work cell) where
+module _ {G : Grid} {areas work : List ℕ} {cell : ℕ} (M : Measured G areas) (S : Standing G areas work cell) where
   abbrev us : List ℕ
-  us = donors (network G) cell
+  us = donorsIn G areas cell
 
   most : cells G ≤ 65536
   most = cells-most (M .sized .rows-most) (M .sized .cols-most)
 
   on : (u : ℕ) → List·Memᴰ u us → u < cells G
-  on u m = next-from-lt G u (donor-goes M cell (S .is-inside) u m)
+  on u m = next-from-lt G u (donor-goes G areas cell u m)
 
   key-on : (x : ℕ) → List·Memᴰ x (map (keyIn areas) us) → (u : ℕ) × List·Memᴰ u us × (cellOf x ≡ u)
   key-on x m =
@@ -56,10 +55,10 @@ module _ {G : Grid} {areas work : List ℕ} {cell : ℕ} (M : Measured G areas) 
     small = most;
     room = S .room;
     on = λ x m. let k = key-on x m in omega (arith, k .2, on (k .0) (k .1));
-    fits = omega (arith, sum-keys (cells G) areas (size G) most us work on (S .size-is), size-adds G (S .basin) cell (S .is-inside), S .within);
+    fits = omega (arith, sum-keys (cells G) areas (size G) most us work on (S .size-is), S .adds, S .within);
   }
 
-  pub donors-placed : DonorsPlaced G work (positioned (cells G) (positionAt (cells G) work cell + 1) (map (keyIn areas) us) work) cell
+  pub donors-placed : DonorsPlaced G areas work (positioned (cells G) (positionAt (cells G) work cell + 1) (map (keyIn areas) us) work) cell
   donors-placed = record {
     follow = positioned-follow (cells G) areas (size G) most 0 (positionAt (cells G) work cell + 1) us work on (donors-ascending M cell (S .is-inside)) (S .size-is) (S .room);
     kept = λ j h. positioned-kept (cells G) _ (map (keyIn areas) us) work j (λ x m. let k = key-on x m in rw (k .2) (h (k .0) (k .1)));

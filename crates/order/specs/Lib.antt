@@ -1,3 +1,4 @@
+pub mod Network
 pub mod Positions
 pub mod Keys
 pub mod Places

@@ -3,18 +3,16 @@ use mathlib.Core.Path.{_≡_}
 use mathlib.Core.Bool.{true}
 use mathlib.Core.List.{List, [], _∷_, List·Memᴰ}
 use mathlib.Core.Logic.{_≢_}
-use Prim.Native.Nat.{ℕ, _+_, _*_, _<_, _≤_, _^_}
+use Prim.Native.Nat.{ℕ, suc, _+_, _*_, _<_, _≤_, _^_}
 use lib.ListN.{getD, length, set, take, drop}
 use Rattle.sheet.specs.Sheet.{Grid, Sized, cells, inside}
-use Rattle.sheet.specs.Area.{area}
-use Rattle.sheet.specs.River.{network, donors}
 use Rattle.sheet.specs.Label.{outlet}
-use Rattle.claims.specs.Basin.{Basin}
 use Rattle.claims.specs.Bounds.{sum}
 use Rattle.upstream.specs.Work.{positionsPart, cellsPart, orderedSizesPart, placed, sizeAt}
 use Rattle.upstream.specs.Search.{Coded, Drained, SingleOutlet}
 use Rattle.drainage.specs.Total.{size}
 use Rattle.rivers.specs.Layout.{Layout, LayoutOf}
+use Rattle.order.specs.Network.{donorsIn, networkIn}
 use Rattle.order.specs.Keys.{cellOf}
 use Rattle.order.specs.Positions.{Consecutive}
 
@@ -32,12 +30,11 @@ sizesIn n work queued = take queued (drop (orderedSizesPart * n) work)
 
 -- ---- what is given
 
--- a sheet whose cells are a basin, with the areas of its cells
+-- a sheet whose bytes are codes, with an area for each cell
 pub record Measured (G : Grid) (areas : List ℕ) : Type 0 where
   pub sized : Sized (G .rows) (G .cols) (G .dirs)
   pub coded : Coded G
   pub room : cells G ≤ length areas
-  pub area-is : (c : ℕ) → c < cells G → getD areas c 0 ≡ area G c
 
 -- a search that reached every inside cell from one outlet, areas and sizes
 pub record Surveyed (G : Grid) (areas work : List ℕ) (queued : ℕ) : Type 0 where
@@ -62,23 +59,23 @@ pub record Fitting (n at : ℕ) (keys work : List ℕ) : Type 0 where
   pub fits : at + sum (λ x. sizeAt n work (cellOf x)) keys < 2 ^ 32
 
 -- an inside cell has its position
-pub record Standing (G : Grid) (work : List ℕ) (cell : ℕ) : Type 0 where
-  pub basin : Basin (network G) (λ c. inside G c ≡ true) (outlet G)
+pub record Standing (G : Grid) (areas work : List ℕ) (cell : ℕ) : Type 0 where
   pub is-inside : inside G cell ≡ true
   pub room : 8 * cells G ≤ length work
   pub size-is : (c : ℕ) → c < cells G → sizeAt (cells G) work c ≡ size G c
   pub within : positionAt (cells G) work cell + size G cell ≤ 65536
+  pub adds : size G cell ≡ suc (sum (size G) (donorsIn G areas cell))
 
 -- the donors of a cell have got their positions, and no other place is written
-pub record DonorsPlaced (G : Grid) (work work′ : List ℕ) (cell : ℕ) : Type 0 where
-  pub follow : Consecutive (size G) (positionAt (cells G) work′) (positionAt (cells G) work cell + 1) (donors (network G) cell)
-  pub kept : (j : ℕ) → ((u : ℕ) → List·Memᴰ u (donors (network G) cell) → j ≢ positionsPart * cells G + u) → getD work′ j 0 ≡ getD work j 0
+pub record DonorsPlaced (G : Grid) (areas work work′ : List ℕ) (cell : ℕ) : Type 0 where
+  pub follow : Consecutive (size G) (positionAt (cells G) work′) (positionAt (cells G) work cell + 1) (donorsIn G areas cell)
+  pub kept : (j : ℕ) → ((u : ℕ) → List·Memᴰ u (donorsIn G areas cell) → j ≢ positionsPart * cells G + u) → getD work′ j 0 ≡ getD work j 0
 
 -- the donors of the first i cells of the queue have their positions, and so has the outlet
-pub record Placed (G : Grid) (work work′ : List ℕ) (queued i : ℕ) : Type 0 where
+pub record Placed (G : Grid) (areas work work′ : List ℕ) (queued i : ℕ) : Type 0 where
   pub kept : (j : ℕ) → j < positionsPart * cells G → getD work′ j 0 ≡ getD work j 0
   pub first : positionAt (cells G) work′ (outlet G) ≡ 0
-  pub follow : (j : ℕ) → j < i → Consecutive (size G) (positionAt (cells G) work′) (positionAt (cells G) work′ (placed work j) + 1) (donors (network G) (placed work j))
+  pub follow : (j : ℕ) → j < i → Consecutive (size G) (positionAt (cells G) work′) (positionAt (cells G) work′ (placed work j) + 1) (donorsIn G areas (placed work j))
   pub within : (j : ℕ) → j < i → positionAt (cells G) work′ (placed work j) + size G (placed work j) ≤ queued
 
 -- ---- cells and sizes by position
@@ -109,6 +106,6 @@ pub record Arranged (G : Grid) (areas work : List ℕ) (queued : ℕ) : Type 0 w
   pub some : 0 < queued
   pub long : length (cellsIn (cells G) work queued) ≡ queued
   pub layout : Layout (cellsIn (cells G) work queued) (sizesIn (cells G) work queued) (cells G)
-  pub layout-of : LayoutOf (network G) (cellsIn (cells G) work queued) (sizesIn (cells G) work queued) areas 4 1
+  pub layout-of : (least split : ℕ) → LayoutOf (networkIn G areas least split) (cellsIn (cells G) work queued) (sizesIn (cells G) work queued) areas split least
   pub outlet-first : getD (cellsIn (cells G) work queued) 0 0 ≡ outlet G
   pub whole : getD (sizesIn (cells G) work queued) 0 0 ≡ queued

@@ -73,10 +73,10 @@ end-accepted (TakingCells z c) e = (z, refl)
 end-accepted (AtEnd z) e = let y : _≡_ {A = ℕ} 0 1 = cc in absurd (omega arith)
 
 -- an accepted sheet is listed with the areas and labels of the definition
-listed-text : (S : Sheet) (L : Lent) → outcome S L ≡ Labelled → listingText (S .grid) (lentAfter S L .areas) (lentAfter S L .labels) ≡ listingText (S .grid) (areasOf (S .grid)) (labelsOf S)
+listed-text : (S : Sheet) (L : Lent) → outcome S L ≡ Labelled → listingText (S .grid) (lentAfter S L .areas) (lentAfter S L .labels) ≡ listingText (S .grid) (areasOf S) (labelsOf S)
 unfolding lentAfter areasOf labelsOf
 listed-text S L e =
-    rw e (listing-written (S .grid) (areasOf (S .grid)) (labelsOf S) (L .areas) (L .labels) (length-list (area (S .grid)) 0 (cells (S .grid))) (length-list (labelOf S) 0 (cells (S .grid))))
+    rw e (listing-written (S .grid) (areasOf S) (labelsOf S) (L .areas) (L .labels) (length-list (area S) 0 (cells (S .grid))) (length-list (labelOf S) 0 (cells (S .grid))))
 
 module _ (dirs : List ℕ) (L : Lent) (bytes : List ℕ) (i : Intake) (d : List ℕ) (takes : Takes newIntake dirs (linesOf bytes) i d) where
   sheet-ending : (z : Sizes) → endTaken i ≡ accepted (AtEnd z) → (o : LabelOutcome) → outcome (sheet (z .rows) (z .cols) (z .depth) d) L ≡ o → Ending dirs L bytes (reportText (Ended (record { stage = AtEnd z })) d L)

@@ -17,7 +17,7 @@ use Rattle.sheet.proofs.Digits.{number-bound}
 use Rattle.intake.specs.declared.Intake.{Intake}
 use Rattle.intake.proofs.Laws.{line-length}
 use Rattle.claims.proofs.Counts.{count-le}
-use Rattle.claims.proofs.GridLaws.{area-most}
+use Rattle.claims.proofs.GridLaws.{area-most-cells}
 use Rattle.claims.proofs.Sheets.{accepted-passed}
 use Rattle.claims.proofs.Written.{length-list, written-at, one-to-nine, at-most-depth, depth-most}
 use Rattle.labelling.specs.Labelling.{sheet}
@@ -56,12 +56,12 @@ takes-length (takes-line {i} {j} {dirs} line e t) = takes-length t ∙ line-leng
 -- ---- the listing of an accepted sheet
 
 module _ (S : Sheet) (L : Lent) (accepted : outcome S L ≡ Labelled) where
-  area-small : cells (S .grid) ≤ 65536 → (c : ℕ) → area (S .grid) c ≤ 65536
+  area-small : cells (S .grid) ≤ 65536 → (c : ℕ) → area S c ≤ 65536
   unfolding area
   area-small most c = go (inside (S .grid) c) refl
     where
-      go : (t : Bool) → inside (S .grid) c ≡ t → area (S .grid) c ≤ 65536
-      go true e = omega (arith, area-most (S .grid) c e, count-le (cells (S .grid)) (inside (S .grid)))
+      go : (t : Bool) → inside (S .grid) c ≡ t → area S c ≤ 65536
+      go true e = omega (arith, area-most-cells S c e, count-le (cells (S .grid)) (inside (S .grid)))
       go false e = rw e (omega arith)
 
   label-small : (c : ℕ) → labelOf S c < 10 ^ 18
@@ -74,14 +74,14 @@ module _ (S : Sheet) (L : Lent) (accepted : outcome S L ≡ Labelled) where
           rw e (omega (arith, number-bound (labelDigits S c) (one-to-nine S L accepted c e), pow-le-pow-right {n = 10} (omega arith) few))
       go false e = rw e (omega arith)
 
-  pub listed-most : length (listingText (S .grid) (areasOf (S .grid)) (labelsOf S)) ≤ 19 + cells (S .grid) * 33
+  pub listed-most : length (listingText (S .grid) (areasOf S) (labelsOf S)) ≤ 19 + cells (S .grid) * 33
   unfolding areasOf labelsOf
   listed-most =
       let n = cells (S .grid) in
       let most = rows-cols-most (S .grid .rows) (S .grid .cols) (accepted-passed S L accepted .sizes) in
-      rw (← listing-written (S .grid) (areasOf (S .grid)) (labelsOf S) [] [] (length-list (area (S .grid)) 0 n) (length-list (labelOf S) 0 n))
-      (listing-most-18-digits (S .grid) (written (areasOf (S .grid)) []) (written (labelsOf S) []) (most .0) (most .1)
-      (λ c l. rw (written-at (area (S .grid)) n c [] l) (area-small (cells-most (most .0) (most .1)) c))
+      rw (← listing-written (S .grid) (areasOf S) (labelsOf S) [] [] (length-list (area S) 0 n) (length-list (labelOf S) 0 n))
+      (listing-most-18-digits (S .grid) (written (areasOf S) []) (written (labelsOf S) []) (most .0) (most .1)
+      (λ c l. rw (written-at (area S) n c [] l) (area-small (cells-most (most .0) (most .1)) c))
       (λ c l. rw (written-at (labelOf S) n c [] l) (label-small c)))
 
 -- ---- the report

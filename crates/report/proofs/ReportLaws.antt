@@ -47,7 +47,7 @@ module _ (S : Sheet) (L : Lent) (accepted : outcome S L ≡ Labelled) where
 
   pub areas-long : cells (S .grid) ≤ length (lentAfter S L .areas)
   unfolding lentAfter areasOf
-  areas-long = written-long (areasOf (S .grid)) (L .areas) (length-list (area (S .grid)) 0 (cells (S .grid)))
+  areas-long = written-long (areasOf S) (L .areas) (length-list (area S) 0 (cells (S .grid)))
 
   pub labels-long : cells (S .grid) ≤ length (lentAfter S L .labels)
   unfolding lentAfter labelsOf

@@ -28,4 +28,4 @@ pub data Ending (dirs : List ℕ) (L : Lent) (bytes text : List ℕ) : Type 0 wh
   end-refused : (i : Intake) (d : List ℕ) (number : ℕ) → Takes newIntake dirs (linesOf bytes) i d → endTaken i .outcome ≡ Refused number → text ≡ refusalText number (suc (length (linesOf bytes))) → Ending dirs L bytes text
   labelling-refused : (i : Intake) (d : List ℕ) (z : Sizes) (number place : ℕ) → Takes newIntake dirs (linesOf bytes) i d → endTaken i ≡ accepted (Ended z) → outcome (sheet (z .rows) (z .cols) (z .depth) d) L ≡ NotLabelled number place → text ≡ refusalText number place → Ending dirs L bytes text
   -- with the areas and labels of the definition
-  listed : (i : Intake) (d : List ℕ) (z : Sizes) → Takes newIntake dirs (linesOf bytes) i d → endTaken i ≡ accepted (Ended z) → outcome (sheet (z .rows) (z .cols) (z .depth) d) L ≡ Labelled → text ≡ listingText (grid (z .rows) (z .cols) d) (areasOf (grid (z .rows) (z .cols) d)) (labelsOf (sheet (z .rows) (z .cols) (z .depth) d)) → Ending dirs L bytes text
+  listed : (i : Intake) (d : List ℕ) (z : Sizes) → Takes newIntake dirs (linesOf bytes) i d → endTaken i ≡ accepted (Ended z) → outcome (sheet (z .rows) (z .cols) (z .depth) d) L ≡ Labelled → text ≡ listingText (grid (z .rows) (z .cols) d) (areasOf (sheet (z .rows) (z .cols) (z .depth) d)) (labelsOf (sheet (z .rows) (z .cols) (z .depth) d)) → Ending dirs L bytes text

@@ -46,11 +46,11 @@ outcomeIs G n =
 unfoldable pub cases : List Case
 unfolding area network river labelOf outlet outcome flow
 cases =
-    case (area sampleA 4 ∷ []) (11 ∷ [])
-    ∷ case (mouthsAt 5 (river (network sampleA) (outlet sampleA))) (9 ∷ 10 ∷ 1 ∷ [])
+    case (area (sheet sampleA 2) 4 ∷ []) (11 ∷ [])
+    ∷ case (mouthsAt 5 (river (network (sheet sampleA 2)) (outlet sampleA))) (9 ∷ 10 ∷ 1 ∷ [])
     ∷ case (labelOf (sheet sampleA 2) 3 ∷ labelOf (sheet sampleA 2) 11 ∷ []) (92 ∷ 93 ∷ [])
     ∷ case (labelOf (sheet sampleA 1) 3 ∷ labelOf (sheet sampleA 1) 6 ∷ labelOf (sheet sampleA 1) 7 ∷ labelOf (sheet sampleA 1) 11 ∷ []) (9 ∷ 9 ∷ 9 ∷ 9 ∷ [])
-    ∷ case (area (grid 1 1 (1 ∷ [])) 0 ∷ labelOf (sheet (grid 1 1 (1 ∷ [])) 1) 0 ∷ []) (1 ∷ 0 ∷ [])
+    ∷ case (area (sheet (grid 1 1 (1 ∷ [])) 1) 0 ∷ labelOf (sheet (grid 1 1 (1 ∷ [])) 1) 0 ∷ []) (1 ∷ 0 ∷ [])
     ∷ case (outcomeIs (grid 1 2 (1 ∷ 16 ∷ [])) 2) (6 ∷ 0 ∷ [])
     ∷ case (outcomeIs (grid 1 2 (16 ∷ 1 ∷ [])) 2) (7 ∷ 1 ∷ [])
     ∷ case (answerNumber (flow 3 91 92) ∷ answerNumber (flow 3 92 91) ∷ answerNumber (flow 3 21 3) ∷ []) (1 ∷ 0 ∷ 0 ∷ [])
@@ -62,7 +62,7 @@ cases =
 unfoldable pub listing : List Case
 unfolding areasOf labelsOf
 listing =
-    case (areasOf sampleA) (0 ∷ 2 ∷ 1 ∷ 1 ∷ 11 ∷ 9 ∷ 4 ∷ 2 ∷ 1 ∷ 1 ∷ 1 ∷ 1 ∷ [])
+    case (areasOf (sheet sampleA 2)) (0 ∷ 2 ∷ 1 ∷ 1 ∷ 11 ∷ 9 ∷ 4 ∷ 2 ∷ 1 ∷ 1 ∷ 1 ∷ 1 ∷ [])
     ∷ case (labelsOf (sheet sampleA 2)) (0 ∷ 8 ∷ 8 ∷ 92 ∷ 1 ∷ 3 ∷ 91 ∷ 93 ∷ 2 ∷ 4 ∷ 6 ∷ 93 ∷ [])
     ∷ []
 

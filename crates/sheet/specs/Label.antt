@@ -93,7 +93,7 @@ outlet G = cellFound (first (isOutlet G) (cells G))
 -- the digits of an inside cell's label, cut to the depth that the sheet names
 unfoldable pub labelDigits : Sheet → ℕ → List ℕ
 unfolding network river outlet label
-labelDigits S c = label (network (S .grid)) (S .depth) (river (network (S .grid)) (outlet (S .grid))) c
+labelDigits S c = label (network S) (S .depth) (river (network S) (outlet (S .grid))) c
 
 -- "label" of a cell; outside cells have label 0
 unfoldable pub labelOf : Sheet → ℕ → ℕ
@@ -106,9 +106,9 @@ listFrom f i zero = []
 listFrom f i (suc m) = f i ∷ listFrom f (suc i) m
 
 -- the areas and the labels of all cells, in reading order
-unfoldable pub areasOf : Grid → List ℕ
+unfoldable pub areasOf : Sheet → List ℕ
 unfolding listFrom area
-areasOf G = listFrom (area G) 0 (cells G)
+areasOf S = listFrom (area S) 0 (cells (S .grid))
 
 unfoldable pub labelsOf : Sheet → List ℕ
 unfolding listFrom labelOf

@@ -121,7 +121,7 @@ ifAccepted (Refused number place) new old = old
 unfoldable pub lentAfter : Sheet → Lent → Lent
 unfolding outcome sizesFit depthFits slicesFit areasOf labelsOf
 lentAfter S L = record {
-  areas = ifAccepted (outcome S L) (areasOf (S .grid)) (L .areas);
+  areas = ifAccepted (outcome S L) (areasOf S) (L .areas);
   labels = ifAccepted (outcome S L) (labelsOf S) (L .labels);
   work = cond (both (sizesFit (S .grid .rows) (S .grid .cols)) (both (depthFits (S .depth)) (slicesFit (S .grid) L))) (written (replicate (8 * cells (S .grid)) 0) (L .work)) (L .work);
 }

@@ -1,11 +1,11 @@
 -- Document 01's rivers: the donors of a cell in order, stem cells, mouths of tributaries, and the river list.
-use mathlib.Core.Bool.{Bool, true, false, cond}
+use mathlib.Core.Bool.{Bool, false, cond}
 use mathlib.Core.List.{List, [], _∷_}
 use Prim.Native.Nat.{ℕ, zero, suc}
-use lib.Dec.{eqb}
+use lib.Dec.{eqb, leb}
 use Rattle.sheet.specs.declared.Next.{Next}
 use Rattle.sheet.specs.declared.Next.the-variants.{Outlet, To}
-use Rattle.sheet.specs.Sheet.{Grid, cells, next}
+use Rattle.sheet.specs.Sheet.{Grid, Sheet, cells, next}
 use Rattle.sheet.specs.Area.{area, heavierBy}
 
 -- what rivers, units and labels are worked out from
@@ -16,10 +16,23 @@ pub record Network : Type 0 where
   pub counted : ℕ → Bool  -- may this mouth get a digit?
   pub split : ℕ  -- how many mouths of a unit get digits, at most
 
--- the drainage network of a grid: every mouth counts, four of a unit are taken, and areas are those of the whole basin
-unfoldable pub network : Grid → Network
-unfolding next area
-network G = record { cells = cells G; next = next G; area = area G; counted = λ v. true; split = 4 }
+-- the least area of a mouth that counts: every mouth does
+unfoldable pub least : Sheet → ℕ
+least S = 1
+
+-- how many mouths of a unit are taken, at most
+unfoldable pub split : Sheet → ℕ
+split S = 4
+
+-- the drainage network of a grid by the areas of its cells
+unfoldable pub networkBy : Grid → (ℕ → ℕ) → ℕ → ℕ → Network
+unfolding next
+networkBy G area least split = record { cells = cells G; next = next G; area = area; counted = λ v. leb least (area v); split = split }
+
+-- the drainage network of a sheet; areas are those of the whole basin
+unfoldable pub network : Sheet → Network
+unfolding area least split networkBy
+network S = networkBy (S .grid) (area S) (least S) (split S)
 
 abbrev pub heavier : Network → ℕ → ℕ → Bool
 heavier N u v = heavierBy (N .area) u v
@@ -34,15 +47,15 @@ endsOn Outlet c = false
 endsOn (To r) c = eqb r c
 
 -- the donors of c among the first n cells, from lightest to heaviest
-unfoldable pub donorsBelow : Network → ℕ → ℕ → List ℕ
-unfolding insert endsOn heavierBy
-donorsBelow N zero c = []
-donorsBelow N (suc n) c = let r = donorsBelow N n c in cond (endsOn (N .next n) c) (insert (heavier N) n r) r
+unfoldable pub donorsBelow : (ℕ → Next) → (ℕ → ℕ → Bool) → ℕ → ℕ → List ℕ
+unfolding insert endsOn
+donorsBelow next heavier zero c = []
+donorsBelow next heavier (suc n) c = let r = donorsBelow next heavier n c in cond (endsOn (next n) c) (insert heavier n r) r
 
 -- "donor" of a cell: an inside cell whose step ends on it; from lightest to heaviest
 unfoldable pub donors : Network → ℕ → List ℕ
-unfolding donorsBelow
-donors N c = donorsBelow N (N .cells) c
+unfolding donorsBelow heavierBy
+donors N c = donorsBelow (N .next) (heavier N) (N .cells) c
 
 -- an entry of a river list
 pub data Entry : Type 0 where

@@ -1,4 +1,3 @@
-pub mod Sums
 pub mod Queues
 pub mod Upstream
 pub mod Seeds

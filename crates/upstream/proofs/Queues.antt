@@ -11,10 +11,10 @@ use lib.ListN.{length, set, length-set}
 use lib.Seq.{getD-set-same, getD-set-other, drop-set-lt}
 use borrow.Author.Tests.{lt-ltb, le-ltb}
 use Rattle.claims.proofs.Counts.{count-le, count-less}
+use Rattle.claims.proofs.Sums.{count-more}
 use Rattle.upstream.specs.Work.{ranksPart, receiversPart, sizesPart, placed, rankOf, receiverOf, isReached, pushed, KeptFrom}
 use Rattle.upstream.specs.Search.{Before, Item, Stands, Queue}
 use Rattle.upstream.specs.Growth.{Grown}
-use Rattle.upstream.proofs.Sums.{count-more}
 
 -- ---- the three stores of a push
 

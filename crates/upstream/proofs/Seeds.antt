@@ -13,7 +13,7 @@ use Rattle.upstream.specs.Work.{ranksPart, placed, rankOf, isReached, nu
 use Rattle.upstream.specs.Search.{Upstream}
 use Rattle.upstream.specs.Growth.{Grown, Seeded}
 use Rattle.upstream.specs.Work.{Cleared}
-use Rattle.upstream.proofs.Sums.{count-none}
+use Rattle.claims.proofs.Sums.{count-none}
 use Rattle.upstream.proofs.Queues.{reached-no, end-on, grown-push, push-place, push-rank}
 use Rattle.upstream.proofs.Upstream.{outlet-is, upstream-push}
 

@@ -1,4 +1,3 @@
-pub mod Sum
 pub mod Work
 pub mod Search
 pub mod Growth

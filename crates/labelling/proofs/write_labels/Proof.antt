@@ -1,13 +1,13 @@
 -- `write_labels` meets its contract: each step hands the next what it asks.
 use Prim.Native.Nat.{_*_}
-use mathlib.Core.Path.{_≡_, sym, _∙_}
+use mathlib.Core.Path.{_≡_, refl, sym, _∙_}
 use native.Mathlib.Omega.{arith}
 use borrow.Author.Needs.{needs}
-use Rattle.sheet.specs.Sheet.{grid}
+use Rattle.sheet.specs.River.{least, split}
 use Rattle.sheet.proofs.Cells.{cells-most}
 use Rattle.upstream.specs.Work.{cellsPart, orderedSizesPart}
 use Rattle.labelling.specs.Labelling.{sheet}
-use Rattle.labelling.proofs.Steps.{queued-most, surveyed, part-is, network-of, places, some-cell, labels-written}
+use Rattle.labelling.proofs.Steps.{queued-most, surveyed, part-is, network-in, network-of, places, some-cell, labels-written}
 use Rattle.labelling.proofs.write_labels.Statement.{statement}
 use Rattle.labelling.proofs.write_labels.Tie as tie
 use Rattle.labelling.proofs.write_labels.Reads as reads
@@ -23,7 +23,7 @@ measure-requires c κs = search needs
 arrange-requires : tie.Need-arrange-requires
 arrange-requires c κs =
     let p = c .before .before .before .before .before .before .before .before .before .before .before .before .before .pre in
-    surveyed (p .0) (p .1) (c .before .before .before .before .before .before .measure .ensures .0) (c .before .before .before .before .before .before .measure .ensures .1) (c .before .before .before .before .before .before .measure .kept .1 .1 .1 .0)
+    surveyed (p .0) (p .1) (c .before .before .before .before .before .before .measure .ensures .0) (c .before .before .before .before .before .before .measure .ensures .1 _ refl) (c .before .before .before .before .before .before .measure .kept .1 .1 .1 .0)
 
 mul-n : tie.Need-mul-n
 mul-n c = search needs
@@ -72,19 +72,21 @@ part-label-basin-end-2 c =
     omega (arith, queued-most (p .1 .drained), p .0 .work, c .before .before .before .before .before .before .before .before .before .before .before .before .before .before .before .measure .kept .1 .1 .1 .0, c .before .before .before .before .before .before .before .before .arrange .kept .1 .1 .1 .1 .1 .0)
 
 label-basin-requires : tie.Need-label-basin-requires
+unfolding least split
 label-basin-requires c κs =
     let p = c .before .before .before .before .before .before .before .before .before .before .before .before .before .before .before .before .before .before .before .before .before .before .before .before .before .pre in
     let a = c .before .before .before .before .before .before .before .before .before .before .before .before .before .before .before .before .before .before .before .before .before .before .before .before .before .args in
     let n = a .rows * a .cols in
-    let G = grid (a .rows) (a .cols) (a .dirs .now) in
+    let S = sheet (a .rows) (a .cols) (a .depth) (a .dirs .now) in
+    let e = network-in S (a .areas .now) (c .before .before .before .before .before .before .before .before .before .before .before .before .before .before .before .before .before .before .measure .ensures .1 S refl) in
     let r = c .before .before .before .before .before .before .before .before .before .before .before .arrange .ensures in
     rw (part-is (cellsPart * n) (a .queued), part-is (orderedSizesPart * n) (a .queued)) (
       p .0 .depth-most,
       (
-        some-cell G (p .1 .accepted) r,
+        some-cell S (p .1 .accepted) e r,
         (
-          network-of G (p .1 .accepted) r,
-          places G (p .1 .accepted) r _ _
+          network-of S (p .1 .accepted) e r,
+          places S (p .1 .accepted) e r _ _
               (omega (arith, p .0 .areas, c .before .before .before .before .before .before .before .before .before .before .before .before .before .before .before .before .before .before .measure .kept .1 .1 .1 .1 .1 .0)) (omega (arith, p .0 .labels, c .before .before .before .before .before .before .before .clear-labels .kept .0)),
         ),
       ),
@@ -100,13 +102,16 @@ same-length-3 : tie.Need-same-length-3
 same-length-3 c = search needs
 
 returns : tie.Need-returns
+unfolding least split
 returns c =
     let p = c .before .before .before .before .before .before .before .before .before .before .before .before .before .before .before .before .before .before .before .before .before .before .before .before .before .before .before .before .pre in
     let a = c .before .before .before .before .before .before .before .before .before .before .before .before .before .before .before .before .before .before .before .before .before .before .before .before .before .before .before .before .args in
     let n = a .rows * a .cols in
     let r = c .before .before .before .before .before .before .before .before .before .before .before .before .before .before .arrange .ensures in
+    let S = sheet (a .rows) (a .cols) (a .depth) (a .dirs .now) in
+    let areas = c .before .before .before .before .before .before .before .before .before .before .before .before .before .before .before .before .before .before .before .before .before .measure .ensures .1 S refl in
     let e = rw (part-is (cellsPart * n) (a .queued), part-is (orderedSizesPart * n) (a .queued)) at (c .before .before .label-basin .ensures) in
-    (c .before .before .before .before .before .before .before .before .before .before .before .before .before .before .before .before .before .before .before .before .before .measure .ensures .1, labels-written (sheet (a .rows) (a .cols) (a .depth) (a .dirs .now)) (a .labels .now) (p .1 .accepted) r (p .0 .labels) (c .before .before .before .before .before .before .before .before .before .before .clear-labels .ensures) e)
+    (areas, labels-written S (p .1 .accepted) (network-in S (a .areas .now) areas) r (a .labels .now) (p .0 .labels) (c .before .before .before .before .before .before .before .before .before .before .clear-labels .ensures) e)
 
 pub write-labels-spec : {M : Type 1} → statement M
 write-labels-spec =

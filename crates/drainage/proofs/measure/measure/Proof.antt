@@ -1,7 +1,7 @@
 -- `measure` meets its contract.
-use mathlib.Core.Path.{sym, _∙_}
+use mathlib.Core.Path.{sym, _∙_, ap}
 use native.Mathlib.Omega.{arith}
-use Rattle.sheet.specs.Sheet.{grid}
+use Rattle.sheet.specs.Sheet.{grid, cells}
 use Rattle.sheet.specs.Label.{areasOf}
 use Rattle.drainage.specs.Total.{sizesOf}
 use Rattle.drainage.proofs.Measures.{sizes-long, areas-long, written-over}
@@ -30,7 +30,7 @@ returns c =
     let a = c .before .before .before .before .before .before .before .before .before .before .before .before .before .before .before .args in
     let G = grid (a .rows) (a .cols) (a .dirs .now) in
     let e = c .before .before .before .before .before .before .before .before .before .sizes .ensures in
-    (e .0, (rw (e .1) at (c .before .before .areas .ensures)) ∙ written-over (areasOf G) (sizesOf G) (a .lent-areas .now) (sizes-long G ∙ sym (areas-long G)))
+    (e .0, λ S s. (rw (e .1) at (c .before .before .areas .ensures S s)) ∙ written-over (areasOf S) (sizesOf G) (a .lent-areas .now) (sizes-long G ∙ ap cells (sym s) ∙ sym (areas-long S)))
 
 pub measure-spec : {M : Type 1} → statement M
 measure-spec = tie.close (tie.spec sizes-requires areas-requires same-length same-length-2 returns)

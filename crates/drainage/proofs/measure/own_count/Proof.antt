@@ -1,15 +1,15 @@
 -- `own_count` meets its contract.
 use borrow.Author.Tests.{eq-eqb, ne-eqb}
-use Rattle.drainage.specs.Total.{ownCount}
+use Rattle.drainage.specs.Total.{ownValue}
 use Rattle.drainage.proofs.measure.own_count.Statement.{statement}
 use Rattle.drainage.proofs.measure.own_count.Tie as tie
 
 returns : tie.Need-returns
-unfolding ownCount
+unfolding ownValue
 returns c = rw (eq-eqb _ _ (c .if1 .taken))
 
 returns-2 : tie.Need-returns-2
-unfolding ownCount
+unfolding ownValue
 returns-2 c = rw (ne-eqb _ _ (c .if1 .left))
 
 pub own-count-spec : {M : Type 1} → statement M

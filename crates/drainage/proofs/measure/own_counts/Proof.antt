@@ -5,13 +5,13 @@ use Prim.Native.Nat.{ℕ, _-_, _≤_}
 use native.Mathlib.Omega.{arith}
 use lib.ListN.{length, set}
 use borrow.Author.Needs.{needs}
-use Rattle.drainage.specs.Total.{ownCounts}
+use Rattle.drainage.specs.Total.{ownValues, ones}
 use Rattle.drainage.proofs.Lists.{filled, filled-none, filled-more, filled-long, filled-written}
 use Rattle.drainage.proofs.measure.own_counts.Statement.{statement}
 use Rattle.drainage.proofs.measure.own_counts.Tie as tie
 
 abbrev Inv-loop : tie.InvT-loop
-Inv-loop dirs n totals₀ c₀ totals c = (c ≤ n) × (totals ≡ filled (ownCounts dirs) c totals₀)
+Inv-loop dirs n totals₀ c₀ totals c = (c ≤ n) × (totals ≡ filled (ownValues dirs ones) c totals₀)
 
 abbrev μ-loop : tie.MeasureT-loop
 μ-loop dirs n totals₀ c₀ totals c = n - c
@@ -20,7 +20,7 @@ loop-holds : tie.Need-loop-holds Inv-loop μ-loop
 loop-holds c = (omega arith, filled-none _ _)
 
 long : (c : tie.At-loop Inv-loop μ-loop) → length (c .loop .totals) ≡ length (c .before .before .before .args .totals .now)
-long c = ap length (c .loop .inv .1) ∙ filled-long (ownCounts (c .before .before .before .args .dirs .now)) (c .loop .c) (c .before .before .before .args .totals .now) (omega arith)
+long c = ap length (c .loop .inv .1) ∙ filled-long (ownValues (c .before .before .before .args .dirs .now) ones) (c .loop .c) (c .before .before .before .args .totals .now) (omega arith)
 
 shared-slice-read-own-count : tie.Need-shared-slice-read-own-count Inv-loop μ-loop
 shared-slice-read-own-count c = omega arith

@@ -7,7 +7,7 @@ use Rattle.sheet.specs.Sheet.{grid}
 use Rattle.sheet.specs.Refusal.{written}
 use Rattle.sheet.proofs.Cells.{cells-most}
 use Rattle.upstream.specs.Work.{sizesPart}
-use Rattle.drainage.specs.Total.{ownCounts, sizesOf}
+use Rattle.drainage.specs.Total.{ownValues, ones, sizesOf}
 use Rattle.drainage.proofs.Lists.{filled, filled-written}
 use Rattle.drainage.proofs.Measures.{sizes-long, sizes-written, sizes-put, own-gathers}
 use borrow.Author.Needs.{needs}
@@ -21,7 +21,7 @@ own-counts-requires : tie.Need-own-counts-requires
 own-counts-requires c κs = search needs
 
 -- the own counts
-own : (c : tie.After-own-counts) → let a = c .before .before .before .before .before .args in c .own-counts .last .1 .1 .0 ≡ filled (ownCounts (a .dirs .now)) (a .rows * a .cols) (a .areas .now)
+own : (c : tie.After-own-counts) → let a = c .before .before .before .before .before .args in c .own-counts .last .1 .1 .0 ≡ filled (ownValues (a .dirs .now) ones) (a .rows * a .cols) (a .areas .now)
 own c = c .own-counts .ensures ∙ sym (filled-written _ _ _)
 
 gather-requires : tie.Need-gather-requires

@@ -21,7 +21,7 @@ abbrev Inv-loop : tie.InvT-loop
 Inv-loop dirs rows cols areas queued work₀ i₀ work i =
     (i ≤ queued) × (length work ≡ length work₀)
     × ((entry : List ℕ) → Surveyed (grid rows cols dirs) areas entry queued → work₀ ≡ set entry (positionsPart * (rows * cols) + outlet (grid rows cols dirs)) 0
-    → Placed (grid rows cols dirs) entry work queued i)
+    → Placed (grid rows cols dirs) areas entry work queued i)
 
 abbrev μ-loop : tie.MeasureT-loop
 μ-loop dirs rows cols areas queued work₀ i₀ work i = queued - i
@@ -35,7 +35,7 @@ outlet-placed : (c : tie.After-place-outlet Inv-loop μ-loop)
 outlet-placed c = c .place-outlet .ensures ∙ (rw (c .before .before .before .before .before .pre .single .first))
 
 -- the first cells of the queue have been gone through
-present : (c : tie.At-loop Inv-loop μ-loop) → Placed (grid (c .before .before .before .before .before .before .before .before .args .rows) (c .before .before .before .before .before .before .before .before .args .cols) (c .before .before .before .before .before .before .before .before .args .dirs .now)) (c .before .before .before .before .before .before .before .before .args .work .now) (c .loop .work) (c .before .before .before .before .before .before .before .before .args .queued) (c .loop .i)
+present : (c : tie.At-loop Inv-loop μ-loop) → Placed (grid (c .before .before .before .before .before .before .before .before .args .rows) (c .before .before .before .before .before .before .before .before .args .cols) (c .before .before .before .before .before .before .before .before .args .dirs .now)) (c .before .before .before .before .before .before .before .before .args .areas .now) (c .before .before .before .before .before .before .before .before .args .work .now) (c .loop .work) (c .before .before .before .before .before .before .before .before .args .queued) (c .loop .i)
 present c = c .loop .inv .2 (c .before .before .before .before .before .before .before .before .args .work .now) (c .before .before .before .before .before .before .before .before .pre) (outlet-placed (c .before .before .before))
 
 length-kept : (c : tie.At-loop Inv-loop μ-loop) → length (c .loop .work) ≡ length (c .before .before .before .before .before .before .before .before .args .work .now)
@@ -49,7 +49,7 @@ mul-place-outlet c = omega (arith, most (c .before .before .before))
 place-outlet-requires : tie.Need-place-outlet-requires Inv-loop μ-loop
 place-outlet-requires c κs =
     let p = c .before .before .before .before .pre in
-    (most (c .before .before .before .before), p .room, rw (p .single .first) (inside-lt _ _ (whole p .outlet-inside)))
+    (most (c .before .before .before .before), p .room, rw (p .single .first) (inside-lt _ _ (whole p 0 0 .outlet-inside)))
 
 -- src/positions.rt:74:5
 loop-holds : tie.Need-loop-holds Inv-loop μ-loop

@@ -7,8 +7,7 @@ use native.Mathlib.Decide.{ℕ-discrete}
 use native.Mathlib.Omega.{arith}
 use lib.Dec.{eqb}
 use borrow.Author.Tests.{eq-eqb, ne-eqb, eqb-true}
-use Rattle.sheet.specs.Area.{count}
-use Rattle.upstream.specs.Sum.{sumOver}
+use Rattle.sheet.specs.Area.{count, sumOver}
 
 pub sum-alike : (n : ℕ) (t u : ℕ → Bool) (f g : ℕ → ℕ) → ((q : ℕ) → q < n → cond (t q) (f q) 0 ≡ cond (u q) (g q) 0) → sumOver n t f ≡ sumOver n u g
 unfolding sumOver
@@ -64,15 +63,22 @@ sum-either (suc n) t u v f e = go (t n) (u n) (v n) (e .split n (omega arith)) (
     go false false true p q r s h = absurd (true≢false (sym (r refl)))
     go false false false p q r s h = h
 
+-- the sum over a wider test is no smaller
+pub sum-mono : (n : ℕ) (t u : ℕ → Bool) (f : ℕ → ℕ) → ((q : ℕ) → u q ≡ true → t q ≡ true) → sumOver n u f ≤ sumOver n t f
+unfolding sumOver
+sum-mono zero t u f h = omega arith
+sum-mono (suc n) t u f h = go (u n) (t n) (h n) (sum-mono n t u f h)
+  where
+    go : (x y : Bool) → (x ≡ true → y ≡ true) → sumOver n u f ≤ sumOver n t f
+        → cond x (sumOver n u f + f n) (sumOver n u f) ≤ cond y (sumOver n t f + f n) (sumOver n t f)
+    go true true k l = omega arith
+    go true false k l = absurd (true≢false (sym (k refl)))
+    go false true k l = omega arith
+    go false false k l = l
+
 -- no sum is larger than that over all cells
 pub sum-most : (n : ℕ) (t : ℕ → Bool) (f : ℕ → ℕ) → sumOver n t f ≤ sumOver n (λ q. true) f
-unfolding sumOver
-sum-most zero t f = omega arith
-sum-most (suc n) t f = go (t n) (sum-most n t f)
-  where
-    go : (b : Bool) → sumOver n t f ≤ sumOver n (λ q. true) f → cond b (sumOver n t f + f n) (sumOver n t f) ≤ sumOver n (λ q. true) f + f n
-    go true l = omega arith
-    go false l = omega arith
+sum-most n t f = sum-mono n (λ q. true) t f (λ q e. refl)
 
 -- values of at most 1 add up to at most n
 pub sum-ones : (n : ℕ) (f : ℕ → ℕ) → ((q : ℕ) → q < n → f q ≤ 1) → sumOver n (λ q. true) f ≤ n
@@ -92,6 +98,10 @@ sum-one (suc n) c f l = elim (ℕ-discrete n c) [
   | yes e ↦ rw (eq-eqb n c e, sum-none n c f (omega arith)) (omega (arith, ap f e))
   | no d ↦ rw (ne-eqb n c d) (sum-one n c f (omega arith))
 ]
+
+-- what a cell adds is no more than the sum
+pub sum-has : (n : ℕ) (t : ℕ → Bool) (f : ℕ → ℕ) (c : ℕ) → t c ≡ true → c < n → f c ≤ sumOver n t f
+sum-has n t f c e l = omega (arith, sum-one n c f l, sum-mono n t (λ q. eqb q c) f (λ q h. ap t (eqb-true q c h) ∙ e))
 
 -- ---- counts
 

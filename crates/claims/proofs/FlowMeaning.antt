@@ -11,18 +11,18 @@ use lib.Seq.{getD-drop}
 use borrow.Author.Tests.{eq-eqb, ne-eqb, ltb-true, lt-ltb}
 use Rattle.sheet.specs.declared.Found.the-variants.{At}
 use Rattle.sheet.specs.declared.Outcome.the-variants.{Accepted}
-use Rattle.sheet.specs.declared.Flow.the-variants.{Refused, Same, Yes, No, Undecided}
+use Rattle.sheet.specs.declared.Flow.the-variants.{Same, Yes, No, Undecided}
 use Rattle.sheet.specs.declared.Flow.{Flow}
-use Rattle.sheet.specs.Flow.{partFrom, partAt, every, isOdd, ruleAt, isLabel, answerAt, flowDigits, flow}
-use Rattle.sheet.specs.Label.{digitsOf, labelDigits, labelAt}
-use Rattle.sheet.specs.Refusal.{both, depthFits, outcome, lentAfter, Lent}
+use Rattle.sheet.specs.Flow.{partFrom, partAt, every, isOdd, ruleAt, isLabel, answerAt, answerUnequal, flow}
+use Rattle.sheet.specs.Label.{labelAt}
+use Rattle.sheet.specs.Refusal.{depthFits, outcome, lentAfter, Lent}
 use Rattle.sheet.specs.Sheet.{Sheet}
-use Rattle.sheet.proofs.Digits.{digits-label}
-use Rattle.claims.specs.Demand.{Inside, digitsAt}
+use Rattle.sheet.proofs.Within.{both-true}
+use Rattle.claims.specs.Demand.{Inside}
 use Rattle.claims.specs.Flow.{asked}
 use Rattle.claims.specs.Parting.{PartAt, RuleAt}
 use Rattle.claims.proofs.Parting.{part-prev, all-odd-at, at-all-odd}
-use Rattle.claims.proofs.Written.{checks, one-to-nine, at-most-depth, digits-written}
+use Rattle.claims.proofs.Written.{checks, is-label}
 
 part-from : (i : ℕ) (x y : List ℕ) (k : ℕ) → PartAt x y k → partFrom i x y ≡ At (i + k)
 unfolding partFrom
@@ -38,10 +38,6 @@ unfolding partAt
 part-found x y k t = part-from 0 x y k t ∙ ap At (omega arith)
 
 module _ (x y : List ℕ) (k : ℕ) where
-  both-true : (a b : Bool) → cond a b false ≡ true → (a ≡ true) × (b ≡ true)
-  both-true true b e = (refl, e)
-  both-true false b e = absurd (true≢false (sym e))
-
   -- the test of the rule is the rule
   pub rule-true : ruleAt k x y ≡ true → RuleAt x y k
   unfolding ruleAt
@@ -66,25 +62,17 @@ module _ (x y : List ℕ) (k : ℕ) where
 
 -- ---- the answers
 -- the flow question on labels that are good at the depth
-flow-labels : (depth p q : ℕ) → depthFits depth ≡ true → isLabel depth (digitsOf p) ≡ true → isLabel depth (digitsOf q) ≡ true
-    → flow depth p q ≡ cond (eqb p q) Same (answerAt depth (digitsOf p) (digitsOf q) (partAt (digitsOf p) (digitsOf q)))
-unfolding flow flowDigits
-flow-labels depth p q d e f = go (depthFits depth) d (isLabel depth (digitsOf p)) e (isLabel depth (digitsOf q)) f
-  where
-    go : (a : Bool) → a ≡ true → (b : Bool) → b ≡ true → (c : Bool) → c ≡ true
-        → cond a (cond (both b c) (cond (eqb p q) Same (answerAt depth (digitsOf p) (digitsOf q) (partAt (digitsOf p) (digitsOf q)))) (Refused 11)) (Refused 2)
-        ≡ cond (eqb p q) Same (answerAt depth (digitsOf p) (digitsOf q) (partAt (digitsOf p) (digitsOf q)))
-    go a x b y c z = rw (x, y, z)
+flow-labels : (depth p q : ℕ) → depthFits depth ≡ true → isLabel depth p ≡ true → isLabel depth q ≡ true
+    → flow depth p q ≡ cond (eqb p q) Same (answerUnequal depth p q)
+unfolding flow
+flow-labels depth p q d e f = rw (d, e, f)
 
 module _ (S : Sheet) (L : Lent) (accepted : outcome S L ≡ Accepted) (p q : ℕ) (i : Inside S p) (j : Inside S q) where
   abbrev labels : List ℕ
   labels = lentAfter S L .labels
 
-  good : (c : ℕ) → Inside S c → isLabel (S .depth) (digitsAt labels c) ≡ true
-  good c k = rw (digits-written S L accepted c k) (digits-label (S .depth) (labelDigits S c) (one-to-nine S L accepted c k) (at-most-depth S L accepted c))
-
-  pub the-answer : asked S labels p q ≡ cond (eqb (labelAt labels p) (labelAt labels q)) Same (answerAt (S .depth) (digitsAt labels p) (digitsAt labels q) (partAt (digitsAt labels p) (digitsAt labels q)))
-  the-answer = flow-labels (S .depth) (labelAt labels p) (labelAt labels q) (checks S L accepted .depth) (good p i) (good q j)
+  pub the-answer : asked S labels p q ≡ cond (eqb (labelAt labels p) (labelAt labels q)) Same (answerUnequal (S .depth) (labelAt labels p) (labelAt labels q))
+  the-answer = flow-labels (S .depth) (labelAt labels p) (labelAt labels q) (checks S L accepted .depth) (is-label S L accepted p i) (is-label S L accepted q j)
 
 -- an answer by the place where labels part
 pub data Answered (depth : ℕ) (x y : List ℕ) (k : ℕ) : Flow → Type 0 where

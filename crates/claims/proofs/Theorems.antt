@@ -12,13 +12,12 @@ use Rattle.sheet.specs.declared.Outcome.the-variants.{Accepted}
 use Rattle.sheet.specs.declared.Flow.{Flow}
 use Rattle.sheet.specs.declared.Flow.the-variants.{Same}
 use Rattle.sheet.specs.Water.{Passes, DrainsTo}
-use Rattle.sheet.specs.Flow.{partAt, answerAt}
+use Rattle.sheet.specs.Flow.{answerUnequal}
 use Rattle.sheet.specs.Label.{number, labelDigits, labelAt}
 use Rattle.sheet.specs.Area.{area}
 use Rattle.sheet.specs.River.{network, least}
 use Rattle.sheet.specs.Refusal.{outcome, written, lentAfter, Lent}
 use Rattle.sheet.specs.Sheet.{next, Sheet}
-use Rattle.sheet.proofs.Digits.{number-fits}
 use Rattle.sheet.proofs.Faults.{is-inside}
 use Rattle.claims.specs.Demand.{Inside, digitsAt, DemandThreeOf, OutletRuleOf, Shares, DemandThree, OutletRule}
 use Rattle.claims.specs.Flow.{asked, FlowMeaning}
@@ -30,7 +29,7 @@ use Rattle.claims.proofs.DigitRule.{cell-rule}
 use Rattle.claims.proofs.Units.{drains-map, one-outlet}
 use Rattle.claims.proofs.Basins.{lawful, outlet-rule-holds, demand-three-holds, passes-rule}
 use Rattle.claims.proofs.GridLaws.{area-least, area-most, area-most-cells, area-adds}
-use Rattle.claims.proofs.Written.{the-basin, depth-most, one-to-nine, at-most-depth, label-written, digits-written}
+use Rattle.claims.proofs.Written.{the-basin, label-written, digits-written, is-label, label-fits}
 use Rattle.claims.proofs.FlowMeaning.{the-answer, answer-at, Answered, answered-yes, answered-undecided, answered-no}
 
 module _ (next : ℕ → Next) {inside : ℕ → Type 0} {digits written : ℕ → List ℕ} (same : (c : ℕ) → inside c → written c ≡ digits c) where
@@ -95,12 +94,7 @@ module _ (S : Sheet) (L : Lent) (accepted : outcome S L ≡ Accepted) where
 
   -- ---- bounds
   pub label-bounds : LabelBounds S (lentAfter S L .labels)
-  label-bounds = record {
-    at-most = λ c i. rw (digits-written S L accepted c i) (at-most-depth S L accepted c);
-    one-to-nine = λ c i. rw (digits-written S L accepted c i) (one-to-nine S L accepted c i);
-    fits = λ c i. rw (label-written S L accepted c i)
-        (number-fits (labelDigits S c) (one-to-nine S L accepted c i) (omega (arith, at-most-depth S L accepted c, depth-most S L accepted)));
-  }
+  label-bounds = record { is-label = is-label S L accepted; fits = label-fits S L accepted }
 
   -- ---- the flow question
   module _ (p q : ℕ) (i : Inside S p) (j : Inside S q) where
@@ -135,10 +129,11 @@ module _ (S : Sheet) (L : Lent) (accepted : outcome S L ≡ Accepted) where
     }
 
     pub flow-meaning : FlowMeaning S (lentAfter S L .labels) p q
+    unfolding answerUnequal
     flow-meaning = go (eqb (labelAt (lentAfter S L .labels) p) (labelAt (lentAfter S L .labels) q)) refl (the-answer S L accepted p q i j)
       where
         answer : Flow
-        answer = answerAt (S .depth) (digitsAt (lentAfter S L .labels) p) (digitsAt (lentAfter S L .labels) q) (partAt (digitsAt (lentAfter S L .labels) p) (digitsAt (lentAfter S L .labels) q))
+        answer = answerUnequal (S .depth) (labelAt (lentAfter S L .labels) p) (labelAt (lentAfter S L .labels) q)
 
         go : (b : Bool) → eqb (labelAt (lentAfter S L .labels) p) (labelAt (lentAfter S L .labels) q) ≡ b
             → asked S (lentAfter S L .labels) p q ≡ cond b Same answer → FlowMeaning S (lentAfter S L .labels) p q

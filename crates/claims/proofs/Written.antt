@@ -1,20 +1,20 @@
 -- The labels that labelling writes by the definition, read back from the list: their digits are those of the definition.
-use mathlib.Core.Path.{_≡_, refl, sym, _∙_, ap}
-use mathlib.Core.Bool.{Bool, true, false, cond, true≢false}
+use mathlib.Core.Path.{_≡_, refl, _∙_, ap}
+use mathlib.Core.Bool.{Bool, true, cond}
 use mathlib.Core.List.{List}
-use Prim.Native.Nat.{ℕ, zero, suc, _+_, _≤_, _<_}
+use Prim.Native.Nat.{ℕ, zero, suc, _+_, _^_, _≤_, _<_}
 use native.Mathlib.Omega.{arith}
-use lib.Dec.{leb}
 use lib.ListN.{length, getD, drop, List·getD-append}
-use borrow.Author.Tests.{leb-true}
 use Rattle.sheet.specs.declared.Outcome.{Outcome}
 use Rattle.sheet.specs.declared.Outcome.the-variants.{Accepted}
 use Rattle.sheet.specs.Label.{number, digitsOf, outlet, labelDigits, labelOf, listFrom, labelsOf, labelAt, Digits}
 use Rattle.sheet.specs.Area.{area}
 use Rattle.sheet.specs.River.{network, river, least, split}
-use Rattle.sheet.specs.Refusal.{within, depthFits, outcome, written, ifAccepted, lentAfter, Lent}
+use Rattle.sheet.specs.Flow.{isLabel}
+use Rattle.sheet.specs.Refusal.{outcome, written, ifAccepted, lentAfter, Lent}
 use Rattle.sheet.specs.Sheet.{cells, inside, Sheet}
-use Rattle.sheet.proofs.Digits.{digits-number}
+use Rattle.sheet.proofs.Digits.{digits-number, number-fits}
+use Rattle.sheet.proofs.Within.{depth-most, digits-label}
 use Rattle.sheet.proofs.Cells.{inside-lt}
 use Rattle.claims.specs.Demand.{Inside, digitsAt}
 use Rattle.claims.specs.Basin.{Basin}
@@ -48,14 +48,6 @@ module _ (S : Sheet) (L : Lent) (accepted : outcome S L ≡ Accepted) where
   unfolding network
   the-basin = basin (S .grid) (passed-on (S .grid) (checks .rest)) (area S) (least S) (split S)
 
-  pub depth-most : S .depth ≤ 18
-  unfolding depthFits within
-  depth-most = go (leb 1 (S .depth)) (checks .depth)
-    where
-      go : (b : Bool) → cond b (leb (S .depth) 18) false ≡ true → S .depth ≤ 18
-      go true e = leb-true (S .depth) 18 e
-      go false e = absurd (true≢false (sym e))
-
   pub one-to-nine : (c : ℕ) → Inside S c → Digits 9 (labelDigits S c)
   unfolding labelDigits network
   one-to-nine c i =
@@ -83,4 +75,12 @@ module _ (S : Sheet) (L : Lent) (accepted : outcome S L ≡ Accepted) where
 
   pub digits-written : (c : ℕ) → Inside S c → digitsAt (lentAfter S L .labels) c ≡ labelDigits S c
   digits-written c i =
-      ap digitsOf (label-written c i) ∙ digits-number (labelDigits S c) (one-to-nine c i) (omega (arith, at-most-depth c, depth-most))
+      ap digitsOf (label-written c i) ∙ digits-number (labelDigits S c) (one-to-nine c i) (omega (arith, at-most-depth c, depth-most (S .depth) (checks .depth)))
+
+  pub is-label : (c : ℕ) → Inside S c → isLabel (S .depth) (labelAt (lentAfter S L .labels) c) ≡ true
+  unfolding isLabel
+  is-label c i = rw (digits-written c i) (digits-label (S .depth) (labelDigits S c) (one-to-nine c i) (at-most-depth c))
+
+  pub label-fits : (c : ℕ) → Inside S c → labelAt (lentAfter S L .labels) c < 2 ^ 64
+  label-fits c i =
+      rw (label-written c i) (number-fits (labelDigits S c) (one-to-nine c i) (omega (arith, at-most-depth c, depth-most (S .depth) (checks .depth))))

@@ -4,14 +4,14 @@ use mathlib.Core.Bool.{true}
 use mathlib.Core.List.{List, [], _∷_}
 use mathlib.Core.Logic.{_↔_}
 use Prim.Native.Nat.{ℕ, suc, _+_, _≤_, _<_, _^_}
-use lib.ListN.{length}
 use Rattle.sheet.specs.Sheet.{Grid, Sheet, cells, inside, next, isOutlet}
 use Rattle.sheet.specs.Water.{Passes, passes, reachesOutlet}
 use Rattle.sheet.specs.Area.{count, sumOver, weight, area}
 use Rattle.sheet.specs.River.{network, donors, riverWithin, river}
-use Rattle.sheet.specs.Label.{Digits, labelAt}
+use Rattle.sheet.specs.Label.{labelAt}
 use Rattle.sheet.specs.Refusal.{undrained}
-use Rattle.claims.specs.Demand.{Inside, digitsAt}
+use Rattle.sheet.specs.Flow.{isLabel}
+use Rattle.claims.specs.Demand.{Inside}
 
 -- the water of a cell comes to an outlet
 pub record ComesToOutlet (G : Grid) (c : ℕ) : Type 0 where
@@ -46,8 +46,7 @@ pub record AreaBounds (S : Sheet) : Type 0 where
   -- a cell's own weight, and the areas of its donors
   pub donors-add : (c : ℕ) → Inside S c → area S c ≡ weight S c + sum (area S) (donors (network S) c)
 
--- the labels that were written for a sheet
+-- the labels that were written for a sheet: no digit is 0, there are no more than the depth, and 64 bits hold them
 pub record LabelBounds (S : Sheet) (labels : List ℕ) : Type 0 where
-  pub at-most : (c : ℕ) → Inside S c → length (digitsAt labels c) ≤ S .depth
-  pub one-to-nine : (c : ℕ) → Inside S c → Digits 9 (digitsAt labels c)
+  pub is-label : (c : ℕ) → Inside S c → isLabel (S .depth) (labelAt labels c) ≡ true
   pub fits : (c : ℕ) → Inside S c → labelAt labels c < 2 ^ 64

@@ -4,7 +4,7 @@ use mathlib.Core.List.{[], _∷_}
 use lib.ListN.{replicate}
 use Rattle.digits.specs.declared.DigitsAnswer.the-variants.{Written, Refused as DigitsRefused}
 use Rattle.digits.specs.declared.LabelAnswer.the-variants.{Label, Refused as LabelRefused}
-use Rattle.digits.specs.Digits.{digitsAnswer, digitsPlaces, labelAnswer, digitsRefusal, digitsCount, labelRefusal, labelNumber}
+use Rattle.digits.specs.Digits.{digitsAnswer, digitsPlaces, labelAnswer, digitsValues, labelValues}
 
 -- ---- a label's digits
 
@@ -33,6 +33,9 @@ pub label-given : labelAnswer 3 [] ∷ labelAnswer 3 (9 ∷ 2 ∷ []) ∷ labelA
 unfolding labelAnswer
 label-given = refl
 
-pub numbers : digitsRefusal (digitsAnswer 3 105 3) ∷ digitsCount (digitsAnswer 3 92 3) ∷ labelRefusal (labelAnswer 3 (0 ∷ [])) ∷ labelNumber (labelAnswer 3 (9 ∷ 2 ∷ [])) ∷ [] ≡ 11 ∷ 2 ∷ 11 ∷ 92 ∷ []
+-- the numbers and values of the answers
+pub numbers : digitsValues (digitsAnswer 3 105 3) .number ∷ digitsValues (digitsAnswer 3 92 3) .count
+    ∷ labelValues (labelAnswer 3 (0 ∷ [])) .number ∷ labelValues (labelAnswer 3 (9 ∷ 2 ∷ [])) .label ∷ []
+    ≡ 11 ∷ 2 ∷ 11 ∷ 92 ∷ []
 unfolding digitsAnswer labelAnswer
 numbers = refl

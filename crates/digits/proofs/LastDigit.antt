@@ -5,14 +5,15 @@ use mathlib.Core.List.{List, [], _∷_, _++_, append-assoc}
 use Prim.Native.Nat.{ℕ, zero, suc, _/_, _%_, _-_, _^_, _≤_, _<_}
 use native.Mathlib.Numerals.{add-one, sub-one}
 use native.Mathlib.Omega.{arith}
-use borrow.Author.Tests.{eq-eqb, ne-eqb, le-leb, lt-leb}
+use borrow.Author.Tests.{le-leb, lt-leb}
 use lib.Dec.{leb, leb·suc-suc}
 use lib.ListN.{length, drop, take, set, length-append}
 use lib.Seq.{set-split, drop-at, length-take-le}
 use Rattle.sheet.specs.Label.{digitsOf}
 use Rattle.sheet.specs.Refusal.{written}
-use Rattle.sheet.specs.Flow.{every, isLabel}
+use Rattle.sheet.specs.Flow.{every, areDigits, isLabel}
 use Rattle.sheet.proofs.Digits.{digits-zero, digits-step}
+use Rattle.sheet.proofs.Within.{within-yes, within-below}
 
 -- ---- labels, from the last digit
 
@@ -36,8 +37,8 @@ pub digits-some : (m : ℕ) → 0 < length (digitsOf m) → 0 < m
 digits-some zero h = absurd (omega (arith, digits-none 0 (omega arith)))
 digits-some (suc m) h = omega arith
 
-pub label-none : (depth m : ℕ) → m ≤ 0 → isLabel depth (digitsOf m) ≡ true
-unfolding isLabel every
+pub label-none : (depth m : ℕ) → m ≤ 0 → isLabel depth m ≡ true
+unfolding isLabel areDigits every
 label-none depth m h = rw (none m h, le-leb 0 depth (omega arith))
 
 module _ (m : ℕ) (fits : m < 2 ^ 64) (some : 0 < m) where
@@ -47,22 +48,22 @@ module _ (m : ℕ) (fits : m < 2 ^ 64) (some : 0 < m) where
   pub digits-longer : length (digitsOf m) ≡ suc (length (digitsOf (m / 10)))
   digits-longer = ap length last-digit ∙ simp (length-append, add-one)
 
-  pub label-long : (depth : ℕ) → depth < 1 → isLabel depth (digitsOf m) ≡ false
-  unfolding isLabel
+  pub label-long : (depth : ℕ) → depth < 1 → isLabel depth m ≡ false
+  unfolding isLabel areDigits
   label-long depth h = rw (lt-leb (length (digitsOf m)) depth (omega (arith, digits-longer)))
 
-  pub label-zero : (depth : ℕ) → m % 10 < 1 → isLabel depth (digitsOf m) ≡ false
-  unfolding isLabel
-  label-zero depth h = rw (last-digit, every-snoc, eq-eqb (m % 10) 0 (omega arith)) (go (leb (length (digitsOf (m / 10) ++ (m % 10 ∷ []))) depth))
+  pub label-zero : (depth : ℕ) → m % 10 < 1 → isLabel depth m ≡ false
+  unfolding isLabel areDigits
+  label-zero depth h = rw (last-digit, every-snoc, within-below 9 (m % 10) h) (go (leb (length (digitsOf (m / 10) ++ (m % 10 ∷ []))) depth))
     where
       go : (b : Bool) → cond b false false ≡ false
       go true = refl
       go false = refl
 
-  pub label-turn : (depth : ℕ) → 1 ≤ depth → 1 ≤ m % 10 → isLabel (depth - 1) (digitsOf (m / 10)) ≡ isLabel depth (digitsOf m)
-  unfolding isLabel
+  pub label-turn : (depth : ℕ) → 1 ≤ depth → 1 ≤ m % 10 → isLabel (depth - 1) (m / 10) ≡ isLabel depth m
+  unfolding isLabel areDigits
   label-turn zero h g = absurd (omega arith)
-  label-turn (suc depth) h g = rw (sub-one (suc depth), digits-longer, leb·suc-suc, last-digit, every-snoc, ne-eqb (m % 10) 0 (λ e. omega arith))
+  label-turn (suc depth) h g = rw (sub-one (suc depth), digits-longer, leb·suc-suc, last-digit, every-snoc, within-yes 9 (m % 10) g (omega arith))
 
 -- ---- digits written from the last to the first
 

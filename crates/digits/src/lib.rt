@@ -6,7 +6,7 @@ ghost use lib.ListN.{length};
 ghost use Rattle.sheet.specs.Label.{number, digitsOf};
 ghost use Rattle.sheet.specs.Refusal.{within, written};
 ghost use Rattle.sheet.specs.Flow.{every, isLabel};
-ghost use Rattle.digits.specs.Digits.{digitsAnswer, digitsPlaces, labelAnswer};
+ghost use Rattle.digits.specs.Digits.{digitsAnswer, digitsValues, digitsPlaces, labelAnswer, labelValues};
 
 // The answer of write_digits: how many digits were written, or document 01's number of the refusal.
 pub enum DigitsAnswer {
@@ -22,7 +22,7 @@ pub enum LabelAnswer {
 
 // The number is a label at the depth: no digit is 0, and there are no more than depth.
 pub fn is_label(depth: usize, label: u64) -> bool
-    ensures { λ r. ⌜ r ≡ isLabel depth (digitsOf label) ⌝ }
+    ensures { λ r. ⌜ r ≡ isLabel depth label ⌝ }
 {
     let mut left = depth;
     let mut m = label;
@@ -70,6 +70,7 @@ pub fn put_digits(label: u64, count: usize, out: &mut [u8])
 // Writes the digits of a label to the first places. Refused by 2, 11, 3, in this order; then no place is written.
 pub fn write_digits(depth: usize, label: u64, out: &mut [u8]) -> DigitsAnswer
     ensures answer { λ r. ⌜ r ≡ digitsAnswer depth label (length (now (out .entry))) ⌝ }
+    ensures values { λ r. ⌜ digitsValues r ≡ digitsValues (digitsAnswer depth label (length (now (out .entry)))) ⌝ }
     ensures places { λ r. ⌜ now (out .exit) ≡ digitsPlaces depth label (now (out .entry)) ⌝ }
 {
     if depth_fits(depth) {
@@ -119,7 +120,8 @@ fn number_of(digits: &[u8]) -> u64
 
 // The label that has these digits. Refused by 2, 11, in this order.
 pub fn label_of(depth: usize, digits: &[u8]) -> LabelAnswer
-    ensures { λ r. ⌜ r ≡ labelAnswer depth (now (digits .entry)) ⌝ }
+    ensures answer { λ r. ⌜ r ≡ labelAnswer depth (now (digits .entry)) ⌝ }
+    ensures values { λ r. ⌜ labelValues r ≡ labelValues (labelAnswer depth (now (digits .entry))) ⌝ }
 {
     if depth_fits(depth) {
         if digits.len() <= depth {

@@ -8,10 +8,8 @@ use sheet::Found;
 ghost use mathlib.Core.Path.{_≡_};
 ghost use Prim.Native.Nat.{_<_};
 ghost use lib.ListN.{length, drop};
-ghost use lib.Dec.{eqb};
-ghost use Rattle.sheet.specs.Label.{digitsOf};
 ghost use Rattle.sheet.specs.Refusal.{both};
-ghost use Rattle.sheet.specs.Flow.{partAt, every, isOdd, ruleAt, isLabel, answerAt, flowDigits, flow, answerNumber};
+ghost use Rattle.sheet.specs.Flow.{partAt, every, isOdd, ruleAt, isLabel, answerAt, answerUnequal, flow, answerNumber};
 
 // The first place where both have a digit and the digits differ.
 fn part_at(p: &[u8], q: &[u8]) -> Found
@@ -78,7 +76,7 @@ fn answer_at(depth: usize, p: &[u8], q: &[u8]) -> Flow
 
 // The answer for unequal labels.
 fn answer_unequal(depth: usize, p: u64, q: u64) -> Flow
-    ensures { λ r. ⌜ r ≡ answerAt depth (digitsOf p) (digitsOf q) (partAt (digitsOf p) (digitsOf q)) ⌝ }
+    ensures { λ r. ⌜ r ≡ answerUnequal depth p q ⌝ }
 {
     let mut a = [0u8; 20];
     let mut b = [0u8; 20];
@@ -91,7 +89,7 @@ fn answer_unequal(depth: usize, p: u64, q: u64) -> Flow
 
 // Both are labels at the depth.
 fn are_labels(depth: usize, p: u64, q: u64) -> bool
-    ensures { λ r. ⌜ r ≡ both (isLabel depth (digitsOf p)) (isLabel depth (digitsOf q)) ⌝ }
+    ensures { λ r. ⌜ r ≡ both (isLabel depth p) (isLabel depth q) ⌝ }
 {
     if is_label(depth, p) {
         return is_label(depth, q);
@@ -99,25 +97,19 @@ fn are_labels(depth: usize, p: u64, q: u64) -> bool
     false
 }
 
-// The answer at a depth from 1 to 18: 11, Same, 12, then the rule.
-fn flow_digits(depth: usize, p: u64, q: u64) -> Flow
-    ensures { λ r. ⌜ r ≡ flowDigits depth (digitsOf p) (digitsOf q) (eqb p q) ⌝ }
-{
-    if are_labels(depth, p, q) {
-        if p == q {
-            return Flow::Same;
-        }
-        return answer_unequal(depth, p, q);
-    }
-    Flow::Refused(11)
-}
-
 // Does water from the label q pass the label p? 2, 11, Same, 12, then the rule.
 pub fn flow_of(depth: usize, p: u64, q: u64) -> Flow
-    ensures { λ r. ⌜ r ≡ flow depth p q ⌝ }
+    ensures answer { λ r. ⌜ r ≡ flow depth p q ⌝ }
+    ensures number { λ r. ⌜ answerNumber r ≡ answerNumber (flow depth p q) ⌝ }
 {
     if depth_fits(depth) {
-        return flow_digits(depth, p, q);
+        if are_labels(depth, p, q) {
+            if p == q {
+                return Flow::Same;
+            }
+            return answer_unequal(depth, p, q);
+        }
+        return Flow::Refused(11);
     }
     Flow::Refused(2)
 }

@@ -1,6 +1,6 @@
 -- Laws of the faults of sizes and cells: what holds where there is none.
 use mathlib.Core.Path.{_≡_, refl}
-use mathlib.Core.Bool.{Bool, true, false, cond, false≢true}
+use mathlib.Core.Bool.{Bool, true, false, cond}
 use mathlib.Core.List.{List, [], _∷_}
 use Prim.Native.Nat.{ℕ, _<_, _≤_}
 use native.Mathlib.Omega.{arith}
@@ -10,25 +10,15 @@ use Rattle.sheet.specs.declared.Step.{Step}
 use Rattle.sheet.specs.Direction.{steps, stepIn, stepOf, isCode}
 use Rattle.sheet.specs.Refusal.{both, within, sizesFit, depthFits}
 use Rattle.sheet.proofs.Cells.{cells-most, cell-lt}
-use Rattle.sheet.proofs.Within.{within-both}
+use Rattle.sheet.proofs.Within.{both-true, within-both}
 use Rattle.intake.specs.declared.Sizes.{Sizes}
 use Rattle.intake.specs.declared.Cell.{Cell}
 use Rattle.intake.specs.Faults.{cellCount, sizesFault, onSheet, cellNumber, cellFault}
-
-both-true : (a b : Bool) → both a b ≡ true → (a ≡ true) × (b ≡ true)
-both-true true b e = (refl, e)
-both-true false b e = absurd (false≢true e)
 
 -- a fault that is not given: its test is passed, and so are the later ones
 passed : (t : Bool) (rest number : ℕ) → 0 < number → cond t rest number ≡ 0 → (t ≡ true) × (rest ≡ 0)
 passed true rest number some e = (refl, e)
 passed false rest number some e = absurd (omega arith)
-
-pub rows-cols-most : (rows cols : ℕ) → sizesFit rows cols ≡ true → (rows ≤ 256) × (cols ≤ 256)
-unfolding sizesFit
-rows-cols-most rows cols e =
-    let w = both-true (within 256 rows) (within 256 cols) e in
-    (within-both 256 rows (w .0) .1, within-both 256 cols (w .1) .1)
 
 -- ---- sizes
 

@@ -1,6 +1,6 @@
 -- The outcome and the lent slices of a direct call, by which of checks 1 to 3 is passed.
 use mathlib.Core.Path.{_≡_, refl, sym, ap, _∙_}
-use mathlib.Core.Bool.{Bool, true, false, cond, true≢false}
+use mathlib.Core.Bool.{Bool, true, false, cond}
 use mathlib.Core.List.{List, _++_}
 use Prim.Native.Nat.{ℕ, _*_, _<_, _≤_}
 use native.Mathlib.Omega.{arith}
@@ -12,10 +12,9 @@ use Rattle.sheet.specs.declared.Outcome.{Outcome}
 use Rattle.sheet.specs.declared.Outcome.the-variants.{Accepted, Refused}
 use Rattle.sheet.specs.Sheet.{Sheet, cells, Sized}
 use Rattle.sheet.specs.Label.{areasOf, labelsOf}
-use Rattle.sheet.specs.Refusal.{Lent, both, written, within, sizesFit, depthFits, slicesFit, outcomeOn, outcome, ifAccepted, lentAfter}
+use Rattle.sheet.specs.Refusal.{Lent, both, written, sizesFit, depthFits, slicesFit, outcomeOn, outcome, ifAccepted, lentAfter}
 use Rattle.sheet.proofs.Cells.{cells-most}
-use Rattle.sheet.proofs.Digits.{both-left, both-right}
-use Rattle.sheet.proofs.Within.{within-both, depth-most}
+use Rattle.sheet.proofs.Within.{both-true, rows-cols-most, cols-some, depth-most}
 use Rattle.labelling.specs.Labelling.{Fitting}
 
 -- rows and columns, within their bounds
@@ -26,11 +25,9 @@ pub record Bounded (rows cols : ℕ) : Type 0 where
   pub cells-fit : rows * cols ≤ 65536
 
 pub bounded : (rows cols : ℕ) → sizesFit rows cols ≡ true → Bounded rows cols
-unfolding sizesFit
 bounded rows cols e =
-    let r = within-both 256 rows (both-left (within 256 rows) (within 256 cols) e) in
-    let c = within-both 256 cols (both-right (within 256 rows) (within 256 cols) e) in
-    record { rows-most = r .1; cols-most = c .1; cols-some = c .0; cells-fit = cells-most (r .1) (c .1) }
+    let m = rows-cols-most rows cols e in
+    record { rows-most = m .0; cols-most = m .1; cols-some = cols-some rows cols e; cells-fit = cells-most (m .0) (m .1) }
 
 module _ (S : Sheet) (L : Lent) where
   abbrev fits : Bool
@@ -93,13 +90,14 @@ module _ (S : Sheet) (L : Lent) where
         let b = leb (cells (S .grid)) (length (L .areas)) in
         let c = leb (cells (S .grid)) (length (L .labels)) in
         let d = leb (8 * cells (S .grid)) (length (L .work)) in
-        let r = both-right a (both b (both c d)) g in
-        let q = both-right b (both c d) r in
+        let p = both-true a (both b (both c d)) g in
+        let q = both-true b (both c d) (p .1) in
+        let r = both-true c d (q .1) in
         record {
-          dirs = leb-true (cells (S .grid)) (length (S .grid .dirs)) (both-left a (both b (both c d)) g);
-          areas = leb-true (cells (S .grid)) (length (L .areas)) (both-left b (both c d) r);
-          labels = leb-true (cells (S .grid)) (length (L .labels)) (both-left c d q);
-          work = leb-true (8 * cells (S .grid)) (length (L .work)) (both-right c d q);
+          dirs = leb-true (cells (S .grid)) (length (S .grid .dirs)) (p .0);
+          areas = leb-true (cells (S .grid)) (length (L .areas)) (q .0);
+          labels = leb-true (cells (S .grid)) (length (L .labels)) (r .0);
+          work = leb-true (8 * cells (S .grid)) (length (L .work)) (r .1);
         }
 
     pub room : 8 * cells (S .grid) ≤ length (L .work)

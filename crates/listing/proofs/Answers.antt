@@ -1,16 +1,17 @@
 -- When a text is refused, and when it is written.
 use mathlib.Core.Path.{_≡_, refl, sym, _∙_}
-use mathlib.Core.Bool.{Bool, true, false, true≢false}
+use mathlib.Core.Bool.{true, false}
 use mathlib.Core.List.{List}
 use Prim.Native.Nat.{ℕ, _*_, _^_, _<_, _≤_}
 use native.Mathlib.Omega.{arith}
-use borrow.Author.Tests.{leb-true, le-leb, lt-leb}
+use borrow.Author.Tests.{le-leb, lt-leb}
 use lib.Dec.{leb}
 use lib.ListN.{length, take, drop}
 use lib.Seq.{take-append-seam, drop-append-seam}
 use Rattle.sheet.specs.Sheet.{grid}
 use Rattle.sheet.proofs.Cells.{cells-most}
-use Rattle.sheet.specs.Refusal.{both, within, sizesFit}
+use Rattle.sheet.specs.Refusal.{sizesFit}
+use Rattle.sheet.proofs.Within.{rows-cols-most, cols-some}
 use Rattle.listing.specs.Listing.{listingText, refusalText}
 use Rattle.listing.specs.Writing.{refused, accepted, placesFit, textInto, listingInto, refusalInto}
 use Rattle.listing.specs.Steps.{Listable}
@@ -20,24 +21,6 @@ use Rattle.listing.proofs.Lengths.{refusal-most}
 pub text-into : (text buffer : List ℕ) → length text ≤ length buffer → textInto text buffer ≡ accepted text buffer
 unfolding textInto
 text-into text buffer room = rw (le-leb (length text) (length buffer) room)
-
-both-true : (a b : Bool) → both a b ≡ true → (a ≡ true) × (b ≡ true)
-both-true true b e = (refl, e)
-both-true false b e = absurd (true≢false (sym e))
-
-within-most : (most x : ℕ) → within most x ≡ true → (1 ≤ x) × (x ≤ most)
-unfolding within
-within-most most x e = let w = both-true (leb 1 x) (leb x most) e in (leb-true 1 x (w .0), leb-true x most (w .1))
-
-pub rows-cols-most : (rows cols : ℕ) → sizesFit rows cols ≡ true → (rows ≤ 256) × (cols ≤ 256)
-unfolding sizesFit
-rows-cols-most rows cols e =
-    let w = both-true (within 256 rows) (within 256 cols) e in
-    (within-most 256 rows (w .0) .1, within-most 256 cols (w .1) .1)
-
-pub cols-some : (rows cols : ℕ) → sizesFit rows cols ≡ true → 0 < cols
-unfolding sizesFit
-cols-some rows cols e = within-most 256 cols (both-true (within 256 rows) (within 256 cols) e .1) .0
 
 module _ (rows cols : ℕ) (dirs areas labels buffer : List ℕ) where
   pub refused-sizes : sizesFit rows cols ≡ false → refused 1 buffer ≡ listingInto (grid rows cols dirs) areas labels buffer

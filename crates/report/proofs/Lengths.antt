@@ -24,7 +24,8 @@ use Rattle.labelling.specs.Labelling.{sheet}
 use Rattle.lines.specs.Fields.{longer}
 use Rattle.listing.specs.Listing.{listingText, refusalText}
 use Rattle.listing.specs.Writing.{textInto, accepted}
-use Rattle.listing.proofs.Answers.{rows-cols-most, text-into}
+use Rattle.sheet.proofs.Within.{rows-cols-most}
+use Rattle.listing.proofs.Answers.{text-into}
 use Rattle.listing.proofs.Lengths.{refusal-most, listing-written, listing-most-18-digits}
 use Rattle.reading.specs.Lines.{linesOf}
 use Rattle.report.specs.Report.{report}

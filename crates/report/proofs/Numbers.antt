@@ -31,7 +31,7 @@ use Rattle.intake.specs.declared.Intake.{Intake}
 use Rattle.intake.specs.declared.TakenOutcome.the-variants.{Refused}
 use Rattle.intake.specs.Faults.{sizesIn, cellIn, cellCount, onSheet, cellNumber, sizesFault, cellFault}
 use Rattle.intake.specs.Intake.{takenValues, After, accept, unless, onSizeNames, onSizes, onCellNames, onCells, stateFault, lineIn, lineAfter, endIn, endTaken}
-use Rattle.listing.proofs.Answers.{rows-cols-most}
+use Rattle.sheet.proofs.Within.{rows-cols-most}
 
 -- ---- the intake's
 

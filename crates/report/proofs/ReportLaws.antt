@@ -1,6 +1,6 @@
 -- What a report is, by how the reading and the labelling ended.
 use mathlib.Core.Path.{_≡_, refl, sym, ap, _∙_}
-use mathlib.Core.Bool.{Bool, true, false, cond, true≢false}
+use mathlib.Core.Bool.{Bool, true, false, cond}
 use mathlib.Core.List.{List}
 use Prim.Native.Nat.{ℕ, _<_, _≤_}
 use native.Mathlib.Omega.{arith}
@@ -11,7 +11,8 @@ use Rattle.sheet.specs.declared.Outcome.the-variants.{Accepted as Labelled, Ref
 use Rattle.sheet.specs.Sheet.{Sheet, grid, cells}
 use Rattle.sheet.specs.Label.{areasOf, labelsOf, labelOf}
 use Rattle.sheet.specs.Area.{area}
-use Rattle.sheet.specs.Refusal.{Lent, both, slicesFit, outcome, written, ifAccepted, lentAfter}
+use Rattle.sheet.proofs.Within.{both-true}
+use Rattle.sheet.specs.Refusal.{Lent, slicesFit, outcome, written, ifAccepted, lentAfter}
 use Rattle.intake.specs.declared.Sizes.{Sizes}
 use Rattle.intake.specs.declared.Stage.{Stage}
 use Rattle.intake.specs.declared.Stage.the-variants.{WaitingForSizeNames, WaitingForSizes, WaitingForCellNames, TakingCells, Ended as AtEnd}
@@ -30,10 +31,6 @@ use Rattle.reading.specs.Lines.{FileRead, readFile}
 use Rattle.reading.specs.Feed.{finished}
 use Rattle.reading.proofs.Whole.{started, feedPieces, joined, read-pieces}
 use Rattle.report.specs.Report.{endedSizes, sheetText, reportText, reportLent, Reported, reportedAs, report, reportInto}
-
-both-true : (a b : Bool) → both a b ≡ true → (a ≡ true) × (b ≡ true)
-both-true true b e = (refl, e)
-both-true false b e = absurd (true≢false (sym e))
 
 -- ---- an accepted sheet can be listed
 

@@ -1,6 +1,6 @@
 -- The worked cases hold of the definitions, by computation.
 use mathlib.Core.Path.{_≡_, refl}
-use Rattle.sheet.specs.Cases.{cases, listing, traps, allComputed, allStated}
+use Rattle.sheet.specs.Cases.{cases, listing, refusals, orders, traps, allComputed, allStated}
 
 -- all cases marked * in document 01
 pub all-cases : allComputed cases ≡ allStated cases
@@ -10,6 +10,14 @@ all-cases = refl
 pub sample-listing : allComputed listing ≡ allStated listing
 unfolding listing
 sample-listing = refl
+
+pub all-refusals : allComputed refusals ≡ allStated refusals
+unfolding refusals
+all-refusals = refl
+
+pub all-orders : allComputed orders ≡ allStated orders
+unfolding orders
+all-orders = refl
 
 pub all-traps : allComputed traps ≡ allStated traps
 unfolding traps

@@ -1,16 +1,14 @@
 -- Laws of a label's digits and of its decimal number: each gives the other back.
 use mathlib.Core.Path.{_≡_, refl, sym, _∙_}
-use mathlib.Core.Bool.{Bool, true, false, cond, not, true≢false}
+use mathlib.Core.Bool.{Bool, true, false, cond}
 use mathlib.Core.List.{List, [], _∷_, _++_, append-assoc, append-nil}
 use Prim.Native.Nat.{ℕ, zero, suc, _+_, _*_, _/_, _%_, _-_, _^_, _≤_, _<_}
 use native.Mathlib.Omega.{arith}
 use native.Mathlib.Nat.{zero-add, suc-add, add-suc, mul-le-mul-right, pow-suc, pow-le-pow-right}
-use lib.Dec.{eqb, leb}
-use lib.ListN.{length, getD, length-append}
-use borrow.Author.Tests.{eq-eqb, ne-eqb, le-leb, eqb-true, eqb-false, leb-true, not-true}
+use lib.Dec.{eqb}
+use lib.ListN.{length, length-append}
+use borrow.Author.Tests.{eq-eqb, ne-eqb, eqb-true}
 use Rattle.sheet.specs.Label.{Digits, digits-none, digits-cons, numberFrom, number, digitsWithin, digitsOf}
-use Rattle.sheet.specs.Refusal.{both}
-use Rattle.sheet.specs.Flow.{every, isLabel}
 
 -- ---- the number of digits
 
@@ -113,7 +111,7 @@ pub number-digits : (m : ℕ) → m < 10 ^ 20 → number (digitsOf m) ≡ m
 unfolding digitsOf
 number-digits m h = number-within 20 m h
 
--- ---- how many digits there are, and that each is below 10
+-- ---- how many digits there are
 
 -- k places hold at most k digits
 at-most-within : (k m : ℕ) → length (digitsWithin k m) ≤ k
@@ -143,66 +141,3 @@ count-within (suc f) (suc k) m h = go (eqb m 0) (count-within f k (m / 10) (omeg
 pub digits-at-most : (k m : ℕ) → m < 10 ^ k → length (digitsOf m) ≤ k
 unfolding digitsOf
 digits-at-most k m h = count-within 20 k m h
-
-below-ten-snoc : (x : List ℕ) (a : ℕ) → a < 10 → ((i : ℕ) → getD x i 0 < 10) → (i : ℕ) → getD (x ++ (a ∷ [])) i 0 < 10
-below-ten-snoc [] a h all zero = h
-below-ten-snoc [] a h all (suc i) = omega arith
-below-ten-snoc (b ∷ x) a h all zero = all zero
-below-ten-snoc (b ∷ x) a h all (suc i) = below-ten-snoc x a h (λ j. all (suc j)) i
-
-below-ten-within : (k m i : ℕ) → getD (digitsWithin k m) i 0 < 10
-unfolding digitsWithin
-below-ten-within zero m i = omega arith
-below-ten-within (suc k) m i = go (eqb m 0) (below-ten-snoc (digitsWithin k (m / 10)) (m % 10) (omega arith) (below-ten-within k (m / 10)) i)
-  where
-    go : (b : Bool) → getD (digitsWithin k (m / 10) ++ (m % 10 ∷ [])) i 0 < 10 → getD (cond b [] (digitsWithin k (m / 10) ++ (m % 10 ∷ []))) i 0 < 10
-    go true h = omega arith
-    go false h = h
-
-pub digitsOf-below-ten : (m i : ℕ) → getD (digitsOf m) i 0 < 10
-unfolding digitsOf
-digitsOf-below-ten m i = below-ten-within 20 m i
-
--- ---- labels at a depth
-
-pub both-left : (a b : Bool) → both a b ≡ true → a ≡ true
-both-left true b e = refl
-both-left false b e = e
-
-pub both-right : (a b : Bool) → both a b ≡ true → b ≡ true
-both-right true b e = e
-both-right false b e = absurd (true≢false (sym e))
-
--- a label has at most depth digits, each from 1 to 9
-pub label-length : (depth : ℕ) (x : List ℕ) → isLabel depth x ≡ true → length x ≤ depth
-unfolding isLabel
-label-length depth x e = leb-true _ _ (both-left _ _ e)
-
--- all digits other than 0 and below 10 are digits from 1 to 9
-digits-nonzero : (x : List ℕ) → every (λ a. not (eqb a 0)) x ≡ true → ((i : ℕ) → getD x i 0 < 10) → Digits 9 x
-unfolding every
-digits-nonzero [] e below = digits-none
-digits-nonzero (a ∷ x) e below =
-    let some = eqb-false a 0 (not-true (eqb a 0) (both-left _ _ e)) in
-    let low : 1 ≤ a = omega arith in
-    let high : a ≤ 9 = omega (arith, below 0) in
-    digits-cons low high (digits-nonzero x (both-right (not (eqb a 0)) _ e) (λ i. below (suc i)))
-
-pub label-digits : (depth : ℕ) (x : List ℕ) → isLabel depth x ≡ true → ((i : ℕ) → getD x i 0 < 10) → Digits 9 x
-unfolding isLabel
-label-digits depth x e below = digits-nonzero x (both-right (leb (length x) depth) _ e) below
-
-nonzero-digits : {x : List ℕ} → Digits 9 x → every (λ a. not (eqb a 0)) x ≡ true
-unfolding every
-nonzero-digits digits-none = refl
-nonzero-digits (digits-cons {a = a} low high d) = rw (ne-eqb a 0 (λ e. omega arith), nonzero-digits d)
-
--- and such digits are a label's
-pub digits-label : (depth : ℕ) (x : List ℕ) → Digits 9 x → length x ≤ depth → isLabel depth x ≡ true
-unfolding isLabel
-digits-label depth x d h = rw (le-leb _ _ h, nonzero-digits d)
-
-pub digits-below-ten : {x : List ℕ} → Digits 9 x → (i : ℕ) → getD x i 0 < 10
-digits-below-ten digits-none i = omega arith
-digits-below-ten (digits-cons low high d) zero = omega arith
-digits-below-ten (digits-cons low high d) (suc i) = digits-below-ten d i

@@ -1,14 +1,18 @@
--- Numbers from 1 to a bound: sizes, depths, digits.
-use mathlib.Core.Path.{_≡_, refl}
-use mathlib.Core.Bool.{Bool, true, false, cond}
+-- Tests that both hold, and numbers from 1 to a bound: sizes, depths, digits.
+use mathlib.Core.Path.{_≡_, refl, sym}
+use mathlib.Core.Bool.{Bool, true, false, cond, true≢false}
 use mathlib.Core.List.{List, [], _∷_}
 use Prim.Native.Nat.{ℕ, _≤_, _<_}
 use borrow.Author.Tests.{le-leb, lt-leb, leb-true}
 use lib.Dec.{leb}
+use lib.ListN.{length}
 use Rattle.sheet.specs.Label.{Digits, digits-none, digits-cons}
-use Rattle.sheet.specs.Refusal.{within, depthFits}
-use Rattle.sheet.specs.Flow.{every}
-use Rattle.sheet.proofs.Digits.{both-left, both-right}
+use Rattle.sheet.specs.Refusal.{both, within, sizesFit, depthFits}
+use Rattle.sheet.specs.Flow.{every, areDigits}
+
+pub both-true : (a b : Bool) → both a b ≡ true → (a ≡ true) × (b ≡ true)
+both-true true b e = (refl, e)
+both-true false b e = absurd (true≢false (sym e))
 
 module _ (most a : ℕ) where
   pub within-yes : 1 ≤ a → a ≤ most → within most a ≡ true
@@ -29,7 +33,17 @@ module _ (most a : ℕ) where
 
   pub within-both : within most a ≡ true → (1 ≤ a) × (a ≤ most)
   unfolding within
-  within-both e = (leb-true 1 a (both-left _ _ e), leb-true a most (both-right (leb 1 a) _ e))
+  within-both e = let w = both-true (leb 1 a) (leb a most) e in (leb-true 1 a (w .0), leb-true a most (w .1))
+
+pub rows-cols-most : (rows cols : ℕ) → sizesFit rows cols ≡ true → (rows ≤ 256) × (cols ≤ 256)
+unfolding sizesFit
+rows-cols-most rows cols e =
+    let w = both-true (within 256 rows) (within 256 cols) e in
+    (within-both 256 rows (w .0) .1, within-both 256 cols (w .1) .1)
+
+pub cols-some : (rows cols : ℕ) → sizesFit rows cols ≡ true → 0 < cols
+unfolding sizesFit
+cols-some rows cols e = within-both 256 cols (both-true (within 256 rows) (within 256 cols) e .1) .0
 
 pub depth-most : (depth : ℕ) → depthFits depth ≡ true → depth ≤ 18
 unfolding depthFits
@@ -39,13 +53,24 @@ pub digits-every : (x : List ℕ) → every (within 9) x ≡ true → Digits 9 x
 unfolding every
 digits-every [] e = digits-none
 digits-every (a ∷ x) e =
-    let w = within-both 9 a (both-left _ _ e) in
-    digits-cons (w .0) (w .1) (digits-every x (both-right (within 9 a) _ e))
+    let b = both-true (within 9 a) (every (within 9) x) e in
+    let w = within-both 9 a (b .0) in
+    digits-cons (w .0) (w .1) (digits-every x (b .1))
 
 pub every-digits : {x : List ℕ} → Digits 9 x → every (within 9) x ≡ true
 unfolding every
 every-digits digits-none = refl
 every-digits (digits-cons {a = a} low high d) = rw (within-yes 9 a low high, every-digits d)
+
+-- at most depth digits, each from 1 to 9
+module _ (depth : ℕ) (x : List ℕ) where
+  pub digits-label : Digits 9 x → length x ≤ depth → areDigits depth x ≡ true
+  unfolding areDigits
+  digits-label d h = rw (le-leb _ _ h, every-digits d)
+
+  pub label-digits : areDigits depth x ≡ true → Digits 9 x × (length x ≤ depth)
+  unfolding areDigits
+  label-digits e = let b = both-true (leb (length x) depth) (every (within 9) x) e in (digits-every x (b .1), leb-true _ _ (b .0))
 
 pub within-from : (most a : ℕ) → 1 ≤ a → within most a ≡ leb a most
 unfolding within

@@ -1,14 +1,14 @@
 -- Worked cases: what the definitions compute beside what document 01 states. Those that it marks * stand in one list, in its order.
 use mathlib.Core.Bool.{cond}
-use mathlib.Core.List.{List, [], _∷_}
-use Prim.Native.Nat.{ℕ, _+_}
+use mathlib.Core.List.{List, [], _∷_, _++_}
+use Prim.Native.Nat.{ℕ, _*_}
 use lib.Dec.{eqb}
 use lib.ListN.{replicate}
 use Rattle.sheet.specs.Sheet.{Grid, Sheet, grid}
 use Rattle.sheet.specs.Area.{area}
 use Rattle.sheet.specs.River.{network, stem, mouth, Run, river}
-use Rattle.sheet.specs.Label.{labelOf, outlet, areasOf, labelsOf}
-use Rattle.sheet.specs.Refusal.{outcome, refusalNumber, refusalPlace}
+use Rattle.sheet.specs.Label.{labelOf, outlet}
+use Rattle.sheet.specs.Refusal.{Lent, outcome, lentAfter, refusalNumber, refusalPlace}
 use Rattle.sheet.specs.Flow.{flow, answerNumber}
 
 pub record Case : Type 0 where
@@ -36,11 +36,13 @@ mouthsAt c [] = []
 mouthsAt c (stem s ∷ R) = cond (eqb s c) (mouths R) (mouthsAt c R)
 mouthsAt c (mouth v ∷ R) = mouthsAt c R
 
--- number and place of the outcome, where n places of each kind are needed and lent
-abbrev outcomeIs : Grid → ℕ → List ℕ
-outcomeIs G n =
-    let o = outcome (sheet G 1) (record { areas = replicate n 0; labels = replicate n 0; work = replicate (n + n + n + n + n + n + n + n) 0 }) in
-    refusalNumber o ∷ refusalPlace o ∷ []
+-- what is lent for n cells, each place holding 7
+abbrev lentFor : ℕ → Lent
+lentFor n = record { areas = replicate n 7; labels = replicate n 7; work = replicate (8 * n) 7 }
+
+-- number and place of the outcome; both are 0 where it is accepted
+abbrev outcomeIs : Sheet → Lent → List ℕ
+outcomeIs S L = let o = outcome S L in refusalNumber o ∷ refusalPlace o ∷ []
 
 -- the cases marked *
 unfoldable pub cases : List Case
@@ -51,19 +53,44 @@ cases =
     ∷ case (labelOf (sheet sampleA 2) 3 ∷ labelOf (sheet sampleA 2) 11 ∷ []) (92 ∷ 93 ∷ [])
     ∷ case (labelOf (sheet sampleA 1) 3 ∷ labelOf (sheet sampleA 1) 6 ∷ labelOf (sheet sampleA 1) 7 ∷ labelOf (sheet sampleA 1) 11 ∷ []) (9 ∷ 9 ∷ 9 ∷ 9 ∷ [])
     ∷ case (area (sheet (grid 1 1 (1 ∷ [])) 1) 0 ∷ labelOf (sheet (grid 1 1 (1 ∷ [])) 1) 0 ∷ []) (1 ∷ 0 ∷ [])
-    ∷ case (outcomeIs (grid 1 2 (1 ∷ 16 ∷ [])) 2) (6 ∷ 0 ∷ [])
-    ∷ case (outcomeIs (grid 1 2 (16 ∷ 1 ∷ [])) 2) (7 ∷ 1 ∷ [])
+    ∷ case (outcomeIs (sheet (grid 1 2 (1 ∷ 16 ∷ [])) 1) (lentFor 2)) (6 ∷ 0 ∷ [])
+    ∷ case (outcomeIs (sheet (grid 1 2 (16 ∷ 1 ∷ [])) 1) (lentFor 2)) (7 ∷ 1 ∷ [])
     ∷ case (answerNumber (flow 3 91 92) ∷ answerNumber (flow 3 92 91) ∷ answerNumber (flow 3 21 3) ∷ []) (1 ∷ 0 ∷ 0 ∷ [])
     ∷ case (answerNumber (flow 3 131 14) ∷ []) (3 ∷ [])
     ∷ case (answerNumber (flow 3 9 91) ∷ answerNumber (flow 3 105 9) ∷ []) (140 ∷ 139 ∷ [])
     ∷ []
 
--- sample A whole, as document 01 prints it
+-- sample A whole: it is accepted, and of slices for 13 cells the first 12 areas and labels are those that document 01 prints, the
+-- first 96 work places are 0, and the others keep their values
 unfoldable pub listing : List Case
-unfolding areasOf labelsOf
+unfolding outcome lentAfter
 listing =
-    case (areasOf (sheet sampleA 2)) (0 ∷ 2 ∷ 1 ∷ 1 ∷ 11 ∷ 9 ∷ 4 ∷ 2 ∷ 1 ∷ 1 ∷ 1 ∷ 1 ∷ [])
-    ∷ case (labelsOf (sheet sampleA 2)) (0 ∷ 8 ∷ 8 ∷ 92 ∷ 1 ∷ 3 ∷ 91 ∷ 93 ∷ 2 ∷ 4 ∷ 6 ∷ 93 ∷ [])
+    let after : Lent = lentAfter (sheet sampleA 2) (lentFor 13) in
+    case (outcomeIs (sheet sampleA 2) (lentFor 13)) (0 ∷ 0 ∷ [])
+    ∷ case (after .areas) (0 ∷ 2 ∷ 1 ∷ 1 ∷ 11 ∷ 9 ∷ 4 ∷ 2 ∷ 1 ∷ 1 ∷ 1 ∷ 1 ∷ 7 ∷ [])
+    ∷ case (after .labels) (0 ∷ 8 ∷ 8 ∷ 92 ∷ 1 ∷ 3 ∷ 91 ∷ 93 ∷ 2 ∷ 4 ∷ 6 ∷ 93 ∷ 7 ∷ [])
+    ∷ case (after .work) (replicate 96 0 ++ replicate 8 7)
+    ∷ []
+
+-- refused by 6 and by 3: no area or label is written, and the work places are cleared once check 3 is passed
+unfoldable pub refusals : List Case
+unfolding lentAfter
+refusals =
+    let circle : Lent = lentAfter (sheet (grid 1 2 (1 ∷ 16 ∷ [])) 1) (lentFor 2) in
+    let short : Lent = lentAfter (sheet (grid 1 2 (1 ∷ 16 ∷ [])) 1) (lentFor 1) in
+    case (circle .areas ++ circle .labels ++ circle .work) (replicate 4 7 ++ replicate 16 0)
+    ∷ case (short .areas ++ short .labels ++ short .work) (replicate 10 7)
+    ∷ []
+
+-- sheets that fail two checks get the earlier number: 1 before 2, 2 before 3, 3 before 4, 4 before 6, 6 before 7
+unfoldable pub orders : List Case
+unfolding outcome
+orders =
+    case (outcomeIs (sheet (grid 257 1 []) 19) (lentFor 0)) (1 ∷ 0 ∷ [])
+    ∷ case (outcomeIs (sheet (grid 1 1 (1 ∷ [])) 19) (lentFor 0)) (2 ∷ 0 ∷ [])
+    ∷ case (outcomeIs (sheet (grid 1 1 (3 ∷ [])) 18) (lentFor 0)) (3 ∷ 0 ∷ [])
+    ∷ case (outcomeIs (sheet (grid 1 3 (1 ∷ 16 ∷ 3 ∷ [])) 18) (lentFor 3)) (4 ∷ 2 ∷ [])
+    ∷ case (outcomeIs (sheet (grid 1 4 (16 ∷ 1 ∷ 16 ∷ 1 ∷ [])) 18) (lentFor 4)) (6 ∷ 1 ∷ [])
     ∷ []
 
 -- a basin whose outlet, cell 3, has the donors 0, 1, 7 and 4, and cell 4 the donors 2, 6 and 8. Of the equal mouths 0, 1, 7, 2 and 6,
@@ -80,9 +107,10 @@ traps =
     ∷ case (labelOf (sheet confluences 2) 1 ∷ labelOf (sheet confluences 2) 2 ∷ []) (2 ∷ 6 ∷ [])
     ∷ case (labelOf (sheet confluences 2) 7 ∷ labelOf (sheet confluences 2) 6 ∷ labelOf (sheet confluences 2) 8 ∷ []) (4 ∷ 8 ∷ 9 ∷ [])
     ∷ case (answerNumber (flow 3 12 3) ∷ answerNumber (flow 3 114 3) ∷ answerNumber (flow 3 11 3) ∷ []) (0 ∷ 0 ∷ 1 ∷ [])
-    ∷ case (outcomeIs (grid 1 3 (4 ∷ 1 ∷ 16 ∷ [])) 3) (6 ∷ 1 ∷ [])
+    ∷ case (outcomeIs (sheet (grid 1 3 (4 ∷ 1 ∷ 16 ∷ [])) 1) (lentFor 3)) (6 ∷ 1 ∷ [])
     ∷ case (answerNumber (flow 3 132 14) ∷ answerNumber (flow 3 0 0) ∷ answerNumber (flow 3 0 5) ∷ []) (0 ∷ 2 ∷ 140 ∷ [])
-    ∷ case (answerNumber (flow 3 9 105) ∷ answerNumber (flow 0 1 2) ∷ answerNumber (flow 19 1 2) ∷ answerNumber (flow 18 1 2) ∷ []) (139 ∷ 130 ∷ 130 ∷ 1 ∷ [])
+    ∷ case (answerNumber (flow 3 9 105) ∷ answerNumber (flow 3 105 105) ∷ answerNumber (flow 0 105 105) ∷ []) (139 ∷ 139 ∷ 130 ∷ [])
+    ∷ case (answerNumber (flow 19 1 2) ∷ answerNumber (flow 18 1 2) ∷ []) (130 ∷ 1 ∷ [])
     ∷ []
 
 abbrev pub allComputed : List Case → List (List ℕ)

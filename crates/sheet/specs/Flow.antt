@@ -1,5 +1,5 @@
 -- Document 01's flow question: where two labels part, the digit rule, refusals 2, 11 and 12, and the answer.
-use mathlib.Core.Bool.{Bool, true, false, cond, not}
+use mathlib.Core.Bool.{Bool, true, false, cond}
 use mathlib.Core.List.{List, [], _∷_}
 use Prim.Native.Nat.{ℕ, suc, _+_, _%_}
 use lib.Dec.{eqb, ltb, leb}
@@ -9,7 +9,7 @@ use Rattle.sheet.specs.declared.Found.the-variants.{At, Nothing}
 use Rattle.sheet.specs.declared.Flow.{Flow}
 use Rattle.sheet.specs.declared.Flow.the-variants.{Same, Yes, No, Undecided, Refused}
 use Rattle.sheet.specs.Label.{digitsOf}
-use Rattle.sheet.specs.Refusal.{both, depthFits}
+use Rattle.sheet.specs.Refusal.{both, within, depthFits}
 
 -- the first place from i on where both have a digit and the digits differ
 unfoldable pub partFrom : ℕ → List ℕ → List ℕ → Found
@@ -34,10 +34,15 @@ unfoldable pub ruleAt : ℕ → List ℕ → List ℕ → Bool
 unfolding every
 ruleAt i x y = cond (ltb (getD x i 0) (getD y i 0)) (every isOdd (drop i x)) false
 
--- no digit is 0, and there are no more than depth
-unfoldable pub isLabel : ℕ → List ℕ → Bool
-unfolding every
-isLabel depth x = cond (leb (length x) depth) (every (λ a. not (eqb a 0)) x) false
+-- at most depth digits, each from 1 to 9
+unfoldable pub areDigits : ℕ → List ℕ → Bool
+unfolding every within
+areDigits depth x = both (leb (length x) depth) (every (within 9) x)
+
+-- a label at a depth, else 11: no digit is 0, and there are no more than depth
+unfoldable pub isLabel : ℕ → ℕ → Bool
+unfolding areDigits digitsOf
+isLabel depth label = areDigits depth (digitsOf label)
 
 -- the answer for unequal labels: 12 where they do not part; else by the rule, which is unsure where P may hold tributaries that were cut
 unfoldable pub answerAt : ℕ → List ℕ → List ℕ → Found → Flow
@@ -45,19 +50,18 @@ unfolding ruleAt
 answerAt depth x y Nothing = Refused 12
 answerAt depth x y (At i) = cond (ruleAt i x y) (cond (ltb (length x) depth) Yes Undecided) No
 
--- the flow question on digits: 11, Same, 12, then the rule
-unfoldable pub flowDigits : ℕ → List ℕ → List ℕ → Bool → Flow
-unfolding isLabel answerAt partAt
-flowDigits depth x y same =
-    let rest : Flow = answerAt depth x y (partAt x y) in
-    cond (both (isLabel depth x) (isLabel depth y)) (cond same Same rest) (Refused 11)
+-- the answer for unequal labels as numbers
+unfoldable pub answerUnequal : ℕ → ℕ → ℕ → Flow
+unfolding answerAt partAt digitsOf
+answerUnequal depth p q = answerAt depth (digitsOf p) (digitsOf q) (partAt (digitsOf p) (digitsOf q))
 
--- does water from the label q pass the label p? 2 before all else
+-- does water from the label q pass the label p? 2, 11, Same, in this order, then the answer for unequal labels
 unfoldable pub flow : ℕ → ℕ → ℕ → Flow
-unfolding depthFits flowDigits digitsOf
+unfolding depthFits isLabel answerUnequal
 flow depth p q =
-    let rest : Flow = flowDigits depth (digitsOf p) (digitsOf q) (eqb p q) in
-    cond (depthFits depth) rest (Refused 2)
+    let unequal : Flow = answerUnequal depth p q in
+    let judged : Flow = cond (both (isLabel depth p) (isLabel depth q)) (cond (eqb p q) Same unequal) (Refused 11) in
+    cond (depthFits depth) judged (Refused 2)
 
 -- the number of an answer: 0 No, 1 Yes, 2 Same, 3 Undecided, 128 + the refusal's number
 abbrev pub answerNumber : Flow → ℕ

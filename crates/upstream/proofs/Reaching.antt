@@ -1,6 +1,6 @@
 -- A finished search has reached the inside cells whose water comes to an outlet, and no others.
 use mathlib.Core.Path.{_≡_, refl, sym, _∙_, ap, subst}
-use mathlib.Core.Bool.{Bool, true, false, true≢false}
+use mathlib.Core.Bool.{true, false}
 use mathlib.Core.List.{List}
 use Prim.Native.Nat.{ℕ, zero, suc, _-_, _<_}
 use native.Mathlib.Decide.{ℕ-discrete}
@@ -9,8 +9,8 @@ use Rattle.sheet.specs.declared.Next.{Next}
 use Rattle.sheet.specs.declared.Next.the-variants.{Outlet, To}
 use Rattle.sheet.specs.Sheet.{Grid, cells, inside, next}
 use Rattle.sheet.specs.Water.{reachesOutlet}
-use Rattle.sheet.specs.Refusal.{both}
 use Rattle.sheet.proofs.Cells.{next-goes, next-to-lt, is-outlet}
+use Rattle.sheet.proofs.Within.{both-true}
 use Rattle.claims.specs.Basin.{Ends, ends-here, ends-after}
 use Rattle.claims.proofs.Counts.{not-true}
 use Rattle.claims.proofs.Fuel.{ends-within, reaches-ends, ends-reaches}
@@ -19,10 +19,6 @@ use Rattle.upstream.specs.Search.{Upstream, Searched}
 use Rattle.upstream.specs.Growth.{Spread}
 use Rattle.upstream.proofs.Queues.{reached-yes, reached-no, place-on}
 use Rattle.upstream.proofs.Upstream.{way-on, next-before, inside-of}
-
-pub both-true : {a b : Bool} → both a b ≡ true → (a ≡ true) × (b ≡ true)
-both-true {a = true} e = (refl, e)
-both-true {a = false} e = absurd (true≢false (sym e))
 
 module _ {G : Grid} {work : List ℕ} {queued : ℕ} (u : Upstream G work queued) where
   place-ends : (m i : ℕ) → i < m → i < queued → (k : ℕ) × Ends (next G) k (placed work i)
@@ -60,7 +56,7 @@ module _ {G : Grid} {work : List ℕ} {queued : ℕ} (s : Spread G work queued q
   reached-is c l = elim (ℕ-discrete (rankOf (cells G) work c) 0) [
     | yes e ↦
         reached-no (cells G) work c e
-        ∙ sym (not-true _ (λ h. let b = both-true h in let r = ends-reached (reaches-ends (next G) (cells G) c (b .1)) (b .0) in omega arith))
+        ∙ sym (not-true _ (λ h. let b = both-true _ _ h in let r = ends-reached (reaches-ends (next G) (cells G) c (b .1)) (b .0) in omega arith))
     | no d ↦
         let h : 0 < rankOf (cells G) work c = omega arith in
         reached-yes (cells G) work c h ∙ sym (rw (inside-of (s .upstream) c l h) (reached-ends (s .upstream) c l h))

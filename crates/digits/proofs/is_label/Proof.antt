@@ -2,14 +2,13 @@
 use native.Mathlib.Omega.{arith}
 use mathlib.Core.Path.{_≡_, refl, sym, _∙_}
 use Prim.Native.Nat.{_≤_}
-use Rattle.sheet.specs.Label.{digitsOf}
 use Rattle.sheet.specs.Flow.{isLabel}
 use Rattle.digits.proofs.LastDigit.{label-none, label-long, label-zero, label-turn}
 use Rattle.digits.proofs.is_label.Statement.{statement}
 use Rattle.digits.proofs.is_label.Tie as tie
 
 abbrev Inv-loop : tie.InvT-loop
-Inv-loop depth label left₀ m₀ left m = (isLabel left (digitsOf m) ≡ isLabel depth (digitsOf label)) × (m ≤ label)
+Inv-loop depth label left₀ m₀ left m = (isLabel left m ≡ isLabel depth label) × (m ≤ label)
 
 abbrev μ-loop : tie.MeasureT-loop
 μ-loop depth label left₀ m₀ left m = m

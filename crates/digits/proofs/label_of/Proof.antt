@@ -5,7 +5,8 @@ use borrow.Author.Tests.{le-leb, lt-leb}
 use borrow.Author.Needs.{needs}
 use Rattle.sheet.proofs.Digits.{number-fits}
 use Rattle.sheet.proofs.Within.{digits-every, depth-most}
-use Rattle.digits.specs.Digits.{labelAnswer, areDigits}
+use Rattle.sheet.specs.Flow.{areDigits}
+use Rattle.digits.specs.Digits.{labelAnswer}
 use Rattle.digits.proofs.label_of.Statement.{statement}
 use Rattle.digits.proofs.label_of.Tie as tie
 
@@ -22,19 +23,30 @@ number-of-requires c κs =
 
 returns : tie.Need-returns
 unfolding labelAnswer areDigits
-returns c = simp (sym (c .before .before .before .before .before .depth-fits .ensures) ∙ c .before .before .before .before .if1 .taken, le-leb _ _ (c .before .before .before .if2 .taken), sym (c .before .before .all-digits .ensures) ∙ c .before .if3 .taken, c .number-of .ensures)
+returns c =
+    let fits = sym (c .before .before .before .before .before .depth-fits .ensures) ∙ c .before .before .before .before .if1 .taken in
+    let short = le-leb _ _ (c .before .before .before .if2 .taken) in
+    let digits = sym (c .before .before .all-digits .ensures) ∙ c .before .if3 .taken in
+    (simp (fits, short, digits, c .number-of .ensures), simp (fits, short, digits, c .number-of .ensures))
 
 returns-2 : tie.Need-returns-2
 unfolding labelAnswer areDigits
-returns-2 c = simp (sym (c .before .before .before .before .depth-fits .ensures) ∙ c .before .before .before .if1 .taken, le-leb _ _ (c .before .before .if2 .taken), sym (c .before .all-digits .ensures) ∙ c .if3 .left)
+returns-2 c =
+    let fits = sym (c .before .before .before .before .depth-fits .ensures) ∙ c .before .before .before .if1 .taken in
+    let short = le-leb _ _ (c .before .before .if2 .taken) in
+    let no-digits = sym (c .before .all-digits .ensures) ∙ c .if3 .left in
+    (simp (fits, short, no-digits), simp (fits, short, no-digits))
 
 returns-3 : tie.Need-returns-3
 unfolding labelAnswer areDigits
-returns-3 c = simp (sym (c .before .before .depth-fits .ensures) ∙ c .before .if1 .taken, lt-leb _ _ (c .if2 .left))
+returns-3 c =
+    let fits = sym (c .before .before .depth-fits .ensures) ∙ c .before .if1 .taken in
+    let long = lt-leb _ _ (c .if2 .left) in
+    (simp (fits, long), simp (fits, long))
 
 returns-4 : tie.Need-returns-4
 unfolding labelAnswer areDigits
-returns-4 c = simp (sym (c .before .depth-fits .ensures) ∙ c .if1 .left)
+returns-4 c = let unfit = sym (c .before .depth-fits .ensures) ∙ c .if1 .left in (simp unfit, simp unfit)
 
 pub label-of-spec : {M : Type 1} → statement M
 label-of-spec =

@@ -6,7 +6,7 @@ use borrow.Author.Tests.{le-leb, lt-leb}
 use borrow.Author.Needs.{needs}
 use Rattle.sheet.specs.Label.{digitsOf}
 use Rattle.digits.specs.declared.DigitsAnswer.the-variants.{Written}
-use Rattle.digits.specs.Digits.{digitsAnswer, digitsPlaces}
+use Rattle.digits.specs.Digits.{digitsAnswer, digitsValues, digitsPlaces}
 use Rattle.digits.proofs.write_digits.Statement.{statement}
 use Rattle.digits.proofs.write_digits.Tie as tie
 
@@ -26,7 +26,7 @@ returns c =
     let fits = sym (c .before .before .before .before .before .depth-fits .ensures) ∙ c .before .before .before .before .if1 .taken in
     let label = sym (c .before .before .before .is-label .ensures) ∙ c .before .before .if2 .taken in
     let short = lt-leb (length (digitsOf (a .label))) (length (a .out .now)) (omega (arith, c .before .count-digits .ensures)) in
-    (simp (fits, label, short), simp (fits, label, short))
+    (simp (fits, label, short), (simp (fits, label, short), simp (fits, label, short)))
 
 put-digits-requires : tie.Need-put-digits-requires
 put-digits-requires c κs = search needs
@@ -41,20 +41,23 @@ returns-2 c =
     let fits = sym (c .before .before .before .before .before .before .before .before .before .depth-fits .ensures) ∙ c .before .before .before .before .before .before .before .before .if1 .taken in
     let label = sym (c .before .before .before .before .before .before .before .is-label .ensures) ∙ c .before .before .before .before .before .before .if2 .taken in
     let room = le-leb (length (digitsOf (a .label))) (length (a .out .now)) (omega (arith, c .before .before .before .before .before .count-digits .ensures)) in
-    (ap Written (c .before .before .before .before .before .count-digits .ensures) ∙ simp (fits, label, room), simp (fits, label, room) (c .before .before .put-digits .ensures))
+    let count = c .before .before .before .before .before .count-digits .ensures in (
+      ap Written count ∙ simp (fits, label, room),
+      (ap (λ n. digitsValues (Written n)) count ∙ simp (fits, label, room), simp (fits, label, room) (c .before .before .put-digits .ensures)),
+    )
 
 returns-3 : tie.Need-returns-3
 unfolding digitsAnswer digitsPlaces
 returns-3 c =
     let fits = sym (c .before .before .before .depth-fits .ensures) ∙ c .before .before .if1 .taken in
     let no-label = sym (c .before .is-label .ensures) ∙ c .if2 .left in
-    (simp (fits, no-label), simp (fits, no-label))
+    (simp (fits, no-label), (simp (fits, no-label), simp (fits, no-label)))
 
 returns-4 : tie.Need-returns-4
 unfolding digitsAnswer digitsPlaces
 returns-4 c =
     let unfit = sym (c .before .depth-fits .ensures) ∙ c .if1 .left in
-    (simp unfit, simp unfit)
+    (simp unfit, (simp unfit, simp unfit))
 
 pub write-digits-spec : {M : Type 1} → statement M
 write-digits-spec =

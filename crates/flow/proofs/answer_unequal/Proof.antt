@@ -5,6 +5,7 @@ use mathlib.Core.List.{List}
 use lib.ListN.{replicate}
 use borrow.Author.Needs.{needs}
 use Rattle.sheet.specs.Label.{digitsOf}
+use Rattle.sheet.specs.Flow.{answerUnequal}
 use Rattle.sheet.proofs.Digits.{digits-at-most-20}
 use Rattle.flow.proofs.Places.{written-within, written-first, written-count}
 use Rattle.flow.proofs.answer_unequal.Statement.{statement}
@@ -48,6 +49,7 @@ answer-at-requires : tie.Need-answer-at-requires
 answer-at-requires c κs = search needs
 
 returns : tie.Need-returns
+unfolding answerUnequal
 returns c =
     let start = c .before .before .before .before .before .before .before .before .before .before .before in
     let counted-p = c .before .before .before .before .before .before .before .before .before .before .count-digits .ensures in

@@ -3,12 +3,9 @@ use native.Mathlib.Omega.{arith}
 use mathlib.Core.Path.{sym, _∙_}
 use borrow.Author.Tests.{le-leb, lt-leb}
 use Rattle.intake.specs.Faults.{sizesFault}
-use Rattle.intake.proofs.FaultLaws.{rows-cols-most, sizes-fit}
+use Rattle.intake.proofs.FaultLaws.{sizes-fit}
 use Rattle.sheet.proofs.Cells.{cells-most}
-use mathlib.Core.Path.{sym, _∙_}
-use borrow.Author.Tests.{le-leb, lt-leb}
-use Rattle.intake.specs.Faults.{sizesFault}
-use Rattle.intake.proofs.FaultLaws.{rows-cols-most, sizes-fit}
+use Rattle.sheet.proofs.Within.{rows-cols-most}
 use borrow.Author.Needs.{needs}
 use Rattle.intake.proofs.size_lines.sizes_fault.Statement.{statement}
 use Rattle.intake.proofs.size_lines.sizes_fault.Tie as tie

@@ -9,6 +9,7 @@ use Rattle.sheet.specs.declared.Next.{Next}
 use Rattle.sheet.specs.declared.Next.the-variants.{Outlet, To}
 use Rattle.sheet.specs.Sheet.{Grid, cells, inside, next}
 use Rattle.sheet.specs.Water.{reachesOutlet}
+use Rattle.sheet.specs.Refusal.{both}
 use Rattle.sheet.proofs.Cells.{next-goes, next-to-lt, is-outlet}
 use Rattle.sheet.proofs.Within.{both-true}
 use Rattle.claims.specs.Basin.{Ends, ends-here, ends-after}

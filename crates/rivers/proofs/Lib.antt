@@ -2,6 +2,7 @@ pub mod Relabelled
 pub mod Positions
 pub mod KeyOrder
 pub mod Largest
+pub mod Prefixes
 pub mod Labelling
 pub mod Progress
 pub mod Bounds

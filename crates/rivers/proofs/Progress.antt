@@ -55,9 +55,9 @@ unfolding prepends prepend
 prepends-last [] = refl
 prepends-last (a ∷ A) = ap (prepend a) (prepends-last A)
 
--- what `label_run` knows of the unit R of the network N at position j: the run that began at `start` has the digit after `digit`,
+-- what `label_run` knows of the unit R of the network N at position j: the run that began at `start` gets `digit` after those gathered,
 -- and what is still to do makes of the labels what the whole makes of those at entry
-pub record Progress (N : Network) (R : Run) (cell size : List ℕ) (end hi digits prefix : ℕ) (whole labels : List ℕ) (number start j : ℕ) : Type 0 where
+pub record Progress (N : Network) (R : Run) (cell size : List ℕ) (end hi digits : ℕ) (gathered whole labels : List ℕ) (digit start j : ℕ) : Type 0 where
   pub begun : Run
   pub left : Run
   pub laid-begun : Laid cell size end start j begun
@@ -67,16 +67,16 @@ pub record Progress (N : Network) (R : Run) (cell size : List ℕ) (end hi digit
   pub todo-is : todo ≡ prepends begun (cutAt (taken N R) left)
   pub ordered : Ordered (N .next) (join todo)
   pub headed : AllHeaded (N .next) (heavier N) todo
-  pub digit : ℕ
-  pub number-is : number ≡ prefix * 10 + suc digit
-  pub few : digit + 2 * chosen (taken N R) left ≤ 8
-  pub rest : partsLabelled N digits prefix digit todo labels ≡ whole
+  pub used : ℕ
+  pub digit-is : digit ≡ suc used
+  pub few : used + 2 * chosen (taken N R) left ≤ 8
+  pub rest : partsLabelled N digits gathered used todo labels ≡ whole
 
 module _ {cell size area : List ℕ} {count split least end lo hi : ℕ} (Y : Layout cell size count) (u : UnitAt cell size area split least end lo hi) where
-  pub progress-none : {digits prefix number : ℕ} {labels : List ℕ} → (digits ≡ 0 → ⊥) → finished (u .of .network) (u .run) ≡ false → split ≤ 4 → number ≡ prefix * 10 + 1
-      → Progress (u .of .network) (u .run) cell size end hi (digits - 1) prefix (unitLabelled (u .of .network) (u .run) digits prefix labels) labels number lo lo
+  pub progress-none : {digits : ℕ} {gathered labels : List ℕ} → (digits ≡ 0 → ⊥) → finished (u .of .network) (u .run) ≡ false → split ≤ 4
+      → Progress (u .of .network) (u .run) cell size end hi (digits - 1) gathered (unitLabelled (u .of .network) (u .run) digits gathered labels) labels 1 lo lo
   unfolding prepends parts
-  progress-none {digits} {prefix} {number} {labels} d f s e =
+  progress-none {digits} {gathered} {labels} d f s =
       let o : Ordered (u .of .network .next) (u .run) = headed-ordered (u .of .lawful) (u .headed) in
       let cuts = cuts-cut (taken (u .of .network) (u .run)) (u .run) in
       record {
@@ -89,16 +89,16 @@ module _ {cell size area : List ℕ} {count split least end lo hi : ℕ} (Y : La
         todo-is = refl;
         ordered = rw (join-cut (taken (u .of .network) (u .run)) (u .run)) o;
         headed = parts-headed (u .of .lawful) (u .headed);
-        digit = 0;
-        number-is = e;
+        used = 0;
+        digit-is = refl;
         few = omega (arith, taken-few (u .of .network) (u .run) o, u .of .laid-out .split-is);
-        rest = unit-parts (u .of .network) (u .run) digits prefix labels d f;
+        rest = unit-parts (u .of .network) (u .run) digits gathered labels d f;
       }
 
-  module _ {digits prefix number start j : ℕ} {whole labels : List ℕ} where
+  module _ {digits digit start j : ℕ} {gathered whole labels : List ℕ} where
     pub progress-stem : j < hi → j + getD size j 0 ≡ end
-        → Progress (u .of .network) (u .run) cell size end hi digits prefix whole labels number start j
-        → Progress (u .of .network) (u .run) cell size end hi digits prefix whole labels number start (j + 1)
+        → Progress (u .of .network) (u .run) cell size end hi digits gathered whole labels digit start j
+        → Progress (u .of .network) (u .run) cell size end hi digits gathered whole labels digit start (j + 1)
     unfolding cutAt chosen
     progress-stem h q p =
         let g = goes-stem h q (p .laid-left) in
@@ -112,14 +112,14 @@ module _ {cell size area : List ℕ} {count split least end lo hi : ℕ} (Y : La
           todo-is = rw (g .is) at (p .todo-is) ∙ sym (prepends-more (p .begun) (stem (getD cell j 0)) _);
           ordered = p .ordered;
           headed = p .headed;
-          digit = p .digit;
-          number-is = p .number-is;
+          used = p .used;
+          digit-is = p .digit-is;
           few = rw (g .is) at (p .few);
           rest = p .rest;
         }
 
     module _ {done : Bool} {cut k : ℕ} (by : CutOf (u .of .network) (u .run) done cut) (h : j < hi) (q : j + getD size j 0 ≡ end → ⊥) (key : k ≡ keyAt cell area j)
-        (p : Progress (u .of .network) (u .run) cell size end hi digits prefix whole labels number start j) where
+        (p : Progress (u .of .network) (u .run) cell size end hi digits gathered whole labels digit start j) where
       -- the mouth at position j is taken if its key is not below the cut
       taken-at : taken (u .of .network) (u .run) (getD cell j 0) ≡ leb cut k
       taken-at =
@@ -127,7 +127,7 @@ module _ {cell size area : List ℕ} {count split least end lo hi : ℕ} (Y : La
           rw (key, key-is u j h) (by .takes (getD cell j 0) (p .of-unit (getD cell j 0) (rw (g .is) mouth-here)))
 
       pub progress-skip : k < cut
-          → Progress (u .of .network) (u .run) cell size end hi digits prefix whole labels number start (j + getD size j 0)
+          → Progress (u .of .network) (u .run) cell size end hi digits gathered whole labels digit start (j + getD size j 0)
       unfolding cutAt chosen
       progress-skip l =
           let g = goes-mouth h q (p .laid-left) in
@@ -142,8 +142,8 @@ module _ {cell size area : List ℕ} {count split least end lo hi : ℕ} (Y : La
             todo-is = rw (g .is, out) at (p .todo-is) ∙ sym (prepends-more (p .begun) (mouth (getD cell j 0)) _);
             ordered = p .ordered;
             headed = p .headed;
-            digit = p .digit;
-            number-is = p .number-is;
+            used = p .used;
+            digit-is = p .digit-is;
             few = rw (g .is, out) at (p .few);
             rest = p .rest;
           }
@@ -158,13 +158,13 @@ module _ {cell size area : List ℕ} {count split least end lo hi : ℕ} (Y : La
             rw (e, in-it) at (p .todo-is) ∙ prepends-part (p .begun) (getD cell j 0) _
 
         -- a digit for the run, one for the tributary and one for the next run are left
-        pub progress-room : number + 2 ≤ prefix * 10 + 9
+        pub progress-room : digit + 2 ≤ 9
         unfolding chosen
         progress-room =
             let g = goes-mouth h q (p .laid-left) in
             let in-it : taken (u .of .network) (u .run) (getD cell j 0) ≡ true = taken-at ∙ le-leb cut k l in
             let f = rw (g .is, in-it) at (p .few) in
-            omega (arith, p .number-is)
+            omega (arith, p .digit-is)
 
         -- the run under way is a unit
         pub progress-unit : UnitAt cell size area split least end start j
@@ -183,9 +183,10 @@ module _ {cell size area : List ℕ} {count split least end lo hi : ℕ} (Y : La
             first-headed (all-cut a b) = a
 
         pub progress-take : {first second : List ℕ}
-            → ((w : UnitAt cell size area split least end start j) → first ≡ unitLabelled (w .of .network) (w .run) digits number labels)
-            → ((n : NetworkOf cell size area split least) → second ≡ unitLabelled (n .network) (river (n .network) (getD cell j 0)) digits (number + 1) first)
-            → Progress (u .of .network) (u .run) cell size end hi digits prefix whole second (number + 2) (j + getD size j 0) (j + getD size j 0)
+            → ((w : UnitAt cell size area split least end start j) → first ≡ unitLabelled (w .of .network) (w .run) digits (gathered ++ (digit ∷ [])) labels)
+            → ((n : NetworkOf cell size area split least)
+            → second ≡ unitLabelled (n .network) (river (n .network) (getD cell j 0)) digits (gathered ++ ((digit + 1) ∷ [])) first)
+            → Progress (u .of .network) (u .run) cell size end hi digits gathered whole second (digit + 2) (j + getD size j 0) (j + getD size j 0)
         unfolding chosen prepends progress-unit
         progress-take {first} {second} f s =
             let g = goes-mouth h q (p .laid-left) in
@@ -193,11 +194,11 @@ module _ {cell size area : List ℕ} {count split least end lo hi : ℕ} (Y : La
             let in-it : taken (u .of .network) (u .run) (getD cell j 0) ≡ true = taken-at ∙ le-leb cut k l in
             let o = rw e at (p .ordered) in
             let few = rw (g .is, in-it) at (p .few) in
-            let by-one : number + 1 ≡ prefix * 10 + suc (suc (p .digit)) = omega (arith, p .number-is) in
-            let first-is : first ≡ unitLabelled (u .of .network) (p .begun) digits (prefix * 10 + suc (p .digit)) labels =
-            f progress-unit ∙ ap (λ (m : ℕ). unitLabelled (u .of .network) (p .begun) digits m labels) (p .number-is) in
-            let second-is : second ≡ unitLabelled (u .of .network) (river (u .of .network) (getD cell j 0)) digits (prefix * 10 + suc (suc (p .digit))) first =
-            s (u .of) ∙ ap (λ (m : ℕ). unitLabelled (u .of .network) (river (u .of .network) (getD cell j 0)) digits m first) by-one in
+            let by-one : digit + 1 ≡ suc (suc (p .used)) = omega (arith, p .digit-is) in
+            let first-is : first ≡ unitLabelled (u .of .network) (p .begun) digits (gathered ++ (suc (p .used) ∷ [])) labels =
+            f progress-unit ∙ ap (λ (a : ℕ). unitLabelled (u .of .network) (p .begun) digits (gathered ++ (a ∷ [])) labels) (p .digit-is) in
+            let second-is : second ≡ unitLabelled (u .of .network) (river (u .of .network) (getD cell j 0)) digits (gathered ++ (suc (suc (p .used)) ∷ [])) first =
+            s (u .of) ∙ ap (λ (a : ℕ). unitLabelled (u .of .network) (river (u .of .network) (getD cell j 0)) digits (gathered ++ (a ∷ [])) first) by-one in
             record {
               begun = [];
               left = g .rest;
@@ -208,12 +209,12 @@ module _ {cell size area : List ℕ} {count split least end lo hi : ℕ} (Y : La
               todo-is = refl;
               ordered = ordered-right (mouth (getD cell j 0) ∷ []) _ (ordered-right (p .begun) _ o);
               headed = rest-headed (rw e at (p .headed));
-              digit = suc (suc (p .digit));
-              number-is = omega (arith, p .number-is);
+              used = suc (suc (p .used));
+              digit-is = omega (arith, p .digit-is);
               few = omega arith;
               rest =
                   rw (second-is, first-is)
-                  (parts-part (u .of .lawful) digits prefix (p .digit) (p .begun) (getD cell j 0) _ labels o)
+                  (parts-part (u .of .lawful) digits gathered (p .used) (p .begun) (getD cell j 0) _ labels o)
                   ∙ rw e at (p .rest);
             }
           where
@@ -221,13 +222,13 @@ module _ {cell size area : List ℕ} {count split least end lo hi : ℕ} (Y : La
             rest-headed (all-cut a b) = b
 
     -- the last run
-    module _ (h : hi ≤ j) (p : Progress (u .of .network) (u .run) cell size end hi digits prefix whole labels number start j) where
+    module _ (h : hi ≤ j) (p : Progress (u .of .network) (u .run) cell size end hi digits gathered whole labels digit start j) where
       only : p .todo ≡ last (p .begun)
       unfolding cutAt
       only = rw (goes-end Y (u .before-end) (u .end-within) h (p .laid-left)) at (p .todo-is) ∙ prepends-last (p .begun)
 
-      pub progress-last-room : number ≤ prefix * 10 + 9
-      progress-last-room = omega (arith, p .number-is, p .few)
+      pub progress-last-room : digit ≤ 9
+      progress-last-room = omega (arith, p .digit-is, p .few)
 
       pub progress-last-unit : UnitAt cell size area split least end start hi
       progress-last-unit =
@@ -245,11 +246,11 @@ module _ {cell size area : List ℕ} {count split least end lo hi : ℕ} (Y : La
           last-headed (all-last a) = a
 
       pub progress-last : {final : List ℕ}
-          → ((w : UnitAt cell size area split least end start hi) → final ≡ unitLabelled (w .of .network) (w .run) digits number labels)
+          → ((w : UnitAt cell size area split least end start hi) → final ≡ unitLabelled (w .of .network) (w .run) digits (gathered ++ (digit ∷ [])) labels)
           → final ≡ whole
       unfolding progress-last-unit
       progress-last f =
           f progress-last-unit
-          ∙ ap (λ (m : ℕ). unitLabelled (u .of .network) (p .begun) digits m labels) (p .number-is)
-          ∙ sym (parts-last (u .of .network) digits prefix (p .digit) (p .begun) labels)
+          ∙ ap (λ (a : ℕ). unitLabelled (u .of .network) (p .begun) digits (gathered ++ (a ∷ [])) labels) (p .digit-is)
+          ∙ sym (parts-last (u .of .network) digits gathered (p .used) (p .begun) labels)
           ∙ rw only at (p .rest)

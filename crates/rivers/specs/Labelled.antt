@@ -1,11 +1,11 @@
 -- What labelling a unit leaves in a list of labels.
 use mathlib.Core.Bool.{Bool, true, false, cond}
-use mathlib.Core.List.{List, [], _∷_}
-use Prim.Native.Nat.{ℕ, zero, suc, _+_, _*_, _^_, _≤_}
+use mathlib.Core.List.{List, [], _∷_, _++_}
+use Prim.Native.Nat.{ℕ, zero, suc}
 use lib.Dec.{eqb}
 use lib.ListN.{getD}
 use Rattle.sheet.specs.River.{Network, Run}
-use Rattle.sheet.specs.Label.{holds, label, numberFrom}
+use Rattle.sheet.specs.Label.{holds, label, number}
 
 -- the list with f c at each place c that passes the test, and its own value elsewhere; its places are counted from i
 unfoldable pub relabelledFrom : (ℕ → Bool) → (ℕ → ℕ) → ℕ → List ℕ → List ℕ
@@ -16,16 +16,12 @@ unfoldable pub relabelled : (ℕ → Bool) → (ℕ → ℕ) → List ℕ → Li
 unfolding relabelledFrom
 relabelled test f l = relabelledFrom test f 0 l
 
--- the cells that a unit holds have their labels, of at most `digits` digits after a prefix; every other place keeps its value
-unfoldable pub unitLabelled : Network → Run → ℕ → ℕ → List ℕ → List ℕ
-unfolding relabelled holds label numberFrom
-unitLabelled N R digits prefix l = relabelled (holds N R) (λ c. numberFrom prefix (label N digits R c)) l
+-- the cells that a unit holds have their labels: the digits gathered, and at most `digits` more; every other place keeps its value
+unfoldable pub unitLabelled : Network → Run → ℕ → List ℕ → List ℕ → List ℕ
+unfolding relabelled holds label number
+unitLabelled N R digits gathered l = relabelled (holds N R) (λ c. number (gathered ++ label N digits R c)) l
 
 -- c stands at one of the n positions of the layout from lo on
 unfoldable pub stands : List ℕ → ℕ → ℕ → ℕ → Bool
 stands cell lo zero c = false
 stands cell lo (suc n) c = let r = stands cell (suc lo) n c in cond (eqb (getD cell lo 0) c) true r
-
--- a label with up to `digits` digits more after the prefix has at most 18
-pub record Room (prefix digits : ℕ) : Type 0 where
-  pub fits : (prefix + 1) * 10 ^ digits ≤ 10 ^ 18

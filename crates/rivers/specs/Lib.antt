@@ -1,5 +1,6 @@
 pub mod Layout
 pub mod Labelled
+pub mod Prefix
 pub mod UnitAt
 pub mod Cut
 pub mod LabelOrder

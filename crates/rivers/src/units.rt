@@ -4,11 +4,13 @@ ghost use mathlib.Core.Path.{_≡_};
 ghost use lib.ListN.{length, getD};
 ghost use Rattle.sheet.specs.River.{river};
 ghost use Rattle.sheet.specs.Label.{holds, label, number};
-ghost use Rattle.rivers.specs.Labelled.{relabelled, unitLabelled, stands, Room};
+ghost use Rattle.rivers.specs.Labelled.{relabelled, unitLabelled, stands};
+ghost use Rattle.rivers.specs.Prefix.{Prefix};
 ghost use Rattle.rivers.specs.UnitAt.{NetworkOf, UnitAt, Places};
 use crate::heaviest::Rule;
 use crate::heaviest::heaviest;
 use crate::keys::key_at;
+use crate::prefix::with_digit;
 
 // Gives the cells at positions lo to hi the same label.
 fn fill(lo: usize, hi: usize, prefix: u64, cell: &[u32], labels: &mut [u64])
@@ -16,11 +18,9 @@ fn fill(lo: usize, hi: usize, prefix: u64, cell: &[u32], labels: &mut [u64])
     requires { ⌜ ((j : ℕ) → j < length (now cell) → getD (now cell) j 0 < length (now labels)) ⌝ }
     ensures { λ _. ⌜ now (labels .exit) ≡ relabelled (stands (now (cell .entry)) lo (hi - lo)) (λ c. prefix) (now (labels .entry)) ⌝ }
 {
-    let mut j = lo;
-    while j < hi {
+    for j in lo..hi {
         let at = cell[j] as usize;
         labels[at] = prefix;
-        j += 1;
     }
 }
 
@@ -39,8 +39,8 @@ fn label_run(
 )
     requires { ⌜ UnitAt (now cell) (now size) (now area) (rule .split) (rule .least) end lo hi ⌝ }
     requires { ⌜ Places (now cell) (now size) (length (now area)) (length (now labels)) (rule .split) ⌝ }
-    requires { ⌜ Room prefix digits ⌝ }
-    ensures { λ _. ⌜ ((u : UnitAt (now (cell .entry)) (now (size .entry)) (now (area .entry)) (rule .split) (rule .least) end lo hi) → now (labels .exit) ≡ unitLabelled (u .of .network) (u .run) digits prefix (now (labels .entry))) ⌝ }
+    requires { ⌜ Prefix prefix digits ⌝ }
+    ensures { λ _. ⌜ ((u : UnitAt (now (cell .entry)) (now (size .entry)) (now (area .entry)) (rule .split) (rule .least) end lo hi) (p : Prefix prefix digits) → now (labels .exit) ≡ unitLabelled (u .of .network) (u .run) digits (p .gathered) (now (labels .entry))) ⌝ }
 {
     if digits == 0 {
         fill(lo, hi, prefix, cell, labels);
@@ -53,7 +53,7 @@ fn label_run(
     }
     let key = cut.key;
     let left = digits - 1;
-    let mut number = prefix * 10 + 1;
+    let mut digit = 1;
     let mut start = lo;
     let mut j = lo;
     while j < hi {
@@ -63,14 +63,17 @@ fn label_run(
         } else if key_at(j, cell, area) < key {
             j += s;
         } else {
-            label_run(start, j, end, left, number, rule, cell, size, area, labels);
-            label_river(j, left, number + 1, rule, cell, size, area, labels);
-            number += 2;
+            let run = with_digit(prefix, digit);
+            label_run(start, j, end, left, run, rule, cell, size, area, labels);
+            let tributary = with_digit(prefix, digit + 1);
+            label_river(j, left, tributary, rule, cell, size, area, labels);
+            digit += 2;
             j += s;
             start = j;
         }
     }
-    label_run(start, hi, end, left, number, rule, cell, size, area, labels);
+    let run = with_digit(prefix, digit);
+    label_run(start, hi, end, left, run, rule, cell, size, area, labels);
 }
 
 // Labels the cells of the river whose mouth stands at position j.
@@ -87,8 +90,8 @@ pub fn label_river(
     requires { ⌜ j < length (now cell) ⌝ }
     requires { ⌜ NetworkOf (now cell) (now size) (now area) (rule .split) (rule .least) ⌝ }
     requires { ⌜ Places (now cell) (now size) (length (now area)) (length (now labels)) (rule .split) ⌝ }
-    requires { ⌜ Room prefix digits ⌝ }
-    ensures { λ _. ⌜ ((n : NetworkOf (now (cell .entry)) (now (size .entry)) (now (area .entry)) (rule .split) (rule .least)) → now (labels .exit) ≡ unitLabelled (n .network) (river (n .network) (getD (now (cell .entry)) j 0)) digits prefix (now (labels .entry))) ⌝ }
+    requires { ⌜ Prefix prefix digits ⌝ }
+    ensures { λ _. ⌜ ((n : NetworkOf (now (cell .entry)) (now (size .entry)) (now (area .entry)) (rule .split) (rule .least)) (p : Prefix prefix digits) → now (labels .exit) ≡ unitLabelled (n .network) (river (n .network) (getD (now (cell .entry)) j 0)) digits (p .gathered) (now (labels .entry))) ⌝ }
 {
     let end = j + size[j] as usize;
     label_run(j, end, end, digits, prefix, rule, cell, size, area, labels);

@@ -1,18 +1,21 @@
 -- `rivers::units::label_run` and `rivers::units::label_river`, which call each other, meet their contracts.
 -- The measure is the digits left, and then the run's length.
 use mathlib.Core.Path.{_≡_, refl, _∙_}
-use Prim.Native.Nat.{ℕ, _+_, _-_, _*_, _≤_, _<_}
+use Prim.Native.Nat.{ℕ, _+_, _-_, _≤_, _<_}
 use native.Mathlib.Omega.{arith}
 use lib.ListN.{length, getD}
 use borrow.Fn.Kinds.{In}
 use borrow.Fn.PlainCycle.{Measures, is, falls, and}
 use Rattle.rivers.specs.UnitAt.{UnitAt}
 use Rattle.rivers.specs.Labelled.{unitLabelled}
+use Rattle.rivers.specs.Prefix.{Prefix}
+use Rattle.rivers.proofs.Prefixes.{prefix-one, prefix-more}
 use Rattle.rivers.proofs.Labelling.{filled-zero, filled-finished}
 use Rattle.rivers.proofs.Progress.{Progress, river-unit, progress-none, progress-stem, progress-skip, progress-take, progress-room, progress-unit, progress-last, progress-last-room, progress-last-unit}
-use Rattle.rivers.proofs.Bounds.{measure, measure-digit, measure-length, room-step, room-fits, places-at}
+use Rattle.rivers.proofs.Bounds.{measure, measure-digit, measure-length, places-at}
 use Rattle.rivers.proofs.heaviest.heaviest.Reads as heaviest-reads
 use Rattle.rivers.proofs.keys.key_at.Reads as key-at-reads
+use Rattle.rivers.proofs.prefix.with_digit.Reads as with-digit-reads
 use Rattle.rivers.proofs.units.fill.Reads as fill-reads
 use Rattle.rivers.proofs.units.label_river.Reads as label-river
 use Rattle.rivers.proofs.units.label_river.Kinds as label-river-kinds
@@ -55,6 +58,8 @@ run-calls t = (
   heaviest-reads.Learnt,
   key-at-reads.Asked,
   key-at-reads.Learnt,
+  with-digit-reads.Asked,
+  with-digit-reads.Learnt,
   label-run-below t,
   label-run.Post,
   label-river-below t,
@@ -86,16 +91,16 @@ river-returns : (t : ℕ) → label-river-lts.Need-returns (river-calls t) (labe
 unfolding river-unit
 river-returns t c =
     let s = c .before .before .before .before .before .before .before .before .before in
-    λ n. c .before .before .label-run .ensures (river-unit (s .pre .1 .1 .1 .0 .for-areas) n (s .args .j) (s .pre .1 .0))
+    λ n p. c .before .before .label-run .ensures (river-unit (s .pre .1 .1 .1 .0 .for-areas) n (s .args .j) (s .pre .1 .0)) p
 
 abbrev Inv : label-run-lts.InvT-loop
-Inv lo hi end digits prefix rule cell size area labels₀ key left number₀ start₀ j₀ labels number start j =
+Inv lo hi end digits prefix rule cell size area labels₀ key left digit₀ start₀ j₀ labels digit start j =
     (length labels ≡ length labels₀)
-    × ((u : UnitAt cell size area (rule .split) (rule .least) end lo hi)
-    → Progress (u .of .network) (u .run) cell size end hi left prefix (unitLabelled (u .of .network) (u .run) digits prefix labels₀) labels number start j)
+    × ((u : UnitAt cell size area (rule .split) (rule .least) end lo hi) (p : Prefix prefix digits)
+    → Progress (u .of .network) (u .run) cell size end hi left (p .gathered) (unitLabelled (u .of .network) (u .run) digits (p .gathered) labels₀) labels digit start j)
 
 abbrev μ : label-run-lts.MeasureT-loop
-μ lo hi end digits prefix rule cell size area labels₀ key left number₀ start₀ j₀ labels number start j = hi - j
+μ lo hi end digits prefix rule cell size area labels₀ key left digit₀ start₀ j₀ labels digit start j = hi - j
 
 run-fill-requires : (t : ℕ) → label-run-lts.Need-fill-requires (run-calls t) (label-run-at t) label-run.Post Inv μ
 run-fill-requires t c κs =
@@ -105,7 +110,7 @@ run-same-length : (t : ℕ) → label-run-lts.Need-same-length (run-calls t) (la
 run-same-length t c = c .before .before .fill .kept .1 .1 .1 .1 .0
 
 run-returns : (t : ℕ) → label-run-lts.Need-returns (run-calls t) (label-run-at t) label-run.Post Inv μ
-run-returns t c = λ u. filled-zero (c .before .before .before .before .before .before .before .before .before .pre .1 .1 .0 .for-labels) u _ _ _ (c .before .before .fill .ensures) (c .before .before .before .before .if1 .taken)
+run-returns t c = λ u p. filled-zero (c .before .before .before .before .before .before .before .before .before .pre .1 .1 .0 .for-labels) u p _ (c .before .before .fill .ensures) (c .before .before .before .before .if1 .taken)
 
 run-heaviest-requires : (t : ℕ) → label-run-lts.Need-heaviest-requires (run-calls t) (label-run-at t) label-run.Post Inv μ
 run-heaviest-requires t c κs =
@@ -122,20 +127,14 @@ run-same-length-2 t c = c .before .before .fill2 .kept .1 .1 .1 .1 .0
 
 run-returns-2 : (t : ℕ) → label-run-lts.Need-returns-2 (run-calls t) (label-run-at t) label-run.Post Inv μ
 run-returns-2 t c =
-    λ u. filled-finished (c .before .before .before .before .before .before .before .before .before .before .before .pre .1 .1 .0 .for-labels) u _ _ _ (c .before .before .fill2 .ensures) (c .before .before .before .before .before .heaviest .ensures u .finishes ∙ c .before .before .before .before .if2 .taken)
+    λ u p. filled-finished (c .before .before .before .before .before .before .before .before .before .before .before .pre .1 .1 .0 .for-labels) u p _ (c .before .before .fill2 .ensures) (c .before .before .before .before .before .heaviest .ensures u .finishes ∙ c .before .before .before .before .if2 .taken)
 
 run-sub-left : (t : ℕ) → label-run-lts.Need-sub-left (run-calls t) (label-run-at t) label-run.Post Inv μ
 run-sub-left t c = omega (arith, c .before .before .if1 .left)
 
-run-mul-number : (t : ℕ) → label-run-lts.Need-mul-number (run-calls t) (label-run-at t) label-run.Post Inv μ
-run-mul-number t c = omega (arith, room-fits _ _ (c .before .before .before .before .before .before .before .pre .1 .1 .1) (c .before .before .if1 .left))
-
-run-add-number : (t : ℕ) → label-run-lts.Need-add-number (run-calls t) (label-run-at t) label-run.Post Inv μ
-run-add-number t c = omega (arith, room-fits _ _ (c .before .before .before .before .before .before .before .pre .1 .1 .1) (c .before .before .if1 .left))
-
 run-loop-holds : (t : ℕ) → label-run-lts.Need-loop-holds (run-calls t) (label-run-at t) label-run.Post Inv μ
 run-loop-holds t c =
-    (refl, λ u. progress-none (c .before .before .before .before .before .before .before .pre .1 .1 .0 .for-areas) u (c .before .before .if1 .left) (c .before .heaviest .ensures u .finishes ∙ c .if2 .left) (c .before .before .before .before .before .before .before .pre .1 .1 .0 .split-most) refl)
+    (refl, λ u p. progress-none (c .before .before .before .before .before .before .before .pre .1 .1 .0 .for-areas) u (c .before .before .if1 .left) (c .before .heaviest .ensures u .finishes ∙ c .if2 .left) (c .before .before .before .before .before .before .before .pre .1 .1 .0 .split-most))
 
 -- the position is within the layout, and so is its subtree
 on : (t : ℕ) (c : label-run-lts.In-loop (run-calls t) (label-run-at t) label-run.Post Inv μ) → c .before .loop .j < length (c .before .before .before .before .before .before .before .before .before .args .cell .now)
@@ -164,7 +163,7 @@ run-loop-less t c = omega (arith, c .before .before .loop-test .taken)
 
 run-loop-again : (t : ℕ) → label-run-lts.Need-loop-again (run-calls t) (label-run-at t) label-run.Post Inv μ
 run-loop-again t c =
-    (c .before .before .before .loop .inv .0, λ u. progress-stem (c .before .before .before .before .before .before .before .before .before .before .before .pre .1 .1 .0 .for-areas) u (c .before .before .loop-test .taken) (c .if3 .taken) (c .before .before .before .loop .inv .1 u))
+    (c .before .before .before .loop .inv .0, λ u p. progress-stem (c .before .before .before .before .before .before .before .before .before .before .before .pre .1 .1 .0 .for-areas) u (c .before .before .loop-test .taken) (c .if3 .taken) (c .before .before .before .loop .inv .1 u p))
 
 run-key-at-requires : (t : ℕ) → label-run-lts.Need-key-at-requires (run-calls t) (label-run-at t) label-run.Post Inv μ
 run-key-at-requires t c κs = (on t (c .before .before), c .before .before .before .before .before .before .before .before .before .before .before .pre .1 .1 .0 .for-areas .on (c .before .before .before .loop .j) (on t (c .before .before)))
@@ -178,87 +177,127 @@ run-loop-less-2 t c = omega (arith, c .before .before .before .before .loop-test
 run-loop-again-2 : (t : ℕ) → label-run-lts.Need-loop-again-2 (run-calls t) (label-run-at t) label-run.Post Inv μ
 run-loop-again-2 t c = (
   c .before .before .before .before .before .loop .inv .0,
-  λ u.
-      progress-skip (c .before .before .before .before .before .before .before .before .before .before .before .before .before .pre .1 .1 .0 .for-areas) u (c .before .before .before .before .before .before .before .heaviest .ensures u) (c .before .before .before .before .loop-test .taken) (c .before .before .if3 .left) (c .before .key-at .ensures) (c .before .before .before .before .before .loop .inv .1 u) (c .if4 .taken),
+  λ u p.
+      progress-skip (c .before .before .before .before .before .before .before .before .before .before .before .before .before .pre .1 .1 .0 .for-areas) u (c .before .before .before .before .before .before .before .heaviest .ensures u) (c .before .before .before .before .loop-test .taken) (c .before .before .if3 .left) (c .before .key-at .ensures) (c .before .before .before .before .before .loop .inv .1 u p) (c .if4 .taken),
 )
 
--- at a mouth that is taken
-taking-room : (t : ℕ) (c : label-run-lts.Else4 (run-calls t) (label-run-at t) label-run.Post Inv μ) → c .before .before .before .before .before .loop .number + 2 ≤ c .before .before .before .before .before .before .before .before .before .before .before .before .before .args .prefix * 10 + 9
-taking-room t c =
-    let u = c .before .before .before .before .before .before .before .before .before .before .before .before .before .pre .1 .0 in progress-room (c .before .before .before .before .before .before .before .before .before .before .before .before .before .pre .1 .1 .0 .for-areas) u (c .before .before .before .before .before .before .before .heaviest .ensures u) (c .before .before .before .before .loop-test .taken) (c .before .before .if3 .left) (c .before .key-at .ensures) (c .before .before .before .before .before .loop .inv .1 u) (c .if4 .left)
+-- at a mouth that is taken: the digits of the run before it and of its tributary, and that run
+taking-least : (t : ℕ) (c : label-run-lts.Else4 (run-calls t) (label-run-at t) label-run.Post Inv μ) → 1 ≤ c .before .before .before .before .before .loop .digit
+taking-least t c = let s = c .before .before .before .before .before .before .before .before .before .before .before .before .before .pre .1 in omega (arith, c .before .before .before .before .before .loop .inv .1 (s .0) (s .1 .1) .digit-is)
 
-taking-unit : (t : ℕ) (c : label-run-lts.Else4 (run-calls t) (label-run-at t) label-run.Post Inv μ) → UnitAt (c .before .before .before .before .before .before .before .before .before .before .before .before .before .args .cell .now) (c .before .before .before .before .before .before .before .before .before .before .before .before .before .args .size .now) (c .before .before .before .before .before .before .before .before .before .before .before .before .before .args .area .now) (c .before .before .before .before .before .before .before .before .before .before .before .before .before .args .rule .split) (c .before .before .before .before .before .before .before .before .before .before .before .before .before .args .rule .least) (c .before .before .before .before .before .before .before .before .before .before .before .before .before .args .end) (c .before .before .before .before .before .loop .start) (c .before .before .before .before .before .loop .j)
+taking-most : (t : ℕ) (c : label-run-lts.Else4 (run-calls t) (label-run-at t) label-run.Post Inv μ) → c .before .before .before .before .before .loop .digit + 2 ≤ 9
+taking-most t c =
+    let s = c .before .before .before .before .before .before .before .before .before .before .before .before .before .pre .1 in
+    progress-room (s .1 .0 .for-areas) (s .0) (c .before .before .before .before .before .before .before .heaviest .ensures (s .0)) (c .before .before .before .before .loop-test .taken) (c .before .before .if3 .left) (c .before .key-at .ensures) (c .before .before .before .before .before .loop .inv .1 (s .0) (s .1 .1)) (c .if4 .left)
+
+taking-unit : (t : ℕ) (c : label-run-lts.Else4 (run-calls t) (label-run-at t) label-run.Post Inv μ)
+    → UnitAt (c .before .before .before .before .before .before .before .before .before .before .before .before .before .args .cell .now) (c .before .before .before .before .before .before .before .before .before .before .before .before .before .args .size .now) (c .before .before .before .before .before .before .before .before .before .before .before .before .before .args .area .now) (c .before .before .before .before .before .before .before .before .before .before .before .before .before .args .rule .split) (c .before .before .before .before .before .before .before .before .before .before .before .before .before .args .rule .least) (c .before .before .before .before .before .before .before .before .before .before .before .before .before .args .end) (c .before .before .before .before .before .loop .start) (c .before .before .before .before .before .loop .j)
 taking-unit t c =
-    let u = c .before .before .before .before .before .before .before .before .before .before .before .before .before .pre .1 .0 in progress-unit (c .before .before .before .before .before .before .before .before .before .before .before .before .before .pre .1 .1 .0 .for-areas) u (c .before .before .before .before .before .before .before .heaviest .ensures u) (c .before .before .before .before .loop-test .taken) (c .before .before .if3 .left) (c .before .key-at .ensures) (c .before .before .before .before .before .loop .inv .1 u) (c .if4 .left)
+    let s = c .before .before .before .before .before .before .before .before .before .before .before .before .before .pre .1 in
+    progress-unit (s .1 .0 .for-areas) (s .0) (c .before .before .before .before .before .before .before .heaviest .ensures (s .0)) (c .before .before .before .before .loop-test .taken) (c .before .before .if3 .left) (c .before .key-at .ensures) (c .before .before .before .before .before .loop .inv .1 (s .0) (s .1 .1)) (c .if4 .left)
+
+run-with-digit-requires : (t : ℕ) → label-run-lts.Need-with-digit-requires (run-calls t) (label-run-at t) label-run.Post Inv μ
+run-with-digit-requires t c κs = (prefix-one (c .before .before .before .before .before .before .before .before .before .before .before .before .before .pre .1 .1 .1) (c .before .before .before .before .before .before .before .before .if1 .left), (taking-least t c, omega (arith, taking-most t c)))
 
 run-label-run-requires : (t : ℕ) → label-run-lts.Need-label-run-requires (run-calls t) (label-run-at t) label-run.Post Inv μ
 run-label-run-requires t c κs =
-    let s = c .before .before .before .before .before .before .before .before .before .before .before .before .before .before in
-    let d = c .before .before .before .before .before .before .before .before .before .if1 .left in (
-      rw (← s .pre .0) (measure-digit _ _ _ _ (omega (arith, d)) (omega (arith, on t (c .before .before .before .before .before)))),
-      (taking-unit t (c .before), (places-at (c .before .before .before .before .before .before .loop .inv .0) (s .pre .1 .1 .0), room-step _ _ _ _ (s .pre .1 .1 .1) (omega (arith, d)) (omega (arith, taking-room t (c .before))))),
+    let s = c .before .before .before .before .before .before .before .before .before .before .before .before .before .before .before in
+    let p = s .pre .1 .1 .1 in
+    let d = c .before .before .before .before .before .before .before .before .before .before .if1 .left in
+    let e = c .before .before in (
+      rw (← s .pre .0) (measure-digit _ _ _ _ (omega (arith, d)) (omega (arith, on t (c .before .before .before .before .before .before)))),
+      (
+        taking-unit t e,
+        (
+          places-at (c .before .before .before .before .before .before .before .loop .inv .0) (s .pre .1 .1 .0),
+          prefix-more p (omega (arith, d)) (taking-least t e) (omega (arith, taking-most t e)) (c .before .with-digit .ensures (p .gathered) (p .held)),
+        ),
+      ),
     )
 
-run-add-label-river : (t : ℕ) → label-run-lts.Need-add-label-river (run-calls t) (label-run-at t) label-run.Post Inv μ
-run-add-label-river t c = omega (arith, taking-room t (c .before .before .before .before), room-fits _ _ (c .before .before .before .before .before .before .before .before .before .before .before .before .before .before .before .before .before .pre .1 .1 .1) (c .before .before .before .before .before .before .before .before .before .before .before .before .if1 .left))
+run-add-with-digit : (t : ℕ) → label-run-lts.Need-add-with-digit (run-calls t) (label-run-at t) label-run.Post Inv μ
+run-add-with-digit t c = omega (arith, taking-most t (c .before .before .before .before .before))
+
+run-with-digit-requires-2 : (t : ℕ) → label-run-lts.Need-with-digit-requires-2 (run-calls t) (label-run-at t) label-run.Post Inv μ
+run-with-digit-requires-2 t c κs =
+    (prefix-one (c .before .before .before .before .before .before .before .before .before .before .before .before .before .before .before .before .before .before .pre .1 .1 .1) (c .before .before .before .before .before .before .before .before .before .before .before .before .before .if1 .left), (omega (arith, taking-least t (c .before .before .before .before .before)), omega (arith, taking-most t (c .before .before .before .before .before))))
 
 run-label-river-requires : (t : ℕ) → label-run-lts.Need-label-river-requires (run-calls t) (label-run-at t) label-run.Post Inv μ
 run-label-river-requires t c κs =
-    let s = c .before .before .before .before .before .before .before .before .before .before .before .before .before .before .before .before .before .before in
-    let d = c .before .before .before .before .before .before .before .before .before .before .before .before .before .if1 .left in (
-      rw (← s .pre .0) (measure-digit _ _ _ _ (omega (arith, d)) (omega (arith, within t (c .before .before .before .before .before .before .before .before .before)))),
+    let s = c .before .before .before .before .before .before .before .before .before .before .before .before .before .before .before .before .before .before .before .before in
+    let p = s .pre .1 .1 .1 in
+    let d = c .before .before .before .before .before .before .before .before .before .before .before .before .before .before .before .if1 .left in
+    let e = c .before .before .before .before .before .before .before in (
+      rw (← s .pre .0) (measure-digit _ _ _ _ (omega (arith, d)) (omega (arith, within t (c .before .before .before .before .before .before .before .before .before .before .before)))),
       (
-        on t (c .before .before .before .before .before .before .before .before .before),
+        on t (c .before .before .before .before .before .before .before .before .before .before .before),
         (
           s .pre .1 .0 .of,
           (
-            places-at (c .before .before .before .label-run .kept .1 .1 .1 .1 .1 .1 .1 .1 .1 .0 ∙ c .before .before .before .before .before .before .before .before .before .before .loop .inv .0) (s .pre .1 .1 .0),
-            room-step _ _ _ _ (s .pre .1 .1 .1) (omega (arith, d)) (omega (arith, taking-room t (c .before .before .before .before .before))),
+            places-at (c .before .before .before .before .label-run .kept .1 .1 .1 .1 .1 .1 .1 .1 .1 .0 ∙ c .before .before .before .before .before .before .before .before .before .before .before .before .loop .inv .0) (s .pre .1 .1 .0),
+            prefix-more p (omega (arith, d)) (omega (arith, taking-least t e)) (omega (arith, taking-most t e)) (c .before .with-digit2 .ensures (p .gathered) (p .held)),
           ),
         ),
       ),
     )
 
-run-add-number-2 : (t : ℕ) → label-run-lts.Need-add-number-2 (run-calls t) (label-run-at t) label-run.Post Inv μ
-run-add-number-2 t c = omega (arith, taking-room t (c .before .before .before .before .before .before .before .before), room-fits _ _ (c .before .before .before .before .before .before .before .before .before .before .before .before .before .before .before .before .before .before .before .before .before .pre .1 .1 .1) (c .before .before .before .before .before .before .before .before .before .before .before .before .before .before .before .before .if1 .left))
+run-add-digit : (t : ℕ) → label-run-lts.Need-add-digit (run-calls t) (label-run-at t) label-run.Post Inv μ
+run-add-digit t c = omega (arith, taking-most t (c .before .before .before .before .before .before .before .before .before .before))
 
 run-add-j-3 : (t : ℕ) → label-run-lts.Need-add-j-3 (run-calls t) (label-run-at t) label-run.Post Inv μ
-run-add-j-3 t c = omega (arith, within t (c .before .before .before .before .before .before .before .before .before .before .before .before), c .before .before .before .before .before .before .before .before .before .before .before .before .before .before .before .before .before .before .before .before .before .good .1 .1 .1 .1 .1 .1 .0)
+run-add-j-3 t c = omega (arith, within t (c .before .before .before .before .before .before .before .before .before .before .before .before .before .before), c .before .before .before .before .before .before .before .before .before .before .before .before .before .before .before .before .before .before .before .before .before .before .before .good .1 .1 .1 .1 .1 .1 .0)
 
 run-loop-less-3 : (t : ℕ) → label-run-lts.Need-loop-less-3 (run-calls t) (label-run-at t) label-run.Post Inv μ
-run-loop-less-3 t c = omega (arith, c .before .before .before .before .before .before .before .before .before .before .before .before .loop-test .taken, c .before .before .before .before .before .before .before .before .before .before .before .before .before .before .before .before .before .before .before .before .before .pre .1 .1 .0 .for-areas .some (c .before .before .before .before .before .before .before .before .before .before .before .before .before .loop .j) (on t (c .before .before .before .before .before .before .before .before .before .before .before .before)))
+run-loop-less-3 t c = omega (arith, c .before .before .before .before .before .before .before .before .before .before .before .before .before .before .loop-test .taken, c .before .before .before .before .before .before .before .before .before .before .before .before .before .before .before .before .before .before .before .before .before .before .before .pre .1 .1 .0 .for-areas .some (c .before .before .before .before .before .before .before .before .before .before .before .before .before .before .before .loop .j) (on t (c .before .before .before .before .before .before .before .before .before .before .before .before .before .before)))
 
 run-loop-again-3 : (t : ℕ) → label-run-lts.Need-loop-again-3 (run-calls t) (label-run-at t) label-run.Post Inv μ
+unfolding prefix-more
 run-loop-again-3 t c =
-    let e = c .before .before .before .before .before .before .before .before in (
-      c .before .before .label-river .kept .1 .1 .1 .1 .1 .1 .1 .0 ∙ c .before .before .before .before .before .before .label-run .kept .1 .1 .1 .1 .1 .1 .1 .1 .1 .0 ∙ c .before .before .before .before .before .before .before .before .before .before .before .before .before .loop .inv .0,
-      λ u.
-          progress-take (e .before .before .before .before .before .before .before .before .before .before .before .before .before .pre .1 .1 .0 .for-areas) u (e .before .before .before .before .before .before .before .heaviest .ensures u) (e .before .before .before .before .loop-test .taken) (e .before .before .if3 .left) (e .before .key-at .ensures) (e .before .before .before .before .before .loop .inv .1 u) (e .if4 .left)
-          (c .before .before .before .before .before .before .label-run .ensures) (c .before .before .label-river .ensures),
+    let e = c .before .before .before .before .before .before .before .before .before .before in
+    let d = c .before .before .before .before .before .before .before .before .before .before .before .before .before .before .before .before .before .before .if1 .left in (
+      c .before .before .label-river .kept .1 .1 .1 .1 .1 .1 .1 .0 ∙ c .before .before .before .before .before .before .before .label-run .kept .1 .1 .1 .1 .1 .1 .1 .1 .1 .0 ∙ c .before .before .before .before .before .before .before .before .before .before .before .before .before .before .before .loop .inv .0,
+      λ u p.
+          progress-take (e .before .before .before .before .before .before .before .before .before .before .before .before .before .pre .1 .1 .0 .for-areas) u (e .before .before .before .before .before .before .before .heaviest .ensures u) (e .before .before .before .before .loop-test .taken) (e .before .before .if3 .left) (e .before .key-at .ensures) (e .before .before .before .before .before .loop .inv .1 u p) (e .if4 .left)
+          (λ w. c .before .before .before .before .before .before .before .label-run .ensures w (prefix-more p (omega (arith, d)) (taking-least t e) (omega (arith, taking-most t e)) (c .before .before .before .before .before .before .before .before .before .with-digit .ensures (p .gathered) (p .held))))
+          (λ n. c .before .before .label-river .ensures n (prefix-more p (omega (arith, d)) (omega (arith, taking-least t e)) (omega (arith, taking-most t e)) (c .before .before .before .before .with-digit2 .ensures (p .gathered) (p .held)))),
     )
 
 -- after the last mouth that is taken
-last-room : (t : ℕ) (c : label-run-lts.After-loop (run-calls t) (label-run-at t) label-run.Post Inv μ) → c .before .loop .number ≤ c .before .before .before .before .before .before .before .before .before .args .prefix * 10 + 9
-last-room t c =
-    let u = c .before .before .before .before .before .before .before .before .before .pre .1 .0 in progress-last-room (c .before .before .before .before .before .before .before .before .before .pre .1 .1 .0 .for-areas) u (c .loop-test .left) (c .before .loop .inv .1 u)
+last-least : (t : ℕ) (c : label-run-lts.After-loop (run-calls t) (label-run-at t) label-run.Post Inv μ) → 1 ≤ c .before .loop .digit
+last-least t c = let s = c .before .before .before .before .before .before .before .before .before .pre .1 in omega (arith, c .before .loop .inv .1 (s .0) (s .1 .1) .digit-is)
+
+last-most : (t : ℕ) (c : label-run-lts.After-loop (run-calls t) (label-run-at t) label-run.Post Inv μ) → c .before .loop .digit ≤ 9
+last-most t c = let s = c .before .before .before .before .before .before .before .before .before .pre .1 in progress-last-room (s .1 .0 .for-areas) (s .0) (c .loop-test .left) (c .before .loop .inv .1 (s .0) (s .1 .1))
+
+run-with-digit-requires-3 : (t : ℕ) → label-run-lts.Need-with-digit-requires-3 (run-calls t) (label-run-at t) label-run.Post Inv μ
+run-with-digit-requires-3 t c κs = (prefix-one (c .before .before .before .before .before .before .before .before .before .pre .1 .1 .1) (c .before .before .before .before .if1 .left), (last-least t c, last-most t c))
 
 run-label-run-requires-2 : (t : ℕ) → label-run-lts.Need-label-run-requires-2 (run-calls t) (label-run-at t) label-run.Post Inv μ
 run-label-run-requires-2 t c κs =
-    let s = c .before .before .before .before .before .before .before .before .before .before in
-    let d = c .before .before .before .before .before .if1 .left in (
+    let s = c .before .before .before .before .before .before .before .before .before .before .before in
+    let p = s .pre .1 .1 .1 in
+    let d = c .before .before .before .before .before .before .if1 .left in (
       rw (← s .pre .0) (measure-digit _ _ _ _ (omega (arith, d)) (omega arith)),
       (
-        progress-last-unit (s .pre .1 .1 .0 .for-areas) (s .pre .1 .0) (c .before .loop-test .left) (c .before .before .loop .inv .1 (s .pre .1 .0)),
-        (places-at (c .before .before .loop .inv .0) (s .pre .1 .1 .0), room-step _ _ _ _ (s .pre .1 .1 .1) (omega (arith, d)) (last-room t (c .before))),
+        progress-last-unit (s .pre .1 .1 .0 .for-areas) (s .pre .1 .0) (c .before .before .loop-test .left) (c .before .before .before .loop .inv .1 (s .pre .1 .0) p),
+        (
+          places-at (c .before .before .before .loop .inv .0) (s .pre .1 .1 .0),
+          prefix-more p (omega (arith, d)) (last-least t (c .before .before)) (last-most t (c .before .before)) (c .before .with-digit3 .ensures (p .gathered) (p .held)),
+        ),
       ),
     )
 
 run-same-length-3 : (t : ℕ) → label-run-lts.Need-same-length-3 (run-calls t) (label-run-at t) label-run.Post Inv μ
-run-same-length-3 t c = c .before .before .label-run2 .kept .1 .1 .1 .1 .1 .1 .1 .1 .1 .0 ∙ c .before .before .before .before .before .loop .inv .0
+run-same-length-3 t c = c .before .before .label-run2 .kept .1 .1 .1 .1 .1 .1 .1 .1 .1 .0 ∙ c .before .before .before .before .before .before .loop .inv .0
 
 run-returns-3 : (t : ℕ) → label-run-lts.Need-returns-3 (run-calls t) (label-run-at t) label-run.Post Inv μ
+unfolding prefix-more
 run-returns-3 t c =
-    λ u. progress-last (c .before .before .before .before .before .before .before .before .before .before .before .before .before .pre .1 .1 .0 .for-areas) u (c .before .before .before .before .loop-test .left) (c .before .before .before .before .before .loop .inv .1 u) (c .before .before .label-run2 .ensures)
+    let e = c .before .before .before .before .before in
+    let d = c .before .before .before .before .before .before .before .before .before .if1 .left in
+    λ u p.
+    progress-last (c .before .before .before .before .before .before .before .before .before .before .before .before .before .before .pre .1 .1 .0 .for-areas) u (e .loop-test .left) (c .before .before .before .before .before .before .loop .inv .1 u p)
+    (λ w. c .before .before .label-run2 .ensures w (prefix-more p (omega (arith, d)) (last-least t e) (last-most t e) (c .before .before .before .before .with-digit3 .ensures (p .gathered) (p .held))))
 
 pub +label-river+label-run-spec : {M : Type 1} → statement M
 +label-river+label-run-spec = close μ-label-river μ-label-run (λ t. label-river-lts.spec (river-calls t)
@@ -284,8 +323,6 @@ pub +label-river+label-run-spec : {M : Type 1} → statement M
     (run-same-length-2 t)
     (run-returns-2 t)
     (run-sub-left t)
-    (run-mul-number t)
-    (run-add-number t)
     (run-loop-holds t)
     (run-mul-s t)
     (run-shared-slice-read-s t)
@@ -298,13 +335,16 @@ pub +label-river+label-run-spec : {M : Type 1} → statement M
     (run-add-j-2 t)
     (run-loop-less-2 t)
     (run-loop-again-2 t)
+    (run-with-digit-requires t)
     (run-label-run-requires t)
-    (run-add-label-river t)
+    (run-add-with-digit t)
+    (run-with-digit-requires-2 t)
     (run-label-river-requires t)
-    (run-add-number-2 t)
+    (run-add-digit t)
     (run-add-j-3 t)
     (run-loop-less-3 t)
     (run-loop-again-3 t)
+    (run-with-digit-requires-3 t)
     (run-label-run-requires-2 t)
     (run-same-length-3 t)
     (run-returns-3 t)

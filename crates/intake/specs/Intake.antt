@@ -1,5 +1,6 @@
 -- Document 01's intake: what a line and the end give in each stage.
 use mathlib.Core.Bool.{cond}
+use mathlib.Core.Option.{Option, none, some}
 use mathlib.Core.List.{List, _++_}
 use Prim.Native.Nat.{ℕ}
 use lib.Dec.{eqb}
@@ -127,6 +128,14 @@ endIn (Ended z) = refused (Ended z) 13
 unfoldable pub endTaken : Intake → Taken
 unfolding endIn
 endTaken i = endIn (i .stage)
+
+-- the sizes, if the intake has ended
+unfoldable pub endedSizes : Stage → Option Sizes
+endedSizes WaitingForSizeNames = none
+endedSizes (WaitingForSizes c) = none
+endedSizes (WaitingForCellNames z) = none
+endedSizes (TakingCells z c) = none
+endedSizes (Ended z) = some z
 
 abbrev pub newIntake : Intake
 newIntake = record { stage = WaitingForSizeNames }

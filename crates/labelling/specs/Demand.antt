@@ -1,5 +1,6 @@
 -- The third demand about the labels as the calls wrote them: directly, and from an intake.
 use mathlib.Core.Path.{_≡_}
+use mathlib.Core.Option.{some}
 use mathlib.Core.List.{List}
 use Prim.Native.Nat.{ℕ}
 use Rattle.sheet.specs.declared.Outcome.the-variants.{Accepted}
@@ -7,7 +8,7 @@ use Rattle.sheet.specs.Sheet.{Sheet}
 use Rattle.sheet.specs.Refusal.{Lent, outcome, lentAfter}
 use Rattle.intake.specs.declared.Intake.{Intake}
 use Rattle.intake.specs.declared.Sizes.{Sizes}
-use Rattle.intake.specs.declared.Stage.the-variants.{Ended}
+use Rattle.intake.specs.Intake.{endedSizes}
 use Rattle.claims.specs.Demand.{DemandThreeOf, OutletRuleOf}
 use Rattle.labelling.specs.Labelling.{sheet}
 use Rattle.labelling.specs.FromIntake.{intakeOutcome, intakeLent}
@@ -25,7 +26,7 @@ pub record LabelledFrom (i : Intake) (dirs : List ℕ) (L L′ : Lent) : Type 0 
 -- demand 3, whole, about the sheet of an intake that had ended
 pub record DemandThreeFrom (i : Intake) (dirs labels : List ℕ) : Type 0 where
   pub sizes : Sizes
-  pub ended : i .stage ≡ Ended sizes
+  pub ended : endedSizes (i .stage) ≡ some sizes
   pub demand : DemandThreeOf (sheet (sizes .rows) (sizes .cols) (sizes .depth) dirs) labels
 
 -- the third demand for all accepted sheets, however they are labelled

@@ -5,7 +5,7 @@ use intake::Stage;
 use sheet::Outcome;
 ghost use mathlib.Core.Path.{_≡_};
 ghost use Rattle.labelling.specs.Labelling.{lent};
-ghost use Rattle.labelling.specs.FromIntake.{stageOutcome, stageLent, intakeOutcome, intakeLent};
+ghost use Rattle.labelling.specs.FromIntake.{intakeOutcome, intakeLent};
 
 // Labels the sheet of an intake: refused 15 if it has not ended, then as a direct call with its sizes.
 pub fn label_intake(

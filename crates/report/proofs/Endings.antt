@@ -19,7 +19,7 @@ use Rattle.intake.specs.declared.TakenOutcome.the-variants.{Accepted, Refused a
 use Rattle.intake.specs.Intake.{lineAfter, endIn, endTaken, newIntake, accepted}
 use Rattle.claims.proofs.Written.{length-list}
 use Rattle.labelling.specs.Labelling.{sheet}
-use Rattle.labelling.specs.FromIntake.{stageOutcome, stageLent, intakeOutcome, intakeLent}
+use Rattle.labelling.specs.FromIntake.{intakeOutcome, intakeLent}
 use Rattle.listing.specs.Listing.{listingText, refusalText}
 use Rattle.listing.proofs.Lengths.{listing-written}
 use Rattle.reading.specs.declared.Read.{Read}
@@ -80,7 +80,7 @@ listed-text S L e =
 
 module _ (dirs : List ℕ) (L : Lent) (bytes : List ℕ) (i : Intake) (d : List ℕ) (takes : Takes newIntake dirs (linesOf bytes) i d) where
   sheet-ending : (z : Sizes) → endTaken i ≡ accepted (AtEnd z) → (o : LabelOutcome) → outcome (sheet (z .rows) (z .cols) (z .depth) d) L ≡ o → Ending dirs L bytes (reportText (Ended (record { stage = AtEnd z })) d L)
-  unfolding reportText sheetText intakeOutcome intakeLent stageOutcome stageLent endedSizes
+  unfolding reportText sheetText intakeOutcome intakeLent endedSizes
   sheet-ending z e Labelled o =
       let S : Sheet = sheet (z .rows) (z .cols) (z .depth) d in
       listed i d z takes e o (ap (λ (x : LabelOutcome). sheetText x z d (lentAfter S L)) o ∙ listed-text S L o)

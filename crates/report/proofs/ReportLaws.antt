@@ -20,7 +20,7 @@ use Rattle.intake.specs.declared.Intake.{Intake}
 use Rattle.claims.proofs.Sheets.{accepted-passed}
 use Rattle.claims.proofs.Written.{length-list}
 use Rattle.labelling.specs.Labelling.{sheet}
-use Rattle.labelling.specs.FromIntake.{stageOutcome, stageLent, intakeOutcome, intakeLent}
+use Rattle.labelling.specs.FromIntake.{intakeOutcome, intakeLent}
 use Rattle.listing.specs.Listing.{listingText, refusalText}
 use Rattle.listing.specs.declared.Listing.the-variants.{Bytes}
 use Rattle.listing.specs.Writing.{Listed, refused, accepted, textInto, listingInto, refusalInto}
@@ -54,8 +54,12 @@ module _ (S : Sheet) (L : Lent) (accepted : outcome S L ≡ Labelled) where
   sheet-listed buffer =
       listing-into (S .grid .rows) (S .grid .cols) (S .grid .dirs) (lentAfter S L .areas) (lentAfter S L .labels) buffer (accepted-passed S L accepted .sizes) dirs-long areas-long labels-long
 
-stage-listed : (stage : Stage) (dirs : List ℕ) (L : Lent) (buffer : List ℕ) → stageOutcome stage dirs L ≡ Labelled → listingInto (grid (endedSizes stage .rows) (endedSizes stage .cols) dirs) (stageLent stage dirs L .areas) (stageLent stage dirs L .labels) buffer ≡ textInto (listingText (grid (endedSizes stage .rows) (endedSizes stage .cols) dirs) (stageLent stage dirs L .areas) (stageLent stage dirs L .labels)) buffer
-unfolding stageOutcome stageLent endedSizes
+stage-listed : (stage : Stage) (dirs : List ℕ) (L : Lent) (buffer : List ℕ) → intakeOutcome (record { stage = stage }) dirs L ≡ Labelled
+    → listingInto (grid (endedSizes stage .rows) (endedSizes stage .cols) dirs) (intakeLent (record { stage = stage }) dirs L .areas)
+    (intakeLent (record { stage = stage }) dirs L .labels) buffer
+    ≡ textInto (listingText (grid (endedSizes stage .rows) (endedSizes stage .cols) dirs) (intakeLent (record { stage = stage }) dirs L .areas)
+    (intakeLent (record { stage = stage }) dirs L .labels)) buffer
+unfolding intakeOutcome intakeLent endedSizes
 stage-listed WaitingForSizeNames dirs L buffer e = let z : _≡_ {A = ℕ} 0 1 = cc in absurd (omega arith)
 stage-listed (WaitingForSizes c) dirs L buffer e = let z : _≡_ {A = ℕ} 0 1 = cc in absurd (omega arith)
 stage-listed (WaitingForCellNames z) dirs L buffer e = let z : _≡_ {A = ℕ} 0 1 = cc in absurd (omega arith)

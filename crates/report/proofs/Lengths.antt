@@ -19,12 +19,12 @@ use Rattle.intake.proofs.Laws.{line-length}
 use Rattle.claims.proofs.Counts.{count-le}
 use Rattle.claims.proofs.GridLaws.{area-most-cells}
 use Rattle.claims.proofs.Sheets.{accepted-passed}
-use Rattle.claims.proofs.Written.{length-list, written-at, one-to-nine, at-most-depth, depth-most}
+use Rattle.claims.proofs.Written.{length-list, written-at, one-to-nine, at-most-depth}
 use Rattle.labelling.specs.Labelling.{sheet}
 use Rattle.lines.specs.Fields.{longer}
 use Rattle.listing.specs.Listing.{listingText, refusalText}
 use Rattle.listing.specs.Writing.{textInto, accepted}
-use Rattle.sheet.proofs.Within.{rows-cols-most}
+use Rattle.sheet.proofs.Within.{rows-cols-most, depth-most}
 use Rattle.listing.proofs.Answers.{text-into}
 use Rattle.listing.proofs.Lengths.{refusal-most, listing-written, listing-most-18-digits}
 use Rattle.reading.specs.Lines.{linesOf}
@@ -71,7 +71,7 @@ module _ (S : Sheet) (L : Lent) (accepted : outcome S L ≡ Labelled) where
     where
       go : (t : Bool) → inside (S .grid) c ≡ t → labelOf S c < 10 ^ 18
       go true e =
-          let few : length (labelDigits S c) ≤ 18 = omega (arith, at-most-depth S L accepted c, depth-most S L accepted) in
+          let few : length (labelDigits S c) ≤ 18 = omega (arith, at-most-depth S L accepted c, depth-most (S .depth) (accepted-passed S L accepted .depth)) in
           rw e (omega (arith, number-bound (labelDigits S c) (one-to-nine S L accepted c e), pow-le-pow-right {n = 10} (omega arith) few))
       go false e = rw e (omega arith)
 

@@ -79,7 +79,7 @@ label-basin-requires c κs =
     let n = a .rows * a .cols in
     let S = sheet (a .rows) (a .cols) (a .depth) (a .dirs .now) in
     let e = network-in S (a .areas .now) (c .before .before .before .before .before .before .before .before .before .before .before .before .before .before .before .before .before .before .measure .ensures .1 S refl) in
-    let r = c .before .before .before .before .before .before .before .before .before .before .before .arrange .ensures in
+    let r = c .before .before .before .before .before .before .before .before .before .before .before .arrange .ensures .0 in
     rw (part-is (cellsPart * n) (a .queued), part-is (orderedSizesPart * n) (a .queued)) (
       p .0 .depth-most,
       (
@@ -107,7 +107,7 @@ returns c =
     let p = c .before .before .before .before .before .before .before .before .before .before .before .before .before .before .before .before .before .before .before .before .before .before .before .before .before .before .before .before .pre in
     let a = c .before .before .before .before .before .before .before .before .before .before .before .before .before .before .before .before .before .before .before .before .before .before .before .before .before .before .before .before .args in
     let n = a .rows * a .cols in
-    let r = c .before .before .before .before .before .before .before .before .before .before .before .before .before .before .arrange .ensures in
+    let r = c .before .before .before .before .before .before .before .before .before .before .before .before .before .before .arrange .ensures .0 in
     let S = sheet (a .rows) (a .cols) (a .depth) (a .dirs .now) in
     let areas = c .before .before .before .before .before .before .before .before .before .before .before .before .before .before .before .before .before .before .before .before .before .measure .ensures .1 S refl in
     let e = rw (part-is (cellsPart * n) (a .queued), part-is (orderedSizesPart * n) (a .queued)) at (c .before .before .label-basin .ensures) in

@@ -13,13 +13,13 @@ use Rattle.sheet.specs.River.{network}
 use Rattle.sheet.specs.Label.{outlet}
 use Rattle.sheet.proofs.Cells.{cells-most, inside-lt}
 use Rattle.claims.proofs.GridLaws.{area-least}
-use Rattle.upstream.specs.Work.{sizesPart, cellsPart, orderedSizesPart, placed, sizeAt}
+use Rattle.upstream.specs.Work.{sizesPart, positionsPart, cellsPart, orderedSizesPart, placed, sizeAt}
 use Rattle.drainage.specs.Total.{size}
-use Rattle.order.specs.Places.{positionAt, cellsIn, sizesIn, Surveyed, Placed, Entered, Arranged}
+use Rattle.order.specs.Places.{positionAt, cellsIn, sizesIn, Surveyed, Placed, Entered, Arranged, OtherPlaces}
 use Rattle.order.proofs.Preorder.{some}
-use Rattle.order.proofs.Layouts.{Filled, layout, layout-of}
+use Rattle.order.proofs.Layouts.{Filled, stands, layout, layout-of}
 use Rattle.order.proofs.Sizes.{outlet-size}
-use Rattle.order.proofs.Queued.{whole, queue-most, place-of, queue-kept, preorder}
+use Rattle.order.proofs.Queued.{whole, queue-inside, queue-most, place-of, queue-kept, preorder}
 
 module _ {G : Grid} {areas work now later : List ℕ} {queued : ℕ} (W : Surveyed G areas work queued) (same : length now ≡ length work) (P : Placed G work now queued queued)
     (same′ : length later ≡ length now) (E : Entered (cells G) now later queued) where
@@ -53,7 +53,7 @@ module _ {G : Grid} {areas work now later : List ℕ} {queued : ℕ} (W : Survey
     size-is = λ c i.
         let q = place-of W c i in
         let e : placed now (q .0) ≡ c = queue-kept W same P (q .0) (q .1) ∙ q .2 in
-        part-at orderedSizesPart (positionAt n now c) (below c i) ∙ (rw e at (E .size-is (q .0) (q .1))) ∙ P .kept (sizesPart * n + c) (omega (arith, inside-lt G c i)) ∙ W .size-is c (inside-lt G c i);
+        part-at orderedSizesPart (positionAt n now c) (below c i) ∙ (rw e at (E .size-is (q .0) (q .1))) ∙ P .kept (sizesPart * n + c) (λ u h e. omega (arith, inside-lt G c i)) ∙ W .size-is c (inside-lt G c i);
   }
 
   pub arranged : Arranged G areas later queued
@@ -70,3 +70,23 @@ module _ {G : Grid} {areas work now later : List ℕ} {queued : ℕ} (W : Survey
         outlet-first = rw (P .first) at (F .cell-is (outlet G) i);
         whole = (rw (P .first) at (F .size-is (outlet G) i)) ∙ outlet-size (W .drained) (W .single);
       }
+
+  pub other-places : OtherPlaces G work later queued
+  other-places =
+      let stand = stands (whole W) (preorder W same P) filled in
+      record {
+        position-is = λ j l.
+            let s = stand j (rw (part-length cellsPart (omega arith)) l) in
+            let c = s .0 in
+            let on = inside-lt G c (s .1 .is-inside) in
+            rw (s .1 .cell-is) (E .kept (positionsPart * n + c) (λ k h e. omega arith) (λ k h e. omega arith) ∙ s .1 .place);
+        size-is = λ j l.
+            let s = stand j (rw (part-length cellsPart (omega arith)) l) in
+            rw (s .1 .cell-is) (s .1 .size-is);
+        kept = λ j e.
+            E .kept j (λ k h. e .no-cell _ (queue-below k h)) (λ k h. e .no-size _ (queue-below k h))
+            ∙ P .kept j (e .no-position);
+      }
+    where
+      queue-below : (k : ℕ) → k < queued → positionAt n now (placed now k) < queued
+      queue-below k h = rw (queue-kept W same P k h) (below (placed work k) (queue-inside W k h))

@@ -21,7 +21,7 @@ step-cases {P} i f p j l = go (eqb j i) refl
     go false t = let d : j ≡ i → ⊥ = eqb-false j i t in f j (omega arith)
 
 pub entered-none : {n : ℕ} {work : List ℕ} → Entered n work work 0
-entered-none = record { kept = λ j l. refl; cell-is = λ j l. absurd (omega arith); size-is = λ j l. absurd (omega arith) }
+entered-none = record { kept = λ j c d. refl; cell-is = λ j l. absurd (omega arith); size-is = λ j l. absurd (omega arith) }
 
 module _ {n queued : ℕ} {work₀ work : List ℕ} (A : Apart n work₀ queued) (same : length work ≡ length work₀) {i : ℕ} (E : Entered n work₀ work i) (l : i < queued) where
   abbrev cell : ℕ
@@ -32,13 +32,13 @@ module _ {n queued : ℕ} {work₀ work : List ℕ} (A : Apart n work₀ queued)
 
   -- the queue, positions and sizes are as at the start
   pub cell-kept : placed work i ≡ cell
-  cell-kept = E .kept i (omega (arith, A .most))
+  cell-kept = E .kept i (λ k h e. omega (arith, A .most)) (λ k h e. omega (arith, A .most))
 
   pub at-kept : positionAt n work (placed work i) ≡ at
-  at-kept = rw cell-kept (E .kept (positionsPart * n + cell) (omega (arith, A .on i l)))
+  at-kept = rw cell-kept (E .kept (positionsPart * n + cell) (λ k h e. omega (arith, A .on i l)) (λ k h e. omega (arith, A .on i l)))
 
   pub size-kept : sizeAt n work (placed work i) ≡ sizeAt n work₀ cell
-  size-kept = rw cell-kept (E .kept (sizesPart * n + cell) (omega (arith, A .on i l)))
+  size-kept = rw cell-kept (E .kept (sizesPart * n + cell) (λ k h e. omega (arith, A .on i l)) (λ k h e. omega (arith, A .on i l)))
 
   abbrev after : List ℕ
   after = set (set work (cellsPart * n + at) cell) (orderedSizesPart * n + at) (sizeAt n work₀ cell)
@@ -57,7 +57,9 @@ module _ {n queued : ℕ} {work₀ work : List ℕ} (A : Apart n work₀ queued)
 
   after-entered : Entered n work₀ after (i + 1)
   after-entered = record {
-    kept = λ j h. elsewhere j (λ e. omega arith) (λ e. omega arith) ∙ E .kept j h;
+    kept = λ j c s.
+        elsewhere j (c i (omega arith)) (s i (omega arith))
+        ∙ E .kept j (λ k h. c k (omega arith)) (λ k h. s k (omega arith));
     cell-is =
         step-cases i
         (λ j h. let b = A .below j (omega arith) in let o = other j h in elsewhere _ (λ e. omega arith) (λ e. omega arith) ∙ E .cell-is j h)

@@ -11,7 +11,7 @@ use Rattle.upstream.specs.Work.{sizesPart, positionsPart, sizeAt}
 use Rattle.rivers.specs.Cut.{keyIn}
 use Rattle.order.specs.Keys.{cellOf}
 use Rattle.order.specs.Positions.{Consecutive, none, next}
-use Rattle.order.specs.Places.{positionAt, positioned, Fitting}
+use Rattle.order.specs.Places.{positionAt, positioned, PositionsFit}
 use Rattle.order.proofs.Ascending.{Ascending, least}
 use Rattle.order.proofs.Ascending as asc
 use Rattle.order.proofs.Gathering.{key-cell}
@@ -28,7 +28,7 @@ module _ (n : ℕ) (work : List ℕ) (u at : ℕ) where
   sum-stays [] h = refl
   sum-stays (x ∷ xs) h = rw (size-stays {c = cellOf x} (h x (List·Memᴰ·head refl)), sum-stays xs (λ y m. h y (List·Memᴰ·tail m)))
 
-pub fitting-next : {n at x : ℕ} {xs work : List ℕ} → Fitting n at (x ∷ xs) work → Fitting n (at + sizeAt n work (cellOf x)) xs (set work (positionsPart * n + cellOf x) at)
+pub fitting-next : {n at x : ℕ} {xs work : List ℕ} → PositionsFit n at (x ∷ xs) work → PositionsFit n (at + sizeAt n work (cellOf x)) xs (set work (positionsPart * n + cellOf x) at)
 unfolding sum
 fitting-next {n} {at} {x} {xs} {work} f = record {
   small = f .small;

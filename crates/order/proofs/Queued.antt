@@ -67,7 +67,7 @@ module _ {G : Grid} {areas work : List ℕ} {queued : ℕ} (W : Surveyed G areas
 
   pub placed-none : Placed G work (set work (positionsPart * cells G + outlet G) 0) queued 0
   placed-none = record {
-    kept = λ j l. getD-set-other work (positionsPart * cells G + outlet G) j 0 0 (λ e. omega arith);
+    kept = λ j d. getD-set-other work (positionsPart * cells G + outlet G) j 0 0 (d (outlet G) (whole .outlet-inside));
     first = getD-set-same work (positionsPart * cells G + outlet G) 0 0 (omega (arith, W .room, inside-lt G (outlet G) (whole .outlet-inside)));
     follow = λ j l. absurd (omega arith);
     within = λ j l. absurd (omega arith);
@@ -94,14 +94,14 @@ module _ {G : Grid} {areas work : List ℕ} {queued : ℕ} (W : Surveyed G areas
 
     -- the queue is as it was
     cell-kept : placed now i ≡ cell
-    cell-kept = P .kept i (omega (arith, queue-most))
+    cell-kept = P .kept i (λ c h e. omega (arith, queue-most))
 
     pub standing : length now ≡ length work → Standing G now (placed now i)
     standing same = rw cell-kept (record {
       basin = whole;
       is-inside = queue-inside i l;
       room = omega (arith, W .room);
-      size-is = λ c h. P .kept (sizesPart * n + c) (omega arith) ∙ W .size-is c h;
+      size-is = λ c h. P .kept (sizesPart * n + c) (λ u k e. omega arith) ∙ W .size-is c h;
       within = omega (arith, within-cell (next G cell) refl, queue-most, cells-most (W .measured .sized .rows-most) (W .measured .sized .cols-most));
     })
 
@@ -123,7 +123,7 @@ module _ {G : Grid} {areas work : List ℕ} {queued : ℕ} (W : Surveyed G areas
 
       pub placed-more : Placed G work later queued (i + 1)
       placed-more = record {
-        kept = λ j h. D .kept j (λ u m e. omega arith) ∙ P .kept j h;
+        kept = λ j d. D .kept j (λ u m. d u (next-goes G u (goes cell u m) .from-inside)) ∙ P .kept j d;
         first = stays (outlet G) (λ e. outlet-not-to (sym ((outlet-is G (outlet G) (W .single .is-outlet)) .1) ∙ e)) ∙ P .first;
         follow =
             step-cases i (λ j h. rw (queue-stays j (omega arith)) (moved (P .follow j h) (donor-stays j h)))
@@ -144,7 +144,7 @@ module _ {G : Grid} {areas work now : List ℕ} {queued : ℕ} (W : Surveyed G a
 
   -- the queue is as it was
   pub queue-kept : (i : ℕ) → i < queued → placed now i ≡ placed work i
-  queue-kept i l = P .kept i (omega (arith, queue-most W))
+  queue-kept i l = P .kept i (λ c h e. omega (arith, queue-most W))
 
   pub apart : Apart (cells G) now queued
   apart = record {

@@ -16,7 +16,7 @@ use Rattle.drainage.specs.Total.{size}
 use Rattle.rivers.specs.Cut.{keyIn}
 use Rattle.order.specs.Keys.{cellOf}
 use Rattle.order.specs.Positions.{Consecutive, none}
-use Rattle.order.specs.Places.{positionAt, positioned, Measured, Fitting, Standing, DonorsPlaced}
+use Rattle.order.specs.Places.{positionAt, positioned, Measured, PositionsFit, Standing, DonorsPlaced}
 use Rattle.order.proofs.Sizes.{size-adds}
 use Rattle.order.proofs.Gathering.{key-cell, donor-goes, donors-ascending}
 use Rattle.order.proofs.Placing.{positioned-kept, positioned-follow, sum-keys}
@@ -51,7 +51,7 @@ module _ {G : Grid} {areas work : List ℕ} {cell : ℕ} (M : Measured G areas) 
       let d = Memᴰ·of-map (keyIn areas) us m in
       (d .0, d .1, ap cellOf (sym (d .2)) ∙ key-cell areas (omega (arith, most, on (d .0) (d .1))))
 
-  pub fitting : Fitting (cells G) (positionAt (cells G) work cell + 1) (map (keyIn areas) us) work
+  pub fitting : PositionsFit (cells G) (positionAt (cells G) work cell + 1) (map (keyIn areas) us) work
   fitting = record {
     small = most;
     room = S .room;

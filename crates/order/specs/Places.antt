@@ -32,7 +32,7 @@ sizesIn n work queued = take queued (drop (orderedSizesPart * n) work)
 
 -- ---- what is given
 
--- a sheet whose cells are a basin, with the areas of its cells
+-- a sheet whose bytes are all codes, with the areas of its cells
 pub record Measured (G : Grid) (areas : List ℕ) : Type 0 where
   pub sized : Sized (G .rows) (G .cols) (G .dirs)
   pub coded : Coded G
@@ -55,7 +55,7 @@ positioned n at [] work = work
 positioned n at (x ∷ xs) work = positioned n (at + sizeAt n work (cellOf x)) xs (set work (positionsPart * n + cellOf x) at)
 
 -- the cells of keys have places, and their positions fit 32 bits
-pub record Fitting (n at : ℕ) (keys work : List ℕ) : Type 0 where
+pub record PositionsFit (n at : ℕ) (keys work : List ℕ) : Type 0 where
   pub small : n ≤ 65536
   pub room : 8 * n ≤ length work
   pub on : (x : ℕ) → List·Memᴰ x keys → cellOf x < n
@@ -74,9 +74,9 @@ pub record DonorsPlaced (G : Grid) (work work′ : List ℕ) (cell : ℕ) : Type
   pub follow : Consecutive (size G) (positionAt (cells G) work′) (positionAt (cells G) work cell + 1) (donors (network G) cell)
   pub kept : (j : ℕ) → ((u : ℕ) → List·Memᴰ u (donors (network G) cell) → j ≢ positionsPart * cells G + u) → getD work′ j 0 ≡ getD work j 0
 
--- the donors of the first i cells of the queue have their positions, and so has the outlet
+-- the donors of the first i cells of the queue have their positions, and so has the outlet; no other place is written
 pub record Placed (G : Grid) (work work′ : List ℕ) (queued i : ℕ) : Type 0 where
-  pub kept : (j : ℕ) → j < positionsPart * cells G → getD work′ j 0 ≡ getD work j 0
+  pub kept : (j : ℕ) → ((c : ℕ) → inside G c ≡ true → j ≢ positionsPart * cells G + c) → getD work′ j 0 ≡ getD work j 0
   pub first : positionAt (cells G) work′ (outlet G) ≡ 0
   pub follow : (j : ℕ) → j < i → Consecutive (size G) (positionAt (cells G) work′) (positionAt (cells G) work′ (placed work j) + 1) (donors (network G) (placed work j))
   pub within : (j : ℕ) → j < i → positionAt (cells G) work′ (placed work j) + size G (placed work j) ≤ queued
@@ -96,9 +96,10 @@ pub record Apart (n : ℕ) (work : List ℕ) (queued : ℕ) : Type 0 where
   pub below : (i : ℕ) → i < queued → positionAt n work (placed work i) < n
   pub apart : (i j : ℕ) → i < queued → j < queued → positionAt n work (placed work i) ≡ positionAt n work (placed work j) → i ≡ j
 
--- the first i queued cells stand at their positions
+-- the first i queued cells stand at their positions, and no other place is written
 pub record Entered (n : ℕ) (work work′ : List ℕ) (i : ℕ) : Type 0 where
-  pub kept : (j : ℕ) → j < cellsPart * n → getD work′ j 0 ≡ getD work j 0
+  pub kept : (j : ℕ) → ((k : ℕ) → k < i → j ≢ cellsPart * n + positionAt n work (placed work k))
+      → ((k : ℕ) → k < i → j ≢ orderedSizesPart * n + positionAt n work (placed work k)) → getD work′ j 0 ≡ getD work j 0
   pub cell-is : (j : ℕ) → j < i → getD work′ (cellsPart * n + positionAt n work (placed work j)) 0 ≡ placed work j
   pub size-is : (j : ℕ) → j < i → getD work′ (orderedSizesPart * n + positionAt n work (placed work j)) 0 ≡ sizeAt n work (placed work j)
 
@@ -112,3 +113,16 @@ pub record Arranged (G : Grid) (areas work : List ℕ) (queued : ℕ) : Type 0 w
   pub layout-of : LayoutOf (network G) (cellsIn (cells G) work queued) (sizesIn (cells G) work queued) areas 4 1
   pub outlet-first : getD (cellsIn (cells G) work queued) 0 0 ≡ outlet G
   pub whole : getD (sizesIn (cells G) work queued) 0 0 ≡ queued
+
+-- a place that is no inside cell's position, and none of the first `queued` among the cells and the sizes by position
+pub record Elsewhere (G : Grid) (queued j : ℕ) : Type 0 where
+  pub no-position : (c : ℕ) → inside G c ≡ true → j ≢ positionsPart * cells G + c
+  pub no-cell : (i : ℕ) → i < queued → j ≢ cellsPart * cells G + i
+  pub no-size : (i : ℕ) → i < queued → j ≢ orderedSizesPart * cells G + i
+
+-- beside a cell at each position: its own position, its size, and every other place as it was
+pub record OtherPlaces (G : Grid) (work work′ : List ℕ) (queued : ℕ) : Type 0 where
+  pub position-is : (j : ℕ) → j < queued → positionAt (cells G) work′ (getD (cellsIn (cells G) work′ queued) j 0) ≡ j
+  pub size-is : (j : ℕ) → j < queued
+      → getD (sizesIn (cells G) work′ queued) j 0 ≡ size G (getD (cellsIn (cells G) work′ queued) j 0)
+  pub kept : (j : ℕ) → Elsewhere G queued j → getD work′ j 0 ≡ getD work j 0

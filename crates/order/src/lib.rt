@@ -1,3 +1,3 @@
 // The order of the cells along rivers: preorder, the donors of each cell from lightest to heaviest.
-pub mod donors;
+mod donors;
 pub mod positions;

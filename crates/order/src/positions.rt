@@ -6,11 +6,11 @@ ghost use Prim.Native.Nat.{_+_, _*_, _<_, _≤_};
 ghost use lib.ListN.{length, set};
 ghost use Rattle.sheet.specs.Sheet.{grid};
 ghost use Rattle.upstream.specs.Work.{positionsPart, placed};
-ghost use Rattle.order.specs.Places.{positionAt, Measured, Surveyed, positioned, Fitting, Standing, DonorsPlaced, Placed, entered, Apart, Entered, Arranged};
+ghost use Rattle.order.specs.Places.{positionAt, Measured, Surveyed, positioned, PositionsFit, Standing, DonorsPlaced, Placed, entered, Apart, Entered, Arranged, OtherPlaces};
 
 // Gives the cells of keys positions one after the other from `first` on.
 fn place_donors(n: usize, first: u32, keys: &[u64], work: &mut [u32])
-    requires { ⌜ Fitting n first (now keys) (now work) ⌝ }
+    requires { ⌜ PositionsFit n first (now keys) (now work) ⌝ }
     ensures { λ _. ⌜ now (work .exit) ≡ positioned n first (now (keys .entry)) (now (work .entry)) ⌝ }
 {
     let sizes = parts::SIZES * n;
@@ -100,7 +100,9 @@ pub fn arrange(
     work: &mut [u32],
 )
     requires { ⌜ Surveyed (grid rows cols (now dirs)) (now areas) (now work) queued ⌝ }
-    ensures { λ _. ⌜ Arranged (grid rows cols (now (dirs .entry))) (now (areas .entry)) (now (work .exit)) queued ⌝ }
+    ensures order { λ _. ⌜ Arranged (grid rows cols (now (dirs .entry))) (now (areas .entry)) (now (work .exit)) queued ⌝ }
+    ensures places { λ _. ⌜ OtherPlaces (grid rows cols (now (dirs .entry)))
+        (now (work .entry)) (now (work .exit)) queued ⌝ }
 {
     place_all(dirs, rows, cols, areas, queued, work);
     enter_all(rows * cols, queued, work);

@@ -77,7 +77,7 @@ label-basin-requires c κs =
     let a = c .before .before .before .before .before .before .before .before .before .before .before .before .before .before .before .before .before .before .before .before .before .before .before .before .before .args in
     let n = a .rows * a .cols in
     let G = grid (a .rows) (a .cols) (a .dirs .now) in
-    let r = c .before .before .before .before .before .before .before .before .before .before .before .arrange .ensures in
+    let r = c .before .before .before .before .before .before .before .before .before .before .before .arrange .ensures .0 in
     rw (part-is (cellsPart * n) (a .queued), part-is (orderedSizesPart * n) (a .queued)) (
       p .0 .depth-most,
       (
@@ -104,7 +104,7 @@ returns c =
     let p = c .before .before .before .before .before .before .before .before .before .before .before .before .before .before .before .before .before .before .before .before .before .before .before .before .before .before .before .before .pre in
     let a = c .before .before .before .before .before .before .before .before .before .before .before .before .before .before .before .before .before .before .before .before .before .before .before .before .before .before .before .before .args in
     let n = a .rows * a .cols in
-    let r = c .before .before .before .before .before .before .before .before .before .before .before .before .before .before .arrange .ensures in
+    let r = c .before .before .before .before .before .before .before .before .before .before .before .before .before .before .arrange .ensures .0 in
     let e = rw (part-is (cellsPart * n) (a .queued), part-is (orderedSizesPart * n) (a .queued)) at (c .before .before .label-basin .ensures) in
     (c .before .before .before .before .before .before .before .before .before .before .before .before .before .before .before .before .before .before .before .before .before .measure .ensures .1, labels-written (sheet (a .rows) (a .cols) (a .depth) (a .dirs .now)) (a .labels .now) (p .1 .accepted) r (p .0 .labels) (c .before .before .before .before .before .before .before .before .before .before .clear-labels .ensures) e)
 

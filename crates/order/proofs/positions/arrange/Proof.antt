@@ -1,5 +1,5 @@
 use Rattle.order.proofs.Queued.{apart}
-use Rattle.order.proofs.Arranging.{arranged}
+use Rattle.order.proofs.Arranging.{arranged, other-places}
 use borrow.Author.Needs.{needs}
 use Rattle.order.proofs.positions.arrange.Statement.{statement}
 use Rattle.order.proofs.positions.arrange.Tie as tie
@@ -26,7 +26,11 @@ same-length c = search needs
 
 -- src/positions.rt:94:1
 returns : tie.Need-returns
-returns c = arranged (c .before .before .before .before .before .before .before .before .before .before .before .pre) (c .before .before .before .before .before .before .place-all .kept .1 .1 .1 .1 .1 .0) (c .before .before .before .before .before .before .place-all .ensures) (c .before .before .enter-all .kept .1 .1 .0) (c .before .before .enter-all .ensures)
+returns c =
+    let w = c .before .before .before .before .before .before .before .before .before .before .before .pre in
+    let p = c .before .before .before .before .before .before .place-all in
+    let e = c .before .before .enter-all in
+    (arranged w (p .kept .1 .1 .1 .1 .1 .0) (p .ensures) (e .kept .1 .1 .0) (e .ensures), other-places w (p .kept .1 .1 .1 .1 .1 .0) (p .ensures) (e .kept .1 .1 .0) (e .ensures))
 
 pub arrange-spec : {M : Type 1} → statement M
 arrange-spec =

@@ -9,7 +9,7 @@ use borrow.Author.Needs.{needs}
 use Rattle.claims.specs.Bounds.{sum}
 use Rattle.upstream.specs.Work.{sizeAt}
 use Rattle.order.specs.Keys.{cellOf}
-use Rattle.order.specs.Places.{positioned, Fitting}
+use Rattle.order.specs.Places.{positioned, PositionsFit}
 use Rattle.order.proofs.Placing.{fitting-next}
 use Rattle.order.proofs.positions.place_donors.Statement.{statement}
 use Rattle.order.proofs.positions.place_donors.Tie as tie
@@ -18,7 +18,7 @@ use Rattle.order.proofs.positions.place_donors.Lts as lts
 
 abbrev Inv-loop : tie.InvT-loop
 Inv-loop n first keys work₀ sizes positions at₀ k₀ k-end work at k =
-    (k ≤ length keys) × (length work ≡ length work₀) × Fitting n at (drop k keys) work
+    (k ≤ length keys) × (length work ≡ length work₀) × PositionsFit n at (drop k keys) work
     × (positioned n at (drop k keys) work ≡ positioned n first keys work₀)
 
 abbrev μ-loop : tie.MeasureT-loop
@@ -28,7 +28,7 @@ abbrev μ-loop : tie.MeasureT-loop
 rest : (c : tie.In-loop Inv-loop μ-loop) → drop (c .before .loop .k) (c .before .before .args .keys .now) ≡ getD (c .before .before .args .keys .now) (c .before .loop .k) 0 ∷ drop (c .before .loop .k + 1) (c .before .before .args .keys .now)
 rest c = rw (add-one (c .before .loop .k)) (drop-cons (c .before .before .args .keys .now) (c .before .loop .k) 0 (c .loop-test .taken))
 
-fitted : (c : tie.In-loop Inv-loop μ-loop) → Fitting (c .before .before .args .n) (c .before .loop .at) (getD (c .before .before .args .keys .now) (c .before .loop .k) 0 ∷ drop (c .before .loop .k + 1) (c .before .before .args .keys .now)) (c .before .loop .work)
+fitted : (c : tie.In-loop Inv-loop μ-loop) → PositionsFit (c .before .before .args .n) (c .before .loop .at) (getD (c .before .before .args .keys .now) (c .before .loop .k) 0 ∷ drop (c .before .loop .k + 1) (c .before .before .args .keys .now)) (c .before .loop .work)
 fitted c = rw (rest c) at (c .before .loop .inv .2)
 
 on : (c : tie.In-loop Inv-loop μ-loop) → cellOf (getD (c .before .before .args .keys .now) (c .before .loop .k) 0) < c .before .before .args .n

@@ -10,7 +10,7 @@ use Rattle.sheet.specs.Label.{areasOf, labelsOf}
 use Rattle.sheet.specs.Cases.{sampleA}
 use Rattle.listing.specs.declared.Listing.the-variants.{Bytes, Refused}
 use Rattle.listing.specs.Listing.{lineFeed, listingText, refusalText}
-use Rattle.listing.specs.Writing.{listingNumber, listingBytes, listingInto, refusalInto}
+use Rattle.listing.specs.Writing.{listingValues, listingInto, refusalInto}
 
 -- the bytes of lines, each ended by a line feed
 abbrev lines : List String → List ℕ
@@ -66,11 +66,11 @@ unfolding listingInto
 one-byte-short = refl
 
 -- 257 rows give 1, though nothing is lent; a missing label gives 3
-pub many-rows : listingNumber (listingInto (grid 257 1 []) [] [] [] .answer) ≡ 1
+pub many-rows : listingValues (listingInto (grid 257 1 []) [] [] [] .answer) .number ≡ 1
 unfolding listingInto
 many-rows = refl
 
-pub no-label : listingNumber (listingInto (grid 1 1 (1 ∷ [])) (1 ∷ []) [] (replicate 27 46) .answer) ≡ 3
+pub no-label : listingValues (listingInto (grid 1 1 (1 ∷ [])) (1 ∷ []) [] (replicate 27 46) .answer) .number ≡ 3
 unfolding listingInto
 no-label = refl
 
@@ -78,6 +78,6 @@ pub refusal-in-buffer : refusalInto 14 1 (replicate 20 46) ≡ record { answer =
 unfolding refusalInto
 refusal-in-buffer = refl
 
-pub longest-refusal : listingBytes (refusalInto 255 18446744073709551615 (replicate 39 46) .answer) ≡ 39
+pub longest-refusal : listingValues (refusalInto 255 18446744073709551615 (replicate 39 46) .answer) .bytes ≡ 39
 unfolding refusalInto
 longest-refusal = refl

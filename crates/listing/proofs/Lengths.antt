@@ -13,19 +13,30 @@ use Rattle.decimal.proofs.TextLaws.{text-few, text-64-bit}
 use Rattle.sheet.specs.Sheet.{Grid, cells, dirAt, inside}
 use Rattle.sheet.specs.Refusal.{written}
 use Rattle.sheet.proofs.Cells.{inside-no, inside-yes, inside-lt, row-lt, cells-most}
-use Rattle.listing.specs.Listing.{listingHeading, field, cellLine, lineOf, insideLine, linesBelow, listingText, refusalText}
+use Rattle.listing.specs.Listing.{listingHeading, labelText, field, cellLine, lineOf, insideLine, linesBelow, listingText, refusalText}
 
-pub field-length : (value after : ℕ) → length (field value after) ≡ length (decimalText value) + 1
+pub field-length : (text : List ℕ) (after : ℕ) → length (field text after) ≡ length text + 1
 unfolding field
-field-length value after = length-append (decimalText value) (after ∷ [])
+field-length text after = length-append text (after ∷ [])
 
-pub cell-length : (row col area label : ℕ) → length (cellLine row col area label) ≡ length (decimalText row) + length (decimalText col) + length (decimalText area) + length (decimalText label) + 4
+pub cell-length : (row col area label : ℕ) → length (cellLine row col area label)
+    ≡ length (decimalText row) + length (decimalText col) + length (decimalText area) + length (labelText label) + 4
 unfolding cellLine
 cell-length row col area label = simp length-append (omega arith)
 
-pub refusal-length : (number place : ℕ) → length (refusalText number place) ≡ 14 + length (decimalText number) + length (decimalText place) + 2
+pub refusal-length : (number place : ℕ) → length (refusalText number place)
+    ≡ 14 + length (decimalText number) + length (decimalText place) + 2
 unfolding refusalText
 refusal-length number place = simp length-append (omega arith)
+
+-- a label below 10 ^ k has at most k digits
+pub label-few : (k label : ℕ) → 0 < k → label < 10 ^ k → length (labelText label) ≤ k
+unfolding labelText
+label-few k label some h = text-few k label some h
+
+pub label-64-bit : (label : ℕ) → label < 2 ^ 64 → length (labelText label) ≤ 20
+unfolding labelText
+label-64-bit label h = text-64-bit label h
 
 -- a refusal's text has at most 14 + 3 + 1 + 20 + 1 bytes
 pub refusal-most : (number place : ℕ) → number < 256 → place < 2 ^ 64 → length (refusalText number place) ≤ 39
@@ -86,7 +97,7 @@ module _ (G : Grid) (areas labels : List ℕ) where
               text-few 3 (c / G .cols) (omega arith) (omega (arith, row-lt some l, bounded .rows-most)),
               text-few 3 (c % G .cols) (omega arith) (omega (arith, mod-lt c some, bounded .cols-most)),
               text-few a (getD areas c 0) (bounded .area-digits) (bounded .areas-below c l),
-              text-few b (getD labels c 0) (bounded .label-digits) (bounded .labels-below c l),
+              label-few b (getD labels c 0) (bounded .label-digits) (bounded .labels-below c l),
             ))
 
     pub lines-most : (n : ℕ) → length (linesBelow G areas labels n) ≤ n * (10 + a + b)

@@ -9,14 +9,15 @@ use lib.ListN.{length, take, drop, set, length-append, take-append-drop}
 use lib.Seq.{paste, take-length}
 use Rattle.decimal.specs.declared.Written.{Written}
 use Rattle.decimal.specs.declared.Written.the-variants.{End}
-use Rattle.decimal.specs.Text.{decimalText, overwrite, writeText, Writing}
+use Rattle.decimal.specs.Text.{overwrite, writeText, Writing}
 use Rattle.decimal.proofs.TextLaws.{overwrite-then, overwrite-one, overwrite-length}
+use Rattle.listing.specs.declared.Listing.{Listing}
 use Rattle.listing.specs.declared.Listing.the-variants.{Bytes, Refused}
 use Rattle.sheet.specs.Sheet.{Grid, cells, dirAt}
 use Rattle.listing.specs.Listing.{field, lineOf, linesBelow}
-use Rattle.listing.specs.Writing.{textInto}
+use Rattle.listing.specs.Writing.{listingValues, Listed, textInto}
 use Rattle.listing.specs.Steps.{Put}
-use Rattle.listing.proofs.Lengths.{lines-outside, lines-inside}
+use Rattle.listing.proofs.Lengths.{field-length, lines-outside, lines-inside}
 
 -- ---- one text, and another after it
 
@@ -66,10 +67,18 @@ module _ (text buffer : List ℕ) (at : ℕ) {answer : Written} {after : List �
   pub wrote-put : {end : ℕ} → answer ≡ End end → Put buffer after at end text
   wrote-put {end} e = let f = wrote-answer in record { next-is = cc; after-is = ap (λ (w : Writing). w .buffer) wrote-is }
 
--- a number, and the byte after it
-pub put-field : (value after : ℕ) {a b : List ℕ} {at end : ℕ} → at + length (field value after) ≤ length a → Put a b at end (decimalText value) → Put a (set b end after) at (end + 1) (field value after)
+-- a text, and the byte after it
+pub put-field : (text : List ℕ) (after : ℕ) {a b : List ℕ} {at end : ℕ} → at + length text < length a
+    → Put a b at end text → Put a (set b end after) at (end + 1) (field text after)
 unfolding field
-put-field value after {a} {b} {at} {end} room p = put-then p (put-one b end after (omega (arith, put-room p (after ∷ []) room))) room
+put-field text after {a} {b} {at} {end} room p =
+    let both : at + length (text ++ (after ∷ [])) ≤ length a = omega (arith, length-append text (after ∷ [])) in
+    put-then p (put-one b end after (omega (arith, put-room p (after ∷ []) both))) both
+
+-- the position after it
+pub field-end : (text : List ℕ) (after : ℕ) {a b : List ℕ} {at next : ℕ} → Put a b at next (field text after)
+    → next ≡ at + length text + 1
+field-end text after p = omega (arith, p .next-is, field-length text after)
 
 -- ---- a text at the start of a buffer
 
@@ -81,6 +90,11 @@ module _ (text buffer : List ℕ) where
   pub put-none : length buffer < length text → record { answer = Refused 3; buffer = buffer } ≡ textInto text buffer
   unfolding textInto
   put-none short = rw (lt-leb (length text) (length buffer) short)
+
+-- an answer and a buffer that are the definition's have its number and values
+pub promises : {answer : Listing} {buffer : List ℕ} {w : Listed} → record { answer = answer; buffer = buffer } ≡ w
+    → (record { answer = answer; buffer = buffer } ≡ w) × (listingValues answer ≡ listingValues (w .answer))
+promises e = (e, ap (λ (x : Listed). listingValues (x .answer)) e)
 
 -- ---- the lines of cells
 

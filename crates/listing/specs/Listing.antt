@@ -20,15 +20,21 @@ listingHeading = ascii "row,col,area,label" ++ (lineFeed ∷ [])
 abbrev pub refusalHeading : List ℕ
 refusalHeading = ascii "refused,place" ++ (lineFeed ∷ [])
 
--- a value in decimal, and the byte after it
-unfoldable pub field : ℕ → ℕ → List ℕ
+-- "`label` is written as a decimal number"
+unfoldable pub labelText : ℕ → List ℕ
 unfolding decimalText
-field value after = decimalText value ++ (after ∷ [])
+labelText label = decimalText label
+
+-- a text, and the byte after it
+unfoldable pub field : List ℕ → ℕ → List ℕ
+field text after = text ++ (after ∷ [])
 
 -- the line of a cell, with its line feed
 unfoldable pub cellLine : ℕ → ℕ → ℕ → ℕ → List ℕ
-unfolding field
-cellLine row col area label = field row comma ++ (field col comma ++ (field area comma ++ field label lineFeed))
+unfolding field decimalText labelText
+cellLine row col area label =
+    field (decimalText row) comma
+    ++ (field (decimalText col) comma ++ (field (decimalText area) comma ++ field (labelText label) lineFeed))
 
 -- the line of the cell c; areas and labels stand in their lists by cell number
 abbrev pub lineOf : Grid → List ℕ → List ℕ → ℕ → List ℕ
@@ -52,5 +58,6 @@ listingText G areas labels = listingHeading ++ linesBelow G areas labels (cells 
 
 -- after a refusal: "only `refused,place` and a line of the two values"
 unfoldable pub refusalText : ℕ → ℕ → List ℕ
-unfolding field
-refusalText number place = refusalHeading ++ (field number comma ++ field place lineFeed)
+unfolding field decimalText
+refusalText number place =
+    refusalHeading ++ (field (decimalText number) comma ++ field (decimalText place) lineFeed)

@@ -11,13 +11,13 @@ use Rattle.listing.specs.declared.Listing.the-variants.{Bytes, Refused}
 use Rattle.listing.specs.Listing.{listingText, refusalText}
 
 -- document 01's number of an answer, 0 where it is no refusal, and how many bytes were written
-abbrev pub listingNumber : Listing → ℕ
-listingNumber (Bytes count) = 0
-listingNumber (Refused number) = number
+pub record ListingValues : Type 0 where
+  pub number : ℕ
+  pub bytes : ℕ
 
-abbrev pub listingBytes : Listing → ℕ
-listingBytes (Bytes count) = count
-listingBytes (Refused number) = 0
+abbrev pub listingValues : Listing → ListingValues
+listingValues (Bytes count) = record { number = 0; bytes = count }
+listingValues (Refused number) = record { number = number; bytes = 0 }
 
 -- the answer of a call that writes, and the buffer afterwards
 pub record Listed : Type 0 where

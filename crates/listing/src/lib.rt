@@ -1,11 +1,11 @@
 // The listing of a sheet's cells, and the two lines after a refusal, as text in a lent buffer.
 ghost use mathlib.Core.Path.{_≡_};
-ghost use Prim.Native.Nat.{_+_, _*_, _≤_};
+ghost use Prim.Native.Nat.{_+_, _*_, _<_, _≤_};
 ghost use lib.ListN.{length};
 ghost use Rattle.decimal.specs.Text.{decimalText};
 ghost use Rattle.sheet.specs.Sheet.{grid};
-ghost use Rattle.listing.specs.Listing.{field, cellLine, linesBelow};
-ghost use Rattle.listing.specs.Writing.{listingInto, refusalInto};
+ghost use Rattle.listing.specs.Listing.{labelText, field, cellLine, linesBelow};
+ghost use Rattle.listing.specs.Writing.{listingValues, listingInto, refusalInto};
 ghost use Rattle.listing.specs.Steps.{Listable, Put};
 use checks::sizes_fit;
 use decimal::Written;
@@ -27,6 +27,13 @@ fn digit_count(n: u64) -> usize
     end
 }
 
+// The bytes of a label.
+fn label_length(label: u64) -> usize
+    ensures { λ r. ⌜ r ≡ length (labelText label) ⌝ }
+{
+    digit_count(label)
+}
+
 // The bytes of the line of a cell.
 fn cell_length(row: usize, col: usize, area: u32, label: u64) -> usize
     ensures { λ r. ⌜ r ≡ length (cellLine row col area label) ⌝ }
@@ -34,8 +41,8 @@ fn cell_length(row: usize, col: usize, area: u32, label: u64) -> usize
     let row_digits = digit_count(row as u64);
     let col_digits = digit_count(col as u64);
     let area_digits = digit_count(area as u64);
-    let label_digits = digit_count(label);
-    row_digits + col_digits + area_digits + label_digits + 4
+    let label_bytes = label_length(label);
+    row_digits + col_digits + area_digits + label_bytes + 4
 }
 
 // The bytes of the lines of all inside cells.
@@ -69,14 +76,22 @@ fn put_text(text: &[u8], out: &mut [u8], at: usize) -> usize
 
 // Writes a value and the byte after it.
 fn put_field(value: u64, after: u8, out: &mut [u8], at: usize) -> usize
-    requires { ⌜ at + length (field value after) ≤ length (now out) ⌝ }
-    ensures { λ r. ⌜ Put (now (out .entry)) (now (out .exit)) at r (field value after) ⌝ }
+    requires { ⌜ at + length (decimalText value) < length (now out) ⌝ }
+    ensures { λ r. ⌜ Put (now (out .entry)) (now (out .exit)) at r (field (decimalText value) after) ⌝ }
 {
     let Written::End(end) = decimal::write_decimal(value, out, at) else {
         return at;
     };
     out[end] = after;
     end + 1
+}
+
+// Writes a label and the byte after it.
+fn put_label(label: u64, after: u8, out: &mut [u8], at: usize) -> usize
+    requires { ⌜ at + length (labelText label) < length (now out) ⌝ }
+    ensures { λ r. ⌜ Put (now (out .entry)) (now (out .exit)) at r (field (labelText label) after) ⌝ }
+{
+    put_field(label, after, out, at)
 }
 
 // Writes the line of a cell.
@@ -87,7 +102,7 @@ fn put_cell(row: usize, col: usize, area: u32, label: u64, out: &mut [u8], at: u
     let col_at = put_field(row as u64, b',', out, at);
     let area_at = put_field(col as u64, b',', out, col_at);
     let label_at = put_field(area as u64, b',', out, area_at);
-    put_field(label, b'\n', out, label_at)
+    put_label(label, b'\n', out, label_at)
 }
 
 // Writes the lines of all inside cells.
@@ -131,7 +146,8 @@ pub fn write_listing(
     labels: &[u64],
     out: &mut [u8],
 ) -> Listing
-    ensures { λ r. ⌜ record { answer = r; buffer = now (out .exit) } ≡ listingInto (grid rows cols (now (dirs .entry))) (now (areas .entry)) (now (labels .entry)) (now (out .entry)) ⌝ }
+    ensures listing { λ r. ⌜ record { answer = r; buffer = now (out .exit) } ≡ listingInto (grid rows cols (now (dirs .entry))) (now (areas .entry)) (now (labels .entry)) (now (out .entry)) ⌝ }
+    ensures values { λ r. ⌜ listingValues r ≡ listingValues (listingInto (grid rows cols (now (dirs .entry))) (now (areas .entry)) (now (labels .entry)) (now (out .entry)) .answer) ⌝ }
 {
     if sizes_fit(rows, cols) {
         let n = rows * cols;
@@ -158,7 +174,8 @@ pub fn write_listing(
 
 // Writes the two lines after a refusal to the start of a buffer.
 pub fn write_refusal(number: u8, place: usize, out: &mut [u8]) -> Listing
-    ensures { λ r. ⌜ record { answer = r; buffer = now (out .exit) } ≡ refusalInto number place (now (out .entry)) ⌝ }
+    ensures refusal { λ r. ⌜ record { answer = r; buffer = now (out .exit) } ≡ refusalInto number place (now (out .entry)) ⌝ }
+    ensures values { λ r. ⌜ listingValues r ≡ listingValues (refusalInto number place (now (out .entry)) .answer) ⌝ }
 {
     let heading = b"refused,place\n";
     let number_digits = digit_count(number as u64);

@@ -2,7 +2,7 @@
 use Prim.Native.Nat.{_+_, _≤_}
 use native.Mathlib.Omega.{arith}
 use Rattle.decimal.proofs.TextLaws.{text-64-bit, text-32-bit}
-use Rattle.listing.proofs.Lengths.{cell-length}
+use Rattle.listing.proofs.Lengths.{cell-length, label-64-bit}
 use borrow.Author.Needs.{needs}
 use Rattle.listing.proofs.cell_length.Statement.{statement}
 use Rattle.listing.proofs.cell_length.Tie as tie
@@ -16,14 +16,14 @@ digit-count-requires-2 c κs = search needs
 digit-count-requires-3 : tie.Need-digit-count-requires-3
 digit-count-requires-3 c κs = search needs
 
-digit-count-requires-4 : tie.Need-digit-count-requires-4
-digit-count-requires-4 c κs = search needs
+label-length-requires : tie.Need-label-length-requires
+label-length-requires c κs = search needs
 
 -- all the digits of a line are at most 80
-few : (c : tie.After-digit-count4) → c .before .before .before .digit-count .result + c .before .before .digit-count2 .result + c .before .digit-count3 .result + c .digit-count4 .result ≤ 80
+few : (c : tie.After-label-length) → c .before .before .before .digit-count .result + c .before .before .digit-count2 .result + c .before .digit-count3 .result + c .label-length .result ≤ 80
 few c =
     let s = c .before .before .before .before in
-    omega (arith, text-64-bit (s .args .row) (s .fits .row .fits), text-64-bit (s .args .col) (s .fits .col .fits), text-32-bit (s .args .area) (s .fits .area .fits), text-64-bit (s .args .label) (s .fits .label .fits))
+    omega (arith, text-64-bit (s .args .row) (s .fits .row .fits), text-64-bit (s .args .col) (s .fits .col .fits), text-32-bit (s .args .area) (s .fits .area .fits), label-64-bit (s .args .label) (s .fits .label .fits))
 
 add-result : tie.Need-add-result
 add-result c = omega (arith, few c)
@@ -49,7 +49,7 @@ cell-length-spec =
     digit-count-requires
     digit-count-requires-2
     digit-count-requires-3
-    digit-count-requires-4
+    label-length-requires
     add-result
     add-result-2
     add-result-3

@@ -1,15 +1,12 @@
 -- `put_field` meets its contract: the number is written whole, and the byte stands at its end.
 use Prim.Native.Nat.{ℕ, _+_, _≤_}
 use mathlib.Core.Path.{_≡_, sym, _∙_}
-use mathlib.Core.List.{[], _∷_}
 use native.Mathlib.Omega.{arith}
 use lib.ListN.{length}
 use Rattle.decimal.specs.declared.Written.the-variants.{End}
 use Rattle.decimal.specs.Text.{decimalText}
-use Rattle.listing.specs.Listing.{field}
 use Rattle.listing.specs.Steps.{Put}
-use Rattle.listing.proofs.Lengths.{field-length}
-use Rattle.listing.proofs.Putting.{wrote-answer, wrote-put, put-room, put-field}
+use Rattle.listing.proofs.Putting.{wrote-answer, wrote-put, put-length, put-field}
 use borrow.Author.Needs.{needs}
 use Rattle.listing.proofs.put_field.Statement.{statement}
 use Rattle.listing.proofs.put_field.Tie as tie
@@ -19,7 +16,7 @@ write-decimal-requires c κs = search needs
 
 -- the number has room
 room : (c : tie.Start) → c .args .at + length (decimalText (c .args .value)) ≤ length (c .args .out .now)
-room c = omega (arith, field-length (c .args .value) (c .args .after))
+room c = omega arith
 
 -- and so it is written whole
 answer : (c : tie.After-slice-known2) → let a = c .before .before .before .before .before .args in c .before .before .write-decimal .result ≡ End (a .at + length (decimalText (a .value)))
@@ -50,10 +47,9 @@ returns c =
 
 -- the byte has room after the number
 after-room : (c : tie.After-known-told) → let w = c .before .before .before .before .before in c .before .end .given .0 .0 + 1 ≤ length (w .write-decimal .last .1 .0)
-unfolding field
 after-room c =
     let s = c .before .before .before .before .before .before .before .before in
-    put-room (number c) (s .args .after ∷ []) (s .pre)
+    omega (arith, s .pre, number c .next-is, put-length (number c) (room s))
 
 slice-write-out : tie.Need-slice-write-out
 slice-write-out c = omega (arith, after-room c)

@@ -13,7 +13,7 @@ use Rattle.listing.specs.Listing.{listingHeading, linesBelow, listingTex
 use Rattle.listing.specs.Writing.{textInto, listingInto}
 use Rattle.listing.specs.Steps.{Listable, Put}
 use Rattle.listing.proofs.Lengths.{listing-length, lines-fit}
-use Rattle.listing.proofs.Putting.{put-room, put-then, put-whole, put-none}
+use Rattle.listing.proofs.Putting.{put-room, put-then, put-whole, put-none, promises}
 use Rattle.listing.proofs.Answers.{rows-cols-most, refused-sizes, refused-dirs, refused-areas, refused-labels, listable, listing-into}
 use Rattle.listing.proofs.write_listing.Statement.{statement}
 use Rattle.listing.proofs.write_listing.Tie as tie
@@ -63,13 +63,13 @@ mul-n : tie.Need-mul-n
 mul-n c = let m = most c in omega (arith, cells-most (m .0) (m .1))
 
 returns : tie.Need-returns
-returns c = refused-dirs _ _ _ _ _ _ (sizes (c .before)) (c .if2 .taken)
+returns c = promises (refused-dirs _ _ _ _ _ _ (sizes (c .before)) (c .if2 .taken))
 
 returns-2 : tie.Need-returns-2
-returns-2 c = refused-areas _ _ _ _ _ _ (sizes (c .before .before)) (c .before .if2 .left) (c .if3 .taken)
+returns-2 c = promises (refused-areas _ _ _ _ _ _ (sizes (c .before .before)) (c .before .if2 .left) (c .if3 .taken))
 
 returns-3 : tie.Need-returns-3
-returns-3 c = refused-labels _ _ _ _ _ _ (sizes (c .before .before .before)) (c .before .before .if2 .left) (c .before .if3 .left) (c .if4 .taken)
+returns-3 c = promises (refused-labels _ _ _ _ _ _ (sizes (c .before .before .before)) (c .before .before .if2 .left) (c .before .if3 .left) (c .if4 .taken))
 
 lines-length-requires : tie.Need-lines-length-requires
 lines-length-requires c κs = checked c
@@ -83,7 +83,7 @@ add-length c =
 returns-4 : tie.Need-returns-4
 returns-4 c =
     let short : length (c .before .before .before .before .before .before .before .before .before .before .before .before .args .out .now) < length (text (c .before .before .before .before .before .before .before .before .before .before .before .before)) = omega (arith, counted (c .before)) in
-    put-none _ _ short ∙ sym (into (c .before .before))
+    promises (put-none _ _ short ∙ sym (into (c .before .before)))
 
 put-text-requires : tie.Need-put-text-requires
 put-text-requires c κs = search needs
@@ -96,10 +96,10 @@ same-length c = search needs
 
 returns-5 : tie.Need-returns-5
 unfolding listingText
-returns-5 c = put-whole _ _ (room (c .before .before .before .before .before .before .before .before .before)) (put-then (heading (c .before .before .before .before .before .before)) (c .before .before .put-lines .ensures) (text-room (c .before .before .before .before .before .before .before .before .before))) ∙ sym (into (c .before .before .before .before .before .before .before .before .before .before .before))
+returns-5 c = promises (put-whole _ _ (room (c .before .before .before .before .before .before .before .before .before)) (put-then (heading (c .before .before .before .before .before .before)) (c .before .before .put-lines .ensures) (text-room (c .before .before .before .before .before .before .before .before .before))) ∙ sym (into (c .before .before .before .before .before .before .before .before .before .before .before)))
 
 returns-6 : tie.Need-returns-6
-returns-6 c = refused-sizes _ _ _ _ _ _ (sym (c .before .sizes-fit .ensures) ∙ c .if1 .left)
+returns-6 c = promises (refused-sizes _ _ _ _ _ _ (sym (c .before .sizes-fit .ensures) ∙ c .if1 .left))
 
 pub write-listing-spec : {M : Type 1} → statement M
 write-listing-spec =

@@ -4,18 +4,19 @@ use mathlib.Core.Path.{_≡_}
 use mathlib.Core.List.{List, _++_}
 use native.Mathlib.Omega.{arith}
 use borrow.Author.Needs.{needs}
-use lib.ListN.{length, length-append}
+use lib.ListN.{length}
+use Rattle.decimal.specs.Text.{decimalText}
 use Rattle.listing.specs.Listing.{comma, lineFeed, field, refusalHeading, refusalText}
 use Rattle.listing.specs.Writing.{refusalInto}
 use Rattle.listing.specs.Steps.{Put}
 use Rattle.listing.proofs.Lengths.{refusal-length, refusal-most}
-use Rattle.listing.proofs.Putting.{put-room, put-then, put-whole, put-none}
+use Rattle.listing.proofs.Putting.{put-room, put-then, field-end, put-whole, put-none, promises}
 use Rattle.listing.proofs.write_refusal.Statement.{statement}
 use Rattle.listing.proofs.write_refusal.Tie as tie
 
 -- the line of values and the text of the refusal that is given
 abbrev values : tie.Start → List ℕ
-values s = field (s .args .number) comma ++ field (s .args .place) lineFeed
+values s = field (decimalText (s .args .number)) comma ++ field (decimalText (s .args .place)) lineFeed
 
 abbrev text : tie.Start → List ℕ
 text s = refusalText (s .args .number) (s .args .place)
@@ -30,16 +31,6 @@ few c = let s = c .before .before .before .before in refusal-most (s .args .numb
 -- each part of the text has room
 room : (c : tie.Else1) → length (text (c .before .before .before .before .before)) ≤ length (c .before .before .before .before .before .args .out .now)
 room c = omega (arith, counted (c .before))
-
-heading-room : (c : tie.Else1) → 0 + length (refusalHeading ++ values (c .before .before .before .before .before)) ≤ length (c .before .before .before .before .before .args .out .now)
-unfolding refusalText
-heading-room c = omega (arith, room c)
-
-heading : (c : tie.After-put-text) → Put (c .before .before .before .before .before .before .before .before .args .out .now) (c .put-text .last .1 .0) 0 (c .put-text .result) refusalHeading
-heading c = c .put-text .ensures
-
-values-room : (c : tie.After-put-text) → c .put-text .result + length (values (c .before .before .before .before .before .before .before .before)) ≤ length (c .put-text .last .1 .0)
-values-room c = put-room (heading c) (values (c .before .before .before .before .before .before .before .before)) (heading-room (c .before .before .before))
 
 digit-count-requires : tie.Need-digit-count-requires
 digit-count-requires c κs = search needs
@@ -60,25 +51,40 @@ returns : tie.Need-returns
 unfolding refusalInto
 returns c =
     let short : length (c .before .before .before .before .before .args .out .now) < length (text (c .before .before .before .before .before)) = omega (arith, counted (c .before)) in
-    put-none (text (c .before .before .before .before .before)) _ short
+    promises (put-none (text (c .before .before .before .before .before)) _ short)
 
 put-text-requires : tie.Need-put-text-requires
 put-text-requires c κs = search needs
 
 put-field-requires : tie.Need-put-field-requires
-put-field-requires c κs = omega (arith, simp length-append at (values-room (c .before .before .before)))
+put-field-requires c κs = let h = c .before .before .before in let s = h .before .before .before .before .before .before .before .before in omega (arith, room (h .before .before .before), refusal-length (s .args .number) (s .args .place), h .put-text .ensures .next-is, h .put-text .kept .1 .0)
 
 put-field-requires-2 : tie.Need-put-field-requires-2
-put-field-requires-2 c κs = put-room (c .before .before .before .put-field .ensures) (field (c .before .before .before .before .before .before .before .before .before .before .before .before .before .before .before .args .place) lineFeed) (values-room (c .before .before .before .before .before .before .before))
+put-field-requires-2 c κs =
+    let n = c .before .before .before in
+    let h = n .before .before .before .before in
+    let s = h .before .before .before .before .before .before .before .before in
+    omega (arith, room (h .before .before .before), refusal-length (s .args .number) (s .args .place), h .put-text .ensures .next-is, h .put-text .kept .1 .0, field-end _ _ (n .put-field .ensures), n .put-field .kept .1 .1 .0)
 
 same-length : tie.Need-same-length
 same-length c = search needs
 
+heading-room : (c : tie.Else1) → 0 + length (refusalHeading ++ values (c .before .before .before .before .before)) ≤ length (c .before .before .before .before .before .args .out .now)
+unfolding refusalText
+heading-room c = omega (arith, room c)
+
+heading : (c : tie.After-put-text) → Put (c .before .before .before .before .before .before .before .before .args .out .now) (c .put-text .last .1 .0) 0 (c .put-text .result) refusalHeading
+heading c = c .put-text .ensures
+
+values-room : (c : tie.After-put-text) → c .put-text .result + length (values (c .before .before .before .before .before .before .before .before)) ≤ length (c .put-text .last .1 .0)
+values-room c = put-room (heading c) (values (c .before .before .before .before .before .before .before .before)) (heading-room (c .before .before .before))
+
 returns-2 : tie.Need-returns-2
 unfolding refusalInto refusalText
 returns-2 c =
-    put-whole _ _ (room (c .before .before .before .before .before .before .before .before .before .before .before .before .before))
-    (put-then (heading (c .before .before .before .before .before .before .before .before .before .before)) (put-then (c .before .before .before .before .before .before .put-field .ensures) (c .before .before .put-field2 .ensures) (values-room (c .before .before .before .before .before .before .before .before .before .before))) (heading-room (c .before .before .before .before .before .before .before .before .before .before .before .before .before)))
+    promises
+    (put-whole _ _ (room (c .before .before .before .before .before .before .before .before .before .before .before .before .before))
+    (put-then (heading (c .before .before .before .before .before .before .before .before .before .before)) (put-then (c .before .before .before .before .before .before .put-field .ensures) (c .before .before .put-field2 .ensures) (values-room (c .before .before .before .before .before .before .before .before .before .before))) (heading-room (c .before .before .before .before .before .before .before .before .before .before .before .before .before))))
 
 pub write-refusal-spec : {M : Type 1} → statement M
 write-refusal-spec =

@@ -20,7 +20,7 @@ same-length : tie.Need-same-length
 same-length c = search needs
 
 returns : tie.Need-returns
-returns c = rw (c .before .before .before .before .before .read .given .1) (read-refused _ _ _ _ _ (c .before .before .write-refusal .ensures))
+returns c = rw (c .before .before .before .before .before .read .given .1) (read-refused _ _ _ _ _ (c .before .before .write-refusal .ensures .0))
 
 same-length-2 : tie.Need-same-length-2
 same-length-2 c = search needs

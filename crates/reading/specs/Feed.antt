@@ -1,4 +1,4 @@
--- What the reader of chunks does, from any state. That it reads a file as Lines.antt says is proofs/Whole.antt.
+-- What the reader of chunks does, from any state. That it reads a file as Lines.antt says is stated in Pieces.antt.
 use mathlib.Core.Bool.{cond}
 use mathlib.Core.List.{List, [], _∷_}
 use Prim.Native.Nat.{ℕ, _+_}
@@ -20,9 +20,13 @@ pub record Reading : Type 0 where
 abbrev pub newReader : Reader
 newReader = record { intake = newIntake; lines = 0; held = 0; outcome = Accepted }
 
+-- 2^64 - 1
+abbrev pub largestCount : ℕ
+largestCount = 18446744073709551615
+
 -- line numbers stop at the largest number
 unfoldable pub nextLine : ℕ → ℕ
-nextLine lines = cond (ltb lines 18446744073709551615) (lines + 1) lines
+nextLine lines = cond (ltb lines largestCount) (lines + 1) lines
 
 -- what goes to the intake: the bytes of the line; for more than 80, a line feed
 unfoldable pub lineText : ℕ → List ℕ → List ℕ
@@ -47,7 +51,9 @@ withHeld s held line = record {
 
 -- a byte of the present line: the first 80 are kept
 unfoldable pub keepByte : Reading → ℕ → Reading
-keepByte s b = cond (ltb (s .reader .held) 80) (withHeld s (s .reader .held + 1) (set (s .line) (s .reader .held) b)) (withHeld s 81 (s .line))
+keepByte s b =
+    let held : ℕ = s .reader .held in
+    cond (ltb held 80) (withHeld s (held + 1) (set (s .line) held b)) (withHeld s 81 (s .line))
 
 -- after a refusal a byte changes nothing
 unfoldable pub byteAfter : Reading → ℕ → Reading

@@ -19,6 +19,16 @@ linesOf (b ∷ s) =
     let later : List (List ℕ) = linesOf s in
     cond (eqb b 10) ([] ∷ later) (longer b later)
 
+-- document 01's number and place of a file that was refused, both 0 where it was not, and the intake that it then left
+pub record ReadValues : Type 0 where
+  pub number : ℕ
+  pub place : ℕ
+  pub intake : Intake
+
+abbrev pub readValues : Read → ReadValues
+readValues (Refused number place) = record { number = number; place = place; intake = newIntake }
+readValues (Ended i) = record { number = 0; place = 0; intake = i }
+
 -- what reading a file leaves: how it ended, and the direction bytes
 pub record FileRead : Type 0 where
   pub read : Read
@@ -44,7 +54,8 @@ unfolding onOutcome
 readFrom i n dirs [] = record { read = endAfter i (suc n); dirs = dirs }
 readFrom i n dirs (line ∷ lines) =
     let a : After = lineAfter i line dirs in
-    onOutcome (a .taken .outcome) (readFrom (a .taken .intake) (suc n) (a .dirs) lines) (λ number. refusedRead number (suc n) (a .dirs))
+    let later : FileRead = readFrom (a .taken .intake) (suc n) (a .dirs) lines in
+    onOutcome (a .taken .outcome) later (λ number. refusedRead number (suc n) (a .dirs))
 
 -- a whole file, where these direction bytes are lent
 unfoldable pub readFile : List ℕ → List ℕ → FileRead

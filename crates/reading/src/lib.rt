@@ -2,7 +2,7 @@
 ghost use mathlib.Core.Path.{_≡_};
 ghost use lib.ListN.{length};
 ghost use Rattle.intake.specs.Intake.{lineAfter};
-ghost use Rattle.reading.specs.Lines.{endAfter};
+ghost use Rattle.reading.specs.Lines.{endAfter, readValues};
 ghost use Rattle.reading.specs.Feed.{nextLine, lineText, newReader, lineEnd, byteAfter, feedAll, lastLine, endRead, finished};
 use intake::Intake;
 use intake::Taken;
@@ -29,7 +29,7 @@ pub enum Read {
 fn next_line(lines: usize) -> usize
     ensures { λ r. ⌜ r ≡ nextLine lines ⌝ }
 {
-    if lines < 18446744073709551615 {
+    if lines < usize::MAX {
         return lines + 1;
     }
     lines
@@ -160,7 +160,8 @@ impl Reader {
 
     // The end of the file.
     pub fn finish(self, line: &[u8; 80], dirs: &mut [u8]) -> Read
-        ensures { λ r. ⌜ record { read = r; dirs = now (dirs .exit) } ≡ finished (record { reader = self; line = now (line .entry); dirs = now (dirs .entry) }) ⌝ }
+        ensures file { λ r. ⌜ record { read = r; dirs = now (dirs .exit) } ≡ finished (record { reader = self; line = now (line .entry); dirs = now (dirs .entry) }) ⌝ }
+        ensures values { λ r. ⌜ readValues r ≡ readValues (finished (record { reader = self; line = now (line .entry); dirs = now (dirs .entry) }) .read) ⌝ }
     {
         let reader = last_line(self, line, dirs);
         end_read(reader)

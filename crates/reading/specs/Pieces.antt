@@ -3,6 +3,7 @@ use mathlib.Core.Path.{_≡_}
 use mathlib.Core.List.{List, [], _∷_, _++_}
 use Prim.Native.Nat.{ℕ, _<_}
 use lib.ListN.{length}
+use Rattle.lines.specs.Fields.{lineBytes}
 use Rattle.reading.specs.Lines.{FileRead, readFile}
 use Rattle.reading.specs.Feed.{Reading, newReader, largestCount, feedAll, finished}
 
@@ -26,5 +27,5 @@ readPieces line dirs pieces = finished (feedPieces (started line dirs) pieces)
 
 -- Files of fewer than 2^64 - 1 bytes: line numbers are then below 2^64.
 pub record ReadInPieces : Type 0 where
-  pub as-lines : (pieces : List (List ℕ)) (line dirs : List ℕ) → length line ≡ 80 → length (joined pieces) < largestCount
+  pub as-lines : (pieces : List (List ℕ)) (line dirs : List ℕ) → length line ≡ lineBytes → length (joined pieces) < largestCount
       → readPieces line dirs pieces ≡ readFile dirs (joined pieces)

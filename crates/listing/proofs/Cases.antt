@@ -4,12 +4,12 @@ use mathlib.Core.List.{List, [], _∷_, _++_}
 use Prim.Native.Nat.{ℕ}
 use Prim.Native.String.{String}
 use lib.ListN.{replicate}
-use Rattle.decimal.specs.Ascii.{ascii}
+use Rattle.decimal.specs.Ascii.{ascii, lineFeed}
 use Rattle.sheet.specs.Sheet.{grid}
 use Rattle.sheet.specs.Label.{areasOf, labelsOf}
 use Rattle.sheet.specs.Cases.{sampleA}
 use Rattle.listing.specs.declared.Listing.the-variants.{Bytes, Refused}
-use Rattle.listing.specs.Listing.{lineFeed, listingText, refusalText}
+use Rattle.listing.specs.Listing.{listingText, refusalText}
 use Rattle.listing.specs.Writing.{listingValues, listingInto, refusalInto}
 
 -- the bytes of lines, each ended by a line feed

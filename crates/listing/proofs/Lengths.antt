@@ -10,6 +10,7 @@ use native.Mathlib.Omega.{arith}
 use lib.ListN.{length, getD, drop, length-append, List·getD-append}
 use Rattle.decimal.specs.Text.{decimalText}
 use Rattle.decimal.proofs.TextLaws.{text-few, text-64-bit}
+use Rattle.sheet.specs.Label.{labelAt}
 use Rattle.sheet.specs.Sheet.{Grid, cells, dirAt, inside}
 use Rattle.sheet.specs.Refusal.{written}
 use Rattle.sheet.proofs.Cells.{inside-no, inside-yes, inside-lt, row-lt, cells-most}
@@ -53,7 +54,7 @@ pub record Bounded (G : Grid) (areas labels : List ℕ) (a b : ℕ) : Type 0 whe
   pub area-digits : 0 < a
   pub label-digits : 0 < b
   pub areas-below : (c : ℕ) → c < cells G → getD areas c 0 < 10 ^ a
-  pub labels-below : (c : ℕ) → c < cells G → getD labels c 0 < 10 ^ b
+  pub labels-below : (c : ℕ) → c < cells G → labelAt labels c < 10 ^ b
 
 module _ (G : Grid) (areas labels : List ℕ) where
   pub listing-length : length (listingText G areas labels) ≡ 19 + length (linesBelow G areas labels (cells G))
@@ -97,7 +98,7 @@ module _ (G : Grid) (areas labels : List ℕ) where
               text-few 3 (c / G .cols) (omega arith) (omega (arith, row-lt some l, bounded .rows-most)),
               text-few 3 (c % G .cols) (omega arith) (omega (arith, mod-lt c some, bounded .cols-most)),
               text-few a (getD areas c 0) (bounded .area-digits) (bounded .areas-below c l),
-              label-few b (getD labels c 0) (bounded .label-digits) (bounded .labels-below c l),
+              label-few b (labelAt labels c) (bounded .label-digits) (bounded .labels-below c l),
             ))
 
     pub lines-most : (n : ℕ) → length (linesBelow G areas labels n) ≤ n * (10 + a + b)
@@ -112,7 +113,7 @@ module _ (G : Grid) (areas labels : List ℕ) where
 
 module _ (G : Grid) (areas labels : List ℕ) (rows-most : G .rows ≤ 256) (cols-most : G .cols ≤ 256) where
   -- areas of at most as many cells as a sheet has, and labels of at most 18 digits
-  pub listing-most-18-digits : ((c : ℕ) → c < cells G → getD areas c 0 ≤ 65536) → ((c : ℕ) → c < cells G → getD labels c 0 < 10 ^ 18) → length (listingText G areas labels) ≤ 19 + cells G * 33
+  pub listing-most-18-digits : ((c : ℕ) → c < cells G → getD areas c 0 ≤ 65536) → ((c : ℕ) → c < cells G → labelAt labels c < 10 ^ 18) → length (listingText G areas labels) ≤ 19 + cells G * 33
   listing-most-18-digits small short = listing-most G areas labels bounded
     where
       bounded : Bounded G areas labels 5 18
@@ -126,7 +127,7 @@ module _ (G : Grid) (areas labels : List ℕ) (rows-most : G .rows ≤ 256) (col
       }
 
   -- any areas of 32 bits and labels of 64 bits
-  module _ (small : (c : ℕ) → getD areas c 0 < 2 ^ 32) (short : (c : ℕ) → getD labels c 0 < 2 ^ 64) where
+  module _ (small : (c : ℕ) → getD areas c 0 < 2 ^ 32) (short : (c : ℕ) → labelAt labels c < 2 ^ 64) where
     bounded-64-bit : Bounded G areas labels 10 20
     bounded-64-bit = record {
       rows-most = rows-most;
@@ -145,7 +146,7 @@ module _ (G : Grid) (areas labels : List ℕ) (rows-most : G .rows ≤ 256) (col
 
 -- ---- the text depends on the first areas and labels alone
 
-module _ (G : Grid) (areas labels areas′ labels′ : List ℕ) (same-areas : (c : ℕ) → c < cells G → getD areas c 0 ≡ getD areas′ c 0) (same-labels : (c : ℕ) → c < cells G → getD labels c 0 ≡ getD labels′ c 0) where
+module _ (G : Grid) (areas labels areas′ labels′ : List ℕ) (same-areas : (c : ℕ) → c < cells G → getD areas c 0 ≡ getD areas′ c 0) (same-labels : (c : ℕ) → c < cells G → labelAt labels c ≡ labelAt labels′ c) where
   lines-same : (n : ℕ) → n ≤ cells G → linesBelow G areas labels n ≡ linesBelow G areas′ labels′ n
   unfolding linesBelow
   lines-same zero h = refl

@@ -3,16 +3,10 @@ use mathlib.Core.Bool.{cond}
 use mathlib.Core.List.{List, [], _∷_, _++_}
 use Prim.Native.Nat.{ℕ, zero, suc, _/_, _%_}
 use lib.ListN.{getD}
-use Rattle.decimal.specs.Ascii.{ascii}
+use Rattle.decimal.specs.Ascii.{ascii, comma, lineFeed}
 use Rattle.decimal.specs.Text.{decimalText}
+use Rattle.sheet.specs.Label.{labelAt}
 use Rattle.sheet.specs.Sheet.{Grid, cells, inside}
-
--- the byte between two values, and the byte that ends a line
-abbrev pub comma : ℕ
-comma = 44
-
-abbrev pub lineFeed : ℕ
-lineFeed = 10
 
 abbrev pub listingHeading : List ℕ
 listingHeading = ascii "row,col,area,label" ++ (lineFeed ∷ [])
@@ -38,7 +32,7 @@ cellLine row col area label =
 
 -- the line of the cell c; areas and labels stand in their lists by cell number
 abbrev pub lineOf : Grid → List ℕ → List ℕ → ℕ → List ℕ
-lineOf G areas labels c = cellLine (c / G .cols) (c % G .cols) (getD areas c 0) (getD labels c 0)
+lineOf G areas labels c = cellLine (c / G .cols) (c % G .cols) (getD areas c 0) (labelAt labels c)
 
 -- "inside cells only"
 unfoldable pub insideLine : Grid → List ℕ → List ℕ → ℕ → List ℕ

@@ -8,6 +8,8 @@ ghost use Rattle.listing.specs.Listing.{labelText, field, cellLine, line
 ghost use Rattle.listing.specs.Writing.{listingValues, listingInto, refusalInto};
 ghost use Rattle.listing.specs.Steps.{Listable, Put};
 use checks::sizes_fit;
+use decimal::COMMA;
+use decimal::LINE_FEED;
 use decimal::Written;
 
 // The answer of a call that writes a text: the count of its bytes, or document 01's number of a refusal.
@@ -99,10 +101,10 @@ fn put_cell(row: usize, col: usize, area: u32, label: u64, out: &mut [u8], at: u
     requires { ⌜ at + length (cellLine row col area label) ≤ length (now out) ⌝ }
     ensures { λ r. ⌜ Put (now (out .entry)) (now (out .exit)) at r (cellLine row col area label) ⌝ }
 {
-    let col_at = put_field(row as u64, b',', out, at);
-    let area_at = put_field(col as u64, b',', out, col_at);
-    let label_at = put_field(area as u64, b',', out, area_at);
-    put_label(label, b'\n', out, label_at)
+    let col_at = put_field(row as u64, COMMA, out, at);
+    let area_at = put_field(col as u64, COMMA, out, col_at);
+    let label_at = put_field(area as u64, COMMA, out, area_at);
+    put_label(label, LINE_FEED, out, label_at)
 }
 
 // Writes the lines of all inside cells.
@@ -184,6 +186,6 @@ pub fn write_refusal(number: u8, place: usize, out: &mut [u8]) -> Listing
         return Listing::Refused(3);
     }
     let number_at = put_text(heading, out, 0);
-    let place_at = put_field(number as u64, b',', out, number_at);
-    Listing::Bytes(put_field(place as u64, b'\n', out, place_at))
+    let place_at = put_field(number as u64, COMMA, out, number_at);
+    Listing::Bytes(put_field(place as u64, LINE_FEED, out, place_at))
 }

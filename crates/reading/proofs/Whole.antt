@@ -15,7 +15,8 @@ use Rattle.intake.specs.declared.TakenOutcome.the-variants.{Accepted, Refused}
 use Rattle.intake.specs.Intake.{After, lineAfter, newIntake}
 use Rattle.intake.proofs.BadLines.{line-feed, over-eighty, bad-lines-alike}
 use Rattle.reading.specs.Lines.{linesOf, FileRead, refusedRead, onOutcome, readFrom, readFile}
-use Rattle.reading.specs.Feed.{Reading, newReader, nextLine, lineText, lineEnd, keepByte, byteAfter, feedAll, lastLine, endRead, finished}
+use Rattle.reading.specs.Feed.{Reading, largestCount, nextLine, lineText, lineEnd, keepByte, byteAfter, feedAll, lastLine, endRead, finished}
+use Rattle.reading.specs.Pieces.{started, feedPieces, joined, ReadInPieces}
 use Rattle.reading.proofs.FeedLaws.{feed-append}
 
 -- no byte is a line feed
@@ -117,11 +118,11 @@ ended i o n line dirs = record { reader = record { intake = i; lines = n; held =
 abbrev endedBy : After → ℕ → List ℕ → Reading
 endedBy a n line = ended (a .taken .intake) (a .taken .outcome) n line (a .dirs)
 
-next-line : (n : ℕ) → n < 18446744073709551615 → nextLine n ≡ suc n
+next-line : (n : ℕ) → n < largestCount → nextLine n ≡ suc n
 unfolding nextLine
-next-line n h = rw (lt-ltb n 18446744073709551615 h) (add-one n)
+next-line n h = rw (lt-ltb n largestCount h) (add-one n)
 
-line-ended : (i : Intake) (n held : ℕ) (s line dirs : List ℕ) → Present s line held → n < 18446744073709551615 → lineEnd (within i n held line dirs) ≡ endedBy (lineAfter i s dirs) (suc n) line
+line-ended : (i : Intake) (n held : ℕ) (s line dirs : List ℕ) → Present s line held → n < largestCount → lineEnd (within i n held line dirs) ≡ endedBy (lineAfter i s dirs) (suc n) line
 unfolding lineEnd
 line-ended i n held s line dirs is h = rw (handed i dirs s line held is, next-line n h)
 
@@ -147,7 +148,7 @@ finish-ended i (Refused number) n line dirs = refl
 abbrev closed : Reading → FileRead
 closed x = record { read = endRead (x .reader); dirs = x .dirs }
 
-module _ (i : Intake) (n held : ℕ) (s line dirs : List ℕ) (is : Present s line held) (few-lines : n < 18446744073709551615) where
+module _ (i : Intake) (n held : ℕ) (s line dirs : List ℕ) (is : Present s line held) (few-lines : n < largestCount) where
   last-is : (held ≡ 0 → ⊥) → lastLine (within i n held line dirs) ≡ lineEnd (within i n held line dirs)
   unfolding lastLine
   last-is some = rw (ne-eqb held 0 some)
@@ -160,12 +161,12 @@ module _ (i : Intake) (n held : ℕ) (s line dirs : List ℕ) (is : Present s li
   unfolding finished
   finish-line some = ap closed (last-line some)
 
-at-end : (i : Intake) (n : ℕ) (line dirs : List ℕ) → n < 18446744073709551615 → finished (within i n 0 line dirs) ≡ readFrom i n dirs []
+at-end : (i : Intake) (n : ℕ) (line dirs : List ℕ) → n < largestCount → finished (within i n 0 line dirs) ≡ readFrom i n dirs []
 unfolding finished lastLine endRead readFrom
 at-end i n line dirs h = rw (next-line n h)
 
 -- a file of one line, or none, that lacks its line feed
-read-last : (i : Intake) (n held : ℕ) (s line dirs : List ℕ) → Present s line held → n + length s < 18446744073709551615 → finished (within i n held line dirs) ≡ readFrom i n dirs (linesOf s)
+read-last : (i : Intake) (n held : ℕ) (s line dirs : List ℕ) → Present s line held → n + length s < largestCount → finished (within i n held line dirs) ≡ readFrom i n dirs (linesOf s)
 unfolding linesOf feedAll readFrom
 read-last i n held [] line dirs is h = rw (is .whole (omega arith) .0) (at-end i n line dirs (omega arith))
 read-last i n held (b ∷ s) line dirs is h = finish-line i n held (b ∷ s) line dirs is (omega arith) some ∙ after ∙ sym lines
@@ -190,7 +191,7 @@ read-last i n held (b ∷ s) line dirs is h = finish-line i n held (b ∷ s) lin
 
 -- these bytes, after any part of a line, are read as lines
 abbrev ReadOn : List ℕ → Type 0
-ReadOn bytes = (i : Intake) (n held : ℕ) (s line dirs : List ℕ) → Present s line held → n + length s + length bytes < 18446744073709551615 → finished (feedAll (within i n held line dirs) bytes) ≡ readFrom i n dirs (linesOf (s ++ bytes))
+ReadOn bytes = (i : Intake) (n held : ℕ) (s line dirs : List ℕ) → Present s line held → n + length s + length bytes < largestCount → finished (feedAll (within i n held line dirs) bytes) ≡ readFrom i n dirs (linesOf (s ++ bytes))
 
 read-feed : (bytes : List ℕ) → ReadOn bytes → ReadOn (10 ∷ bytes)
 unfolding feedAll byteAfter readFrom
@@ -203,7 +204,7 @@ read-feed bytes on i n held s line dirs is h =
 
 module _ (b : ℕ) (bytes : List ℕ) (other : b ≡ 10 → ⊥) (on : ReadOn bytes) where
   -- the reader after the byte holds one byte more
-  read-more : (i : Intake) (n held held′ : ℕ) (s line line′ dirs : List ℕ) → byteAfter (within i n held line dirs) b ≡ within i n held′ line′ dirs → Present (s ++ (b ∷ [])) line′ held′ → n + length s + suc (length bytes) < 18446744073709551615 → finished (feedAll (within i n held line dirs) (b ∷ bytes)) ≡ readFrom i n dirs (linesOf (s ++ b ∷ bytes))
+  read-more : (i : Intake) (n held held′ : ℕ) (s line line′ dirs : List ℕ) → byteAfter (within i n held line dirs) b ≡ within i n held′ line′ dirs → Present (s ++ (b ∷ [])) line′ held′ → n + length s + suc (length bytes) < largestCount → finished (feedAll (within i n held line dirs) (b ∷ bytes)) ≡ readFrom i n dirs (linesOf (s ++ b ∷ bytes))
   unfolding feedAll
   read-more i n held held′ s line line′ dirs e is h =
       ap (λ (x : Reading). finished (feedAll x bytes)) e
@@ -232,22 +233,10 @@ read-on (b ∷ bytes) i n held s line dirs is h = read-byte b bytes (read-on byt
 
 -- ---- the whole file
 
-abbrev pub started : List ℕ → List ℕ → Reading
-started line dirs = record { reader = newReader; line = line; dirs = dirs }
-
 -- fewer than 2^64 - 1 bytes: then all line numbers are below 2^64
-pub read-whole : (bytes line dirs : List ℕ) → length line ≡ 80 → length bytes < 18446744073709551615 → finished (feedAll (started line dirs) bytes) ≡ readFile dirs bytes
+pub read-whole : (bytes line dirs : List ℕ) → length line ≡ 80 → length bytes < largestCount → finished (feedAll (started line dirs) bytes) ≡ readFile dirs bytes
 unfolding readFile
 read-whole bytes line dirs room h = read-on bytes newIntake 0 0 [] line dirs (present-none line room) (omega arith)
-
--- the pieces of a file, one after the other
-abbrev pub feedPieces : Reading → List (List ℕ) → Reading
-feedPieces s [] = s
-feedPieces s (p ∷ ps) = feedPieces (feedAll s p) ps
-
-abbrev pub joined : List (List ℕ) → List ℕ
-joined [] = []
-joined (p ∷ ps) = p ++ joined ps
 
 pub feed-pieces : (s : Reading) (pieces : List (List ℕ)) → feedPieces s pieces ≡ feedAll s (joined pieces)
 unfolding feedAll
@@ -255,5 +244,7 @@ feed-pieces s [] = refl
 feed-pieces s (p ∷ ps) = feed-pieces (feedAll s p) ps ∙ sym (feed-append s p (joined ps))
 
 -- however the file is cut, it is read as its lines are
-pub read-pieces : (pieces : List (List ℕ)) (line dirs : List ℕ) → length line ≡ 80 → length (joined pieces) < 18446744073709551615 → finished (feedPieces (started line dirs) pieces) ≡ readFile dirs (joined pieces)
-read-pieces pieces line dirs room h = ap finished (feed-pieces (started line dirs) pieces) ∙ read-whole (joined pieces) line dirs room h
+pub read-in-pieces : ReadInPieces
+read-in-pieces = record {
+  as-lines = λ pieces line dirs room h. ap finished (feed-pieces (started line dirs) pieces) ∙ read-whole (joined pieces) line dirs room h;
+}

@@ -1,9 +1,11 @@
--- What the reader of chunks does, from any state. That it reads a file as Lines.antt says is proofs/Whole.antt.
+-- What the reader of chunks does, from any state. That it reads a file as Lines.antt says is stated in Pieces.antt.
 use mathlib.Core.Bool.{cond}
 use mathlib.Core.List.{List, [], _∷_}
 use Prim.Native.Nat.{ℕ, _+_}
 use lib.Dec.{eqb, leb, ltb}
 use lib.ListN.{take, set}
+use Rattle.decimal.specs.Ascii.{lineFeed}
+use Rattle.lines.specs.Fields.{lineBytes}
 use Rattle.intake.specs.declared.TakenOutcome.the-variants.{Accepted}
 use Rattle.intake.specs.Intake.{After, lineAfter, newIntake}
 use Rattle.reading.specs.declared.Reader.{Reader}
@@ -20,13 +22,17 @@ pub record Reading : Type 0 where
 abbrev pub newReader : Reader
 newReader = record { intake = newIntake; lines = 0; held = 0; outcome = Accepted }
 
+-- 2^64 - 1
+abbrev pub largestCount : ℕ
+largestCount = 18446744073709551615
+
 -- line numbers stop at the largest number
 unfoldable pub nextLine : ℕ → ℕ
-nextLine lines = cond (ltb lines 18446744073709551615) (lines + 1) lines
+nextLine lines = cond (ltb lines largestCount) (lines + 1) lines
 
--- what goes to the intake: the bytes of the line; for more than 80, a line feed
+-- what goes to the intake: the bytes of the line; for more than fit a line, a line feed
 unfoldable pub lineText : ℕ → List ℕ → List ℕ
-lineText held line = cond (leb held 80) (take held line) (10 ∷ [])
+lineText held line = cond (leb held lineBytes) (take held line) (lineFeed ∷ [])
 
 abbrev pub afterLine : Reading → After → Reading
 afterLine s a = record {
@@ -45,14 +51,20 @@ withHeld s held line = record {
   dirs = s .dirs;
 }
 
--- a byte of the present line: the first 80 are kept
+-- how many bytes a line is said to have that has more than fit
+abbrev pub tooLong : ℕ
+tooLong = 81
+
+-- a byte of the present line: those are kept that fit a line
 unfoldable pub keepByte : Reading → ℕ → Reading
-keepByte s b = cond (ltb (s .reader .held) 80) (withHeld s (s .reader .held + 1) (set (s .line) (s .reader .held) b)) (withHeld s 81 (s .line))
+keepByte s b =
+    let held : ℕ = s .reader .held in
+    cond (ltb held lineBytes) (withHeld s (held + 1) (set (s .line) held b)) (withHeld s tooLong (s .line))
 
 -- after a refusal a byte changes nothing
 unfoldable pub byteAfter : Reading → ℕ → Reading
 unfolding onOutcome
-byteAfter s b = onOutcome (s .reader .outcome) (cond (eqb b 10) (lineEnd s) (keepByte s b)) (λ number. s)
+byteAfter s b = onOutcome (s .reader .outcome) (cond (eqb b lineFeed) (lineEnd s) (keepByte s b)) (λ number. s)
 
 unfoldable pub feedAll : Reading → List ℕ → Reading
 feedAll s [] = s

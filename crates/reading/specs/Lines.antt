@@ -7,17 +7,28 @@ use Rattle.intake.specs.declared.Intake.{Intake}
 use Rattle.intake.specs.declared.TakenOutcome.{TakenOutcome}
 use Rattle.intake.specs.declared.TakenOutcome.the-variants.{Accepted as Took, Refused as RefusedBy}
 use Rattle.intake.specs.Intake.{After, lineAfter, endTaken, newIntake}
+use Rattle.decimal.specs.Ascii.{lineFeed}
 use Rattle.lines.specs.Fields.{longer}
 use Rattle.reading.specs.declared.Read.{Read}
 use Rattle.reading.specs.declared.Read.the-variants.{Refused, Ended}
 
--- The bytes of a file parted at each line feed, byte 10. The last line may lack its line feed: "a" and "a" with a line feed are one
+-- The bytes of a file parted at each line feed. The last line may lack its line feed: "a" and "a" with a line feed are one
 -- line, a line feed alone is an empty line, and no bytes are no line.
 unfoldable pub linesOf : List ℕ → List (List ℕ)
 linesOf [] = []
 linesOf (b ∷ s) =
     let later : List (List ℕ) = linesOf s in
-    cond (eqb b 10) ([] ∷ later) (longer b later)
+    cond (eqb b lineFeed) ([] ∷ later) (longer b later)
+
+-- document 01's number and place of a file that was refused, both 0 where it was not, and the intake that it then left
+pub record ReadValues : Type 0 where
+  pub number : ℕ
+  pub place : ℕ
+  pub intake : Intake
+
+abbrev pub readValues : Read → ReadValues
+readValues (Refused number place) = record { number = number; place = place; intake = newIntake }
+readValues (Ended i) = record { number = 0; place = 0; intake = i }
 
 -- what reading a file leaves: how it ended, and the direction bytes
 pub record FileRead : Type 0 where
@@ -44,7 +55,8 @@ unfolding onOutcome
 readFrom i n dirs [] = record { read = endAfter i (suc n); dirs = dirs }
 readFrom i n dirs (line ∷ lines) =
     let a : After = lineAfter i line dirs in
-    onOutcome (a .taken .outcome) (readFrom (a .taken .intake) (suc n) (a .dirs) lines) (λ number. refusedRead number (suc n) (a .dirs))
+    let later : FileRead = readFrom (a .taken .intake) (suc n) (a .dirs) lines in
+    onOutcome (a .taken .outcome) later (λ number. refusedRead number (suc n) (a .dirs))
 
 -- a whole file, where these direction bytes are lent
 unfoldable pub readFile : List ℕ → List ℕ → FileRead

@@ -2,18 +2,24 @@
 ghost use mathlib.Core.Path.{_≡_};
 ghost use lib.ListN.{length};
 ghost use Rattle.intake.specs.Intake.{lineAfter};
-ghost use Rattle.reading.specs.Lines.{endAfter};
+ghost use Rattle.lines.specs.Fields.{lineBytes};
+ghost use Rattle.reading.specs.Lines.{endAfter, readValues};
 ghost use Rattle.reading.specs.Feed.{nextLine, lineText, newReader, lineEnd, byteAfter, feedAll, lastLine, endRead, finished};
+use decimal::LINE_FEED;
 use intake::Intake;
 use intake::Taken;
 use intake::TakenOutcome;
+use lines::LINE_BYTES;
+
+// How many bytes a line has that has more than LINE_BYTES; more of them are not counted.
+const TOO_LONG: usize = LINE_BYTES + 1;
 
 // The bytes of a file so far. The bytes of the line that is not ended yet stand in a lent buffer.
 pub struct Reader {
     pub intake: Intake,
     // the lines that went to the intake; the last of them is the refused one, if one was refused
     pub lines: usize,
-    // how many bytes the present line has; 81 says more than 80
+    // how many bytes the present line has, or TOO_LONG
     pub held: usize,
     // that of the last line
     pub outcome: TakenOutcome,
@@ -29,26 +35,26 @@ pub enum Read {
 fn next_line(lines: usize) -> usize
     ensures { λ r. ⌜ r ≡ nextLine lines ⌝ }
 {
-    if lines < 18446744073709551615 {
+    if lines < usize::MAX {
         return lines + 1;
     }
     lines
 }
 
-// Hands the present line to the intake. For a line of more than 80 bytes another line goes to it that breaks the file's rules in
+// Hands the present line to the intake. For a line of more than LINE_BYTES bytes another line goes to it that breaks the file's rules in
 // every stage.
 fn take_line(intake: Intake, held: usize, line: &[u8], dirs: &mut [u8]) -> Taken
-    requires { ⌜ length (now line) ≡ 80 ⌝ }
+    requires { ⌜ length (now line) ≡ lineBytes ⌝ }
     ensures { λ r. ⌜ record { taken = r; dirs = now (dirs .exit) } ≡ lineAfter intake (lineText held (now (line .entry))) (now (dirs .entry)) ⌝ }
 {
-    if held <= 80 {
+    if held <= LINE_BYTES {
         return intake.line(&line[..held], dirs);
     }
-    intake.line(b"\n", dirs)
+    intake.line(&[LINE_FEED], dirs)
 }
 
 // The end of the present line.
-fn line_end(reader: Reader, line: &[u8; 80], dirs: &mut [u8]) -> Reader
+fn line_end(reader: Reader, line: &[u8; LINE_BYTES], dirs: &mut [u8]) -> Reader
     ensures { λ r. ⌜ record { reader = r; line = now (line .entry); dirs = now (dirs .exit) } ≡ lineEnd (record { reader = reader; line = now (line .entry); dirs = now (dirs .entry) }) ⌝ }
 {
     let intake = reader.intake;
@@ -64,19 +70,19 @@ fn line_end(reader: Reader, line: &[u8; 80], dirs: &mut [u8]) -> Reader
 }
 
 // One byte of the file. After a refusal it changes nothing.
-fn feed_byte(reader: Reader, byte: u8, line: &mut [u8; 80], dirs: &mut [u8]) -> Reader
+fn feed_byte(reader: Reader, byte: u8, line: &mut [u8; LINE_BYTES], dirs: &mut [u8]) -> Reader
     ensures { λ r. ⌜ record { reader = r; line = now (line .exit); dirs = now (dirs .exit) } ≡ byteAfter (record { reader = reader; line = now (line .entry); dirs = now (dirs .entry) }) byte ⌝ }
 {
     let outcome = reader.outcome;
     let TakenOutcome::Accepted = outcome else {
         return reader;
     };
-    if byte == 10 {
+    if byte == LINE_FEED {
         return line_end(reader, line, dirs);
     }
     let intake = reader.intake;
     let at = reader.held;
-    if at < 80 {
+    if at < LINE_BYTES {
         line[at] = byte;
         return Reader {
             intake: intake,
@@ -88,13 +94,13 @@ fn feed_byte(reader: Reader, byte: u8, line: &mut [u8; 80], dirs: &mut [u8]) -> 
     Reader {
         intake: intake,
         lines: reader.lines,
-        held: 81,
+        held: TOO_LONG,
         outcome: outcome,
     }
 }
 
 // A last line that lacks its line feed.
-fn last_line(reader: Reader, line: &[u8; 80], dirs: &mut [u8]) -> Reader
+fn last_line(reader: Reader, line: &[u8; LINE_BYTES], dirs: &mut [u8]) -> Reader
     ensures { λ r. ⌜ record { reader = r; line = now (line .entry); dirs = now (dirs .exit) } ≡ lastLine (record { reader = reader; line = now (line .entry); dirs = now (dirs .entry) }) ⌝ }
 {
     let outcome = reader.outcome;
@@ -146,7 +152,7 @@ impl Reader {
     }
 
     // The next bytes of the file.
-    pub fn feed(self, chunk: &[u8], line: &mut [u8; 80], dirs: &mut [u8]) -> Self
+    pub fn feed(self, chunk: &[u8], line: &mut [u8; LINE_BYTES], dirs: &mut [u8]) -> Self
         ensures { λ r. ⌜ record { reader = r; line = now (line .exit); dirs = now (dirs .exit) } ≡ feedAll (record { reader = self; line = now (line .entry); dirs = now (dirs .entry) }) (now (chunk .entry)) ⌝ }
     {
         let mut reader = self;
@@ -159,8 +165,9 @@ impl Reader {
     }
 
     // The end of the file.
-    pub fn finish(self, line: &[u8; 80], dirs: &mut [u8]) -> Read
-        ensures { λ r. ⌜ record { read = r; dirs = now (dirs .exit) } ≡ finished (record { reader = self; line = now (line .entry); dirs = now (dirs .entry) }) ⌝ }
+    pub fn finish(self, line: &[u8; LINE_BYTES], dirs: &mut [u8]) -> Read
+        ensures file { λ r. ⌜ record { read = r; dirs = now (dirs .exit) } ≡ finished (record { reader = self; line = now (line .entry); dirs = now (dirs .entry) }) ⌝ }
+        ensures values { λ r. ⌜ readValues r ≡ readValues (finished (record { reader = self; line = now (line .entry); dirs = now (dirs .entry) }) .read) ⌝ }
     {
         let reader = last_line(self, line, dirs);
         end_read(reader)

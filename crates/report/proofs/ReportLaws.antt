@@ -29,7 +29,8 @@ use Rattle.reading.specs.declared.Read.{Read}
 use Rattle.reading.specs.declared.Read.the-variants.{Refused, Ended}
 use Rattle.reading.specs.Lines.{FileRead, readFile}
 use Rattle.reading.specs.Feed.{finished}
-use Rattle.reading.proofs.Whole.{started, feedPieces, joined, read-pieces}
+use Rattle.reading.specs.Pieces.{started, feedPieces, joined}
+use Rattle.reading.proofs.Whole.{read-in-pieces}
 use Rattle.report.specs.Report.{endedSizes, sheetText, reportText, reportLent, Reported, reportedAs, report, reportInto}
 
 -- ---- an accepted sheet can be listed
@@ -109,4 +110,4 @@ report-fits read dirs buffer L count e = answer-fits (reportText read dirs L) bu
 pub report-written : (pieces : List (List ℕ)) (line dirs buffer : List ℕ) (L : Lent) → length line ≡ 80 → length (joined pieces) < 18446744073709551615 → reportInto (finished (feedPieces (started line dirs) pieces) .read) (finished (feedPieces (started line dirs) pieces) .dirs) L buffer ≡ reportedAs (report dirs L (joined pieces)) buffer (reportLent (readFile dirs (joined pieces) .read) (readFile dirs (joined pieces) .dirs) L)
 unfolding reportInto report
 report-written pieces line dirs buffer L room few =
-    ap (λ (f : FileRead). reportInto (f .read) (f .dirs) L buffer) (read-pieces pieces line dirs room few)
+    ap (λ (f : FileRead). reportInto (f .read) (f .dirs) L buffer) (read-in-pieces .as-lines pieces line dirs room few)

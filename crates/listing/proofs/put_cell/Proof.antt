@@ -4,8 +4,9 @@ use mathlib.Core.List.{_++_}
 use borrow.Author.Needs.{needs}
 use native.Mathlib.Omega.{arith}
 use lib.ListN.{length}
+use Rattle.decimal.specs.Ascii.{comma, lineFeed}
 use Rattle.decimal.specs.Text.{decimalText}
-use Rattle.listing.specs.Listing.{comma, lineFeed, labelText, field, cellLine}
+use Rattle.listing.specs.Listing.{labelText, field, cellLine}
 use Rattle.listing.proofs.Lengths.{cell-length}
 use Rattle.listing.proofs.Putting.{put-room, put-then, field-end}
 use Rattle.listing.proofs.put_cell.Statement.{statement}

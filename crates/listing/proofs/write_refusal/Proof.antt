@@ -5,8 +5,9 @@ use mathlib.Core.List.{List, _++_}
 use native.Mathlib.Omega.{arith}
 use borrow.Author.Needs.{needs}
 use lib.ListN.{length}
+use Rattle.decimal.specs.Ascii.{comma, lineFeed}
 use Rattle.decimal.specs.Text.{decimalText}
-use Rattle.listing.specs.Listing.{comma, lineFeed, field, refusalHeading, refusalText}
+use Rattle.listing.specs.Listing.{field, refusalHeading, refusalText}
 use Rattle.listing.specs.Writing.{refusalInto}
 use Rattle.listing.specs.Steps.{Put}
 use Rattle.listing.proofs.Lengths.{refusal-length, refusal-most}

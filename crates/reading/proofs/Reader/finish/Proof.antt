@@ -1,5 +1,6 @@
 -- `finish` meets its contract.
 use Rattle.reading.specs.Feed.{finished}
+use Rattle.reading.proofs.FeedLaws.{promises}
 use borrow.Author.Needs.{needs}
 use Rattle.reading.proofs.Reader.finish.Statement.{statement}
 use Rattle.reading.proofs.Reader.finish.Tie as tie
@@ -15,7 +16,7 @@ same-length c = search needs
 
 returns : tie.Need-returns
 unfolding finished
-returns c = rw (← c .before .before .before .last-line .ensures, c .end-read .ensures)
+returns c = promises (rw (← c .before .before .before .last-line .ensures, c .end-read .ensures))
 
 pub finish-spec : {M : Type 1} → statement M
 finish-spec = tie.close (tie.spec last-line-requires end-read-requires same-length returns)

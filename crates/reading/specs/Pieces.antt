@@ -1,0 +1,31 @@
+-- The statement that a file is read as its lines are, however its bytes are cut into chunks.
+use mathlib.Core.Path.{_≡_}
+use mathlib.Core.List.{List, [], _∷_, _++_}
+use Prim.Native.Nat.{ℕ, _<_}
+use lib.ListN.{length}
+use Rattle.lines.specs.Fields.{lineBytes}
+use Rattle.reading.specs.Lines.{FileRead, readFile}
+use Rattle.reading.specs.Feed.{Reading, newReader, largestCount, feedAll, finished}
+
+-- a reader that no byte went to, with what is lent to it
+abbrev pub started : List ℕ → List ℕ → Reading
+started line dirs = record { reader = newReader; line = line; dirs = dirs }
+
+-- the chunks of a file, fed one after the other
+abbrev pub feedPieces : Reading → List (List ℕ) → Reading
+feedPieces s [] = s
+feedPieces s (p ∷ ps) = feedPieces (feedAll s p) ps
+
+-- the file that the chunks make
+abbrev pub joined : List (List ℕ) → List ℕ
+joined [] = []
+joined (p ∷ ps) = p ++ joined ps
+
+-- what `new`, a `feed` for each chunk and `finish` leave, by their contracts
+abbrev pub readPieces : List ℕ → List ℕ → List (List ℕ) → FileRead
+readPieces line dirs pieces = finished (feedPieces (started line dirs) pieces)
+
+-- Files of fewer than 2^64 - 1 bytes: line numbers are then below 2^64.
+pub record ReadInPieces : Type 0 where
+  pub as-lines : (pieces : List (List ℕ)) (line dirs : List ℕ) → length line ≡ lineBytes → length (joined pieces) < largestCount
+      → readPieces line dirs pieces ≡ readFile dirs (joined pieces)

@@ -7,11 +7,11 @@ use Prim.Native.Nat.{ℕ, zero, suc, _<_}
 use native.Mathlib.Omega.{arith}
 use Rattle.sheet.specs.declared.Next.{Next}
 use Rattle.sheet.specs.declared.Next.the-variants.{Outlet, To}
-use Rattle.sheet.specs.Water.{Passes, DrainsTo, here, there}
+use Rattle.sheet.specs.Water.{Passes, DrainsTo, here, there, onward, wayEnd}
 use Rattle.sheet.specs.Unit.{finished}
 use Rattle.sheet.specs.River.{heavier, donors, Run, river, Network}
 use Rattle.sheet.proofs.Faults.{is-inside}
-use Rattle.claims.specs.Basin.{Ends, Basin, ends-here, ends-after}
+use Rattle.claims.specs.Basin.{Ends, Forest, Basin, ends-here, ends-after}
 use Rattle.claims.specs.Demand.{Shares, OneOutlet, DemandThree, OutletRule}
 use Rattle.claims.specs.Parting.{PartAt, RuleAt}
 use Rattle.claims.specs.Runs.{MouthOf, Headed}
@@ -25,10 +25,10 @@ use Rattle.claims.proofs.Heavier.{heavier-trans, heavier-irrefl, heavie
 use Rattle.claims.proofs.Mouths.{taken-upward, finished-none}
 use Rattle.claims.proofs.Fuel.{steps, steps-short, steps-fall, ends-within}
 
-module _ {N : Network} {inside : ℕ → Type 0} {outlet : ℕ} (B : Basin N inside outlet) where
+module _ {N : Network} {inside : ℕ → Type 0} (F : Forest N inside) where
   pub stays-inside : {c x : ℕ} → inside c → Passes (N .next) c x → inside x
   stays-inside i here = i
-  stays-inside i (there {q = q} {r = r} e h) = stays-inside (B .to-inside q r e) h
+  stays-inside i (there {q = q} {r = r} e h) = stays-inside (F .to-inside q r e) h
 
   late : (m c : ℕ) → 0 < m → N .next c ≡ Outlet → Ends (N .next) m c
   late zero c l e = absurd (omega arith)
@@ -38,21 +38,10 @@ module _ {N : Network} {inside : ℕ → Type 0} {outlet : ℕ} (B : Basin N ins
   all-end c = go (N .next c) refl
     where
       go : (x : Next) → N .next c ≡ x → Ends (N .next) (N .cells) c
-      go Outlet e = late (N .cells) c (omega (arith, B .small outlet (B .outlet-inside))) e
+      go Outlet e = late (N .cells) c (omega (arith, F .some)) e
       go (To r) e =
-          let i = B .from-inside c r e in
-          ends-within (N .cells) ((B .ends c i) .1) (λ x p. B .small x (stays-inside i p))
-
-  end-outlet : {k c : ℕ} → Ends (N .next) k c → inside c → Passes (N .next) c outlet
-  end-outlet (ends-here {c = c} e) i = rw (B .one-outlet c i e) here
-  end-outlet (ends-after {c = c} {r = r} e w) i = there e (end-outlet w (B .to-inside c r e))
-
-  pub drain : (c : ℕ) → inside c → Passes (N .next) c outlet
-  drain c i = end-outlet (all-end c) i
-
-  pub upstream-inside : (c : ℕ) → Passes (N .next) c outlet → inside c
-  upstream-inside c here = B .outlet-inside
-  upstream-inside c (there {r = r} e h) = B .from-inside c r e
+          let i = F .from-inside c r e in
+          ends-within (N .cells) ((F .ends c i) .1) (λ x p. F .small x (stays-inside i p))
 
   pub lawful : Lawful N (heavier N)
   unfolding donors
@@ -61,32 +50,56 @@ module _ {N : Network} {inside : ℕ → Type 0} {outlet : ℕ} (B : Basin N ins
     falls = λ u r e. steps-fall (all-end u) r e;
     short = λ u. steps-short (all-end u);
     donor-steps = λ c u m. (donors-only (N .next) (heavier N) (N .cells) c u m) .1;
-    donors-complete = λ c u e. donors-all (N .next) (heavier N) (N .cells) c u (B .small u (B .from-inside u c e)) e;
+    donors-complete = λ c u e. donors-all (N .next) (heavier N) (N .cells) c u (F .small u (F .from-inside u c e)) e;
     donors-rising = donors-rise (N .next) (heavier N) (heavier-total (N .area)) (N .cells);
     lighter = heavier-trans (N .area);
     unlike = heavier-irrefl (N .area);
-    upward = λ R u v m t k h. taken-upward N (B .upwards) R u v t h;
+    upward = λ R u v m t k h. taken-upward N (F .upwards) R u v t h;
   }
+
+module _ {N : Network} {inside : ℕ → Type 0} {outlet : ℕ} (B : Basin N inside outlet) where
+  O : Lawful N (heavier N)
+  O = lawful (B .forest)
+
+  end-outlet : {k c : ℕ} → Ends (N .next) k c → inside c → Passes (N .next) c outlet
+  end-outlet (ends-here {c = c} e) i = rw (B .one-outlet c i e) here
+  end-outlet (ends-after {c = c} {r = r} e w) i = there e (end-outlet w (B .forest .to-inside c r e))
+
+  pub drain : (c : ℕ) → inside c → Passes (N .next) c outlet
+  drain c i = end-outlet (all-end (B .forest) c) i
+
+  pub upstream-inside : (c : ℕ) → Passes (N .next) c outlet → inside c
+  upstream-inside c here = B .outlet-inside
+  upstream-inside c (there {r = r} e h) = B .forest .from-inside c r e
+
+  -- the outlet of a cell's own way is the single one
+  end-own : {k c : ℕ} → Ends (N .next) k c → inside c → wayEnd (N .next) k c ≡ outlet
+  unfolding wayEnd onward
+  end-own (ends-here {c = c} e) i = rw e (B .one-outlet c i e)
+  end-own (ends-after {c = c} {r = r} e w) i = rw e (end-own w (B .forest .to-inside c r e))
+
+  pub own-outlet : (c : ℕ) → inside c → wayEnd (N .next) (N .cells) c ≡ outlet
+  own-outlet c i = end-own (all-end (B .forest) c) i
 
   -- the one-outlet statement
   pub units-drain : (depth : ℕ) (w : List ℕ) (c : ℕ) → Shares inside (digitsIn N outlet depth) w c → OneOutlet (N .next) inside (digitsIn N outlet depth) w
-  units-drain depth = unit-outlet lawful inside outlet depth drain upstream-inside
+  units-drain depth = unit-outlet O inside outlet depth drain upstream-inside
 
   -- the outlet rule, for the outlet that the definition of units gives
   pub named-rule : (depth p q : ℕ) → inside p → inside q
       → (digitsIn N outlet depth p ≡ digitsIn N outlet depth q)
       ⊎ (Parted (digitsIn N outlet depth p) (digitsIn N outlet depth q)
       × (Passes (N .next) q (unitOutlet N depth (river N outlet) p) ↔ Rule (digitsIn N outlet depth p) (digitsIn N outlet depth q)))
-  named-rule depth p q i j = outlet-rule lawful outlet depth p q (drain p i) (drain q j)
+  named-rule depth p q i j = outlet-rule O outlet depth p q (drain p i) (drain q j)
 
   pub named : (depth p : ℕ) → inside p
       → DrainsTo (N .next) (Shares inside (digitsIn N outlet depth) (digitsIn N outlet depth p)) (unitOutlet N depth (river N outlet) p)
-  named depth = named-outlet lawful inside outlet depth drain upstream-inside
+  named depth = named-outlet O inside outlet depth drain upstream-inside
 
   pub outlet-rule-holds : (depth : ℕ) → OutletRule (N .next) inside (digitsIn N outlet depth)
   outlet-rule-holds depth = record {
     rule = λ p q i j o d k at.
-        let same : o ≡ unitOutlet N depth (river N outlet) p = one-outlet (lawful .dist) (lawful .falls) d (named depth p i) in
+        let same : o ≡ unitOutlet N depth (river N outlet) p = one-outlet (O .dist) (O .falls) d (named depth p i) in
         elim (named-rule depth p q i j) [ inl e ↦ absurd (part-differs at e) | inr r ↦ rw same (both-ways (r .1) at) ];
   }
 
@@ -96,14 +109,14 @@ module _ {N : Network} {inside : ℕ → Type 0} {outlet : ℕ} (B : Basin N ins
   demand-three-holds all depth = record {
     labels-part = λ p q i j d. elim (named-rule depth p q i j) [ inl e ↦ absurd (d e) | inr r ↦ parted-at (r .0) ];
     cell-rule = λ p q i j short k at.
-        elim (cell-rule lawful outlet depth p q (drain p i) (drain q j) no-mouth) [ inl e ↦ absurd (part-differs at e) | inr r ↦ both-ways (r .1 short) at ];
+        elim (cell-rule O outlet depth p q (drain p i) (drain q j) no-mouth) [ inl e ↦ absurd (part-differs at e) | inr r ↦ both-ways (r .1 short) at ];
     one-outlet = units-drain depth;
   }
     where
       no-mouth : (R : Run) → Headed (N .next) (heavier N) R → finished N R ≡ true → (v : ℕ) → MouthOf R v → ⊥
       no-mouth R w e v m =
           let g = mouth-goes w m in
-          true≢false (sym (all v (B .from-inside v (g .0) (g .1))) ∙ finished-none N R e v m)
+          true≢false (sym (all v (B .forest .from-inside v (g .0) (g .1))) ∙ finished-none N R e v m)
 
   -- at any depth: water that passes p meets the rule, so a rule that is not met is a sure No
   pub passes-rule : (depth p q : ℕ) → inside p → inside q → (k : ℕ) → PartAt (digitsIn N outlet depth p) (digitsIn N outlet depth q) k

@@ -8,7 +8,7 @@ use lib.Dec.{eqb}
 use borrow.Author.Tests.{eqb-false, eq-eqb, ne-eqb}
 use Rattle.sheet.specs.declared.Next.{Next}
 use Rattle.sheet.specs.declared.Next.the-variants.{Outlet, To}
-use Rattle.sheet.specs.Water.{onward, passes, reachesOutlet, Passes, here, there}
+use Rattle.sheet.specs.Water.{onward, passes, reachesOutlet, wayEnd, Passes, here, there}
 use Rattle.sheet.specs.Area.{count}
 use Rattle.claims.specs.Basin.{Ends, ends-here, ends-after}
 use Rattle.claims.proofs.Runs.{pass-trans}
@@ -113,6 +113,16 @@ module _ {next : ℕ → Next} where
   pub ends-at : {n c : ℕ} → Ends next n c → (o : ℕ) × Passes next c o × (next o ≡ Outlet)
   ends-at (ends-here {c = c} e) = (c, here, e)
   ends-at (ends-after e w) = let r = ends-at w in (r .0, there e (r .1), r .2)
+
+  -- and that is the cell at which it is found to end
+  pub ends-end : {n c o : ℕ} → Ends next n c → Passes next c o → next o ≡ Outlet → wayEnd next n c ≡ o
+  unfolding wayEnd onward
+  ends-end (ends-here e) here f = rw e
+  ends-end (ends-here e) (there g h) f = let z : _≡_ {A = ℕ} 0 1 = cc in absurd (omega arith)
+  ends-end (ends-after e w) here f = let z : _≡_ {A = ℕ} 0 1 = cc in absurd (omega arith)
+  ends-end {o = o} (ends-after {r = r} e w) (there {r = s} g h) f =
+      let same : s ≡ r = cc in
+      rw e (ends-end w (rw same at h) f)
 
   pub at-ends : {c o : ℕ} → Passes next c o → next o ≡ Outlet → (k : ℕ) × Ends next k c
   at-ends here e = (1, ends-here e)

@@ -6,19 +6,19 @@ use mathlib.Core.Logic.{_↔_}
 use Prim.Native.Nat.{ℕ, _+_, _≤_, _<_}
 use native.Mathlib.Omega.{arith}
 use Rattle.sheet.specs.Water.{passes, reachesOutlet, Passes, here, there}
-use Rattle.sheet.specs.Label.{outlet}
+use Rattle.sheet.specs.Label.{outletOf}
 use Rattle.sheet.specs.River.{network, donors}
 use Rattle.sheet.specs.Refusal.{undrained}
 use Rattle.sheet.specs.Area.{count, sumOver, drainsInto, weight, area}
 use Rattle.sheet.specs.Sheet.{cells, inside, next, Grid, Sheet}
 use Rattle.sheet.proofs.Cells.{inside-lt, next-goes}
 use Rattle.sheet.proofs.Faults.{is-inside}
-use Rattle.claims.specs.Basin.{Ends, Basin}
+use Rattle.claims.specs.Basin.{Ends, Forest}
 use Rattle.claims.specs.Bounds.{sum, ComesToOutlet, NeverComes, FuelIsEnough}
 use Rattle.claims.proofs.Lawful.{passes-true}
 use Rattle.claims.proofs.Counts.{count-mono, not-true}
 use Rattle.claims.proofs.Sums.{sum-mono, sum-has, count-sum}
-use Rattle.claims.proofs.Fuel.{passes-self, ends-within, reaches-ends, ends-reaches, ends-at, at-ends, passes-enough}
+use Rattle.claims.proofs.Fuel.{passes-self, ends-within, reaches-ends, ends-reaches, ends-at, at-ends, ends-end, passes-enough}
 use Rattle.claims.proofs.Areas.{area-sum}
 use Rattle.claims.proofs.Basins.{lawful}
 use Rattle.claims.proofs.Sheets.{outlet-is, is-outlet}
@@ -79,8 +79,12 @@ module _ (G : Grid) where
       back-way n =
           undrained-made c (n .is-inside) (not-true (reachesOutlet (next G) (cells G) c) (λ r. n .never (ends-comes c (n .is-inside) (reaches-ends (next G) (cells G) c r))))
 
+  comes-to : (c : ℕ) → inside G c ≡ true → (o : ComesToOutlet G c) → outletOf G c ≡ o .cell
+  unfolding outletOf
+  comes-to c i o = ends-end (ends-within (cells G) ((comes-ends c o) .1) (way-below c i)) (o .passed) ((outlet-is G (o .cell) (o .is-outlet)) .1)
+
   pub fuel-is-enough : FuelIsEnough G
-  fuel-is-enough = record { passes-is = passes-is; undrained-is = undrained-is }
+  fuel-is-enough = record { passes-is = passes-is; undrained-is = undrained-is; outlet-is = comes-to }
 
   drains-inside : (c q : ℕ) → drainsInto G c q ≡ true → inside G q ≡ true
   unfolding drainsInto
@@ -132,10 +136,10 @@ module _ (S : Sheet) where
   pub area-most-cells : (c : ℕ) → inside G c ≡ true → area S c ≤ count (cells G) (inside G)
   area-most-cells c i = rw (area-count c i) (count-mono (cells G) (inside G) (drainsInto G c) (drains-inside G c))
 
-  pub area-adds : Basin (network S) (λ c. inside G c ≡ true) (outlet G) → (c : ℕ) → inside G c ≡ true
+  pub area-adds : Forest (network S) (λ c. inside G c ≡ true) → (c : ℕ) → inside G c ≡ true
       → area S c ≡ weight S c + sum (area S) (donors (network S) c)
   unfolding network drainsInto
-  area-adds B c i =
-      let s = area-sum (lawful B) (inside G) (weight S) c i (inside-lt G c i) in
-      let d = sum-same (area S) (λ u. sumOver (cells G) (drainsInto G u) (weight S)) (donors (network S) c) (λ u m. area-inside u (next-goes G u (lawful B .donor-steps c u m) .from-inside)) in
+  area-adds F c i =
+      let s = area-sum (lawful F) (inside G) (weight S) c i (inside-lt G c i) in
+      let d = sum-same (area S) (λ u. sumOver (cells G) (drainsInto G u) (weight S)) (donors (network S) c) (λ u m. area-inside u (next-goes G u (lawful F .donor-steps c u m) .from-inside)) in
       area-inside c i ∙ s ∙ (rw d refl)

@@ -19,7 +19,7 @@ use Rattle.sheet.specs.Refusal.{sizesFit, depthFits, slicesFit, badCode, undrai
 use Rattle.sheet.specs.Sheet.{cells, inside, next, goesNowhere, isOutlet, first, Grid, Sheet}
 use Rattle.sheet.proofs.First.{NoneBelow, none-first, at-first, first-same, FirstAt}
 use Rattle.sheet.proofs.Cells.{inside-lt, next-goes}
-use Rattle.claims.specs.Basin.{Ends, Basin}
+use Rattle.claims.specs.Basin.{Forest, Basin}
 use Rattle.claims.proofs.Units.{one-outlet}
 use Rattle.claims.proofs.Heavier.{heavier-counts}
 use Rattle.claims.proofs.Fuel.{reaches-ends, ends-at}
@@ -100,20 +100,29 @@ module _ (G : Grid) where
       go true e = refl
       go false e = absurd (true≢false e)
 
-  -- the cells of a grid whose inside cells come to an outlet, of which there is one, are a basin, whatever their areas and the mouths that count
-  pub one-basin : ((c : ℕ) → inside G c ≡ true → reachesOutlet (next G) (cells G) c ≡ true) → isOutlet G (outlet G) ≡ true
-      → ((c : ℕ) → isOutlet G c ≡ true → c ≡ outlet G)
-      → (area : ℕ → ℕ) (least split : ℕ) → Basin (networkBy G area least split) (λ c. inside G c ≡ true) (outlet G)
-  unfolding networkBy
-  one-basin reaches is-one only area least split = record {
-    small = inside-lt G;
-    from-inside = λ u r e. next-goes G u e .from-inside;
-    to-inside = λ u r e. next-goes G u e .to-inside;
-    outlet-inside = (outlet-is (outlet G) is-one) .0;
-    one-outlet = λ u i e. only u (is-outlet u i e);
-    ends = λ u i. (cells G, reaches-ends (next G) (cells G) u (reaches u i));
-    upwards = heavier-counts area least;
-  }
+  -- the cells of a grid whose inside cells come to outlets are a forest, and a basin where there is one outlet, whatever their areas and the mouths that count
+  module _ (reaches : (c : ℕ) → inside G c ≡ true → reachesOutlet (next G) (cells G) c ≡ true) (area : ℕ → ℕ) (least split : ℕ) where
+    pub grid-forest : 0 < cells G → Forest (networkBy G area least split) (λ c. inside G c ≡ true)
+    unfolding networkBy
+    grid-forest some = record {
+      some = some;
+      small = inside-lt G;
+      from-inside = λ u r e. next-goes G u e .from-inside;
+      to-inside = λ u r e. next-goes G u e .to-inside;
+      ends = λ u i. (cells G, reaches-ends (next G) (cells G) u (reaches u i));
+      upwards = heavier-counts area least;
+    }
+
+    pub one-basin : isOutlet G (outlet G) ≡ true → ((c : ℕ) → isOutlet G c ≡ true → c ≡ outlet G)
+        → Basin (networkBy G area least split) (λ c. inside G c ≡ true) (outlet G)
+    unfolding networkBy
+    one-basin is-one only =
+        let i = (outlet-is (outlet G) is-one) .0 in
+        record {
+          forest = grid-forest (omega (arith, inside-lt G (outlet G) i));
+          outlet-inside = i;
+          one-outlet = λ u i e. only u (is-outlet u i e);
+        }
 
   from-zero : (c : ℕ) → outletFrom G 0 c ≡ isOutlet G c
   unfolding outletFrom
@@ -174,4 +183,4 @@ module _ (G : Grid) where
 
     -- the cells of the sheet are a basin
     pub basin : (area : ℕ → ℕ) (least split : ℕ) → Basin (networkBy G area least split) (λ c. inside G c ≡ true) (outlet G)
-    basin = one-basin (λ c i. drained-reaches c i (P .drained c (inside-lt G c i))) outlet-one (λ u e. only-outlet u (inside-lt G u (outlet-is u e .0)) e ∙ sym outlet-found)
+    basin area least split = one-basin (λ c i. drained-reaches c i (P .drained c (inside-lt G c i))) area least split outlet-one (λ u e. only-outlet u (inside-lt G u (outlet-is u e .0)) e ∙ sym outlet-found)

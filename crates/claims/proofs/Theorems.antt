@@ -29,7 +29,7 @@ use Rattle.claims.proofs.DigitRule.{cell-rule}
 use Rattle.claims.proofs.Units.{drains-map, one-outlet}
 use Rattle.claims.proofs.Basins.{lawful, outlet-rule-holds, demand-three-holds, passes-rule}
 use Rattle.claims.proofs.GridLaws.{area-least, area-most, area-most-cells, area-adds}
-use Rattle.claims.proofs.Written.{the-basin, label-written, digits-written, is-label, label-fits}
+use Rattle.claims.proofs.Written.{the-basin, label-written, digits-written, label-from-outlet, digits-from-outlet, is-label, label-fits}
 use Rattle.claims.proofs.FlowMeaning.{the-answer, answer-at, Answered, answered-yes, answered-undecided, answered-no}
 
 module _ (next : ℕ → Next) {inside : ℕ → Type 0} {digits written : ℕ → List ℕ} (same : (c : ℕ) → inside c → written c ≡ digits c) where
@@ -82,15 +82,15 @@ counts S v i = le-leb 1 (area S v) (area-least S v i)
 module _ (S : Sheet) (L : Lent) (accepted : outcome S L ≡ Accepted) where
   -- demand 3, whole
   pub demand-three : DemandThreeOf S (lentAfter S L .labels)
-  unfolding network labelDigits
+  unfolding network
   demand-three =
-      same-demand (next (S .grid)) (digits-written S L accepted) (S .depth) (labelAt (lentAfter S L .labels))
-      (λ p q i j e. label-written S L accepted p i ∙ ap number e ∙ sym (label-written S L accepted q j))
+      same-demand (next (S .grid)) (digits-from-outlet S L accepted) (S .depth) (labelAt (lentAfter S L .labels))
+      (λ p q i j e. label-from-outlet S L accepted p i ∙ ap number e ∙ sym (label-from-outlet S L accepted q j))
       (demand-three-holds (the-basin S L accepted) (counts S) (S .depth))
 
   pub outlet-rule : OutletRuleOf S (lentAfter S L .labels)
-  unfolding network labelDigits
-  outlet-rule = same-outlet-rule (next (S .grid)) (digits-written S L accepted) (outlet-rule-holds (the-basin S L accepted) (S .depth))
+  unfolding network
+  outlet-rule = same-outlet-rule (next (S .grid)) (digits-from-outlet S L accepted) (outlet-rule-holds (the-basin S L accepted) (S .depth))
 
   -- ---- bounds
   pub label-bounds : LabelBounds S (lentAfter S L .labels)
@@ -101,10 +101,10 @@ module _ (S : Sheet) (L : Lent) (accepted : outcome S L ≡ Accepted) where
     -- water that passes p meets the rule, at any depth
     met : (k : ℕ) → PartAt (digitsAt (lentAfter S L .labels) p) (digitsAt (lentAfter S L .labels) q) k
         → Passes (next (S .grid)) q p → RuleAt (digitsAt (lentAfter S L .labels) p) (digitsAt (lentAfter S L .labels) q) k
-    unfolding network labelDigits
+    unfolding network
     met k t h =
-        rw (digits-written S L accepted p i, digits-written S L accepted q j)
-        (passes-rule (the-basin S L accepted) (S .depth) p q i j k (rw (digits-written S L accepted p i, digits-written S L accepted q j) at t) h)
+        let f = digits-from-outlet S L accepted in
+        rw (f p i, f q j) (passes-rule (the-basin S L accepted) (S .depth) p q i j k (rw (f p i, f q j) at t) h)
 
     by-parting : (k : ℕ) → PartAt (digitsAt (lentAfter S L .labels) p) (digitsAt (lentAfter S L .labels) q) k → (a : Flow)
         → Answered (S .depth) (digitsAt (lentAfter S L .labels) p) (digitsAt (lentAfter S L .labels) q) k a
@@ -149,12 +149,12 @@ module _ (S : Sheet) (L : Lent) (accepted : outcome S L ≡ Accepted) where
 
   pub rivers-are-whole : RiversAreWhole S
   unfolding network
-  rivers-are-whole = record { whole = river-whole (lawful (the-basin S L accepted)) }
+  rivers-are-whole = record { whole = river-whole (lawful (the-basin S L accepted .forest)) }
 
   pub area-bounds : AreaBounds S
   area-bounds = record {
     least = area-least S;
     most = area-most S;
     most-cells = area-most-cells S;
-    donors-add = area-adds S (the-basin S L accepted);
+    donors-add = area-adds S (the-basin S L accepted .forest);
   }

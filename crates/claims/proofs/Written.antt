@@ -7,7 +7,7 @@ use native.Mathlib.Omega.{arith}
 use lib.ListN.{length, getD, drop, List·getD-append}
 use Rattle.sheet.specs.declared.Outcome.{Outcome}
 use Rattle.sheet.specs.declared.Outcome.the-variants.{Accepted}
-use Rattle.sheet.specs.Label.{number, digitsOf, outlet, labelDigits, labelOf, listFrom, labelsOf, labelAt, Digits}
+use Rattle.sheet.specs.Label.{number, digitsOf, label, outlet, outletOf, labelDigits, labelOf, listFrom, labelsOf, labelAt, Digits}
 use Rattle.sheet.specs.Area.{area}
 use Rattle.sheet.specs.River.{network, river, least, split}
 use Rattle.sheet.specs.Flow.{isLabel}
@@ -20,7 +20,8 @@ use Rattle.claims.specs.Demand.{Inside, digitsAt}
 use Rattle.claims.specs.Basin.{Basin}
 use Rattle.claims.proofs.Rivers.{river-headed, river-covers}
 use Rattle.claims.proofs.Mouths.{label-at-most, label-range}
-use Rattle.claims.proofs.Basins.{drain, lawful}
+use Rattle.claims.proofs.Basins.{drain, lawful, own-outlet}
+use Rattle.claims.proofs.Units.{digitsIn}
 use Rattle.claims.proofs.Sheets.{accepted-passed, passed-on, basin, Passed}
 
 module _ (f : ℕ → ℕ) where
@@ -40,6 +41,12 @@ module _ (f : ℕ → ℕ) where
   written-at n c old l =
       List·getD-append (listFrom f 0 n) (drop (length (listFrom f 0 n)) old) 0 c (rw (length-list 0 n) l) ∙ list-at 0 n c l ∙ ap f (omega arith)
 
+-- where there is one outlet, an inside cell's digits start from it
+pub own-digits : (S : Sheet) → Basin (network S) (Inside S) (outlet (S .grid)) → (c : ℕ) → Inside S c
+    → labelDigits S c ≡ digitsIn (network S) (outlet (S .grid)) (S .depth) c
+unfolding labelDigits outletOf network
+own-digits S B c i = ap (λ (o : ℕ). label (network S) (S .depth) (river (network S) o) c) (own-outlet B c i)
+
 module _ (S : Sheet) (L : Lent) (accepted : outcome S L ≡ Accepted) where
   pub checks : Passed S L
   checks = accepted-passed S L accepted
@@ -49,14 +56,14 @@ module _ (S : Sheet) (L : Lent) (accepted : outcome S L ≡ Accepted) where
   the-basin = basin (S .grid) (passed-on (S .grid) (checks .rest)) (area S) (least S) (split S)
 
   pub one-to-nine : (c : ℕ) → Inside S c → Digits 9 (labelDigits S c)
-  unfolding labelDigits network
+  unfolding network
   one-to-nine c i =
-      let O = lawful the-basin in
-      label-range O (S .depth) (river (network S) (outlet (S .grid))) c (river-headed O (outlet (S .grid))) (river-covers O (outlet (S .grid)) c (drain the-basin c i))
+      let O = lawful (the-basin .forest) in
+      rw (own-digits S the-basin c i) (label-range O (S .depth) (river (network S) (outlet (S .grid))) c (river-headed O (outlet (S .grid))) (river-covers O (outlet (S .grid)) c (drain the-basin c i)))
 
   pub at-most-depth : (c : ℕ) → length (labelDigits S c) ≤ S .depth
   unfolding labelDigits
-  at-most-depth c = label-at-most (network S) (S .depth) (river (network S) (outlet (S .grid))) c
+  at-most-depth c = label-at-most (network S) (S .depth) (river (network S) (outletOf (S .grid) c)) c
 
   label-inside : (c : ℕ) → Inside S c → labelOf S c ≡ number (labelDigits S c)
   unfolding labelOf
@@ -84,3 +91,10 @@ module _ (S : Sheet) (L : Lent) (accepted : outcome S L ≡ Accepted) where
   pub label-fits : (c : ℕ) → Inside S c → labelAt (lentAfter S L .labels) c < 2 ^ 64
   label-fits c i =
       rw (label-written c i) (number-fits (labelDigits S c) (one-to-nine c i) (omega (arith, at-most-depth c, depth-most (S .depth) (checks .depth))))
+
+  -- the digits as they were written are those from the outlet
+  pub digits-from-outlet : (c : ℕ) → Inside S c → digitsAt (lentAfter S L .labels) c ≡ digitsIn (network S) (outlet (S .grid)) (S .depth) c
+  digits-from-outlet c i = digits-written c i ∙ own-digits S the-basin c i
+
+  pub label-from-outlet : (c : ℕ) → Inside S c → labelAt (lentAfter S L .labels) c ≡ number (digitsIn (network S) (outlet (S .grid)) (S .depth) c)
+  label-from-outlet c i = label-written c i ∙ ap number (own-digits S the-basin c i)

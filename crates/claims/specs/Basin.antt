@@ -1,4 +1,4 @@
--- What the general theorems ask of a network: one outlet, to which all inside cells drain, and counted mouths closed upwards.
+-- What the general theorems ask of a network: its inside cells drain to outlets, or to a single one, and counted mouths are closed upwards.
 use mathlib.Core.Path.{_≡_}
 use mathlib.Core.Bool.{true}
 use Prim.Native.Nat.{ℕ, zero, suc, _<_}
@@ -12,12 +12,18 @@ pub data Ends (next : ℕ → Next) : ℕ → ℕ → Type 0 where
   ends-here : {n c : ℕ} → next c ≡ Outlet → Ends next (suc n) c
   ends-after : {n c r : ℕ} → next c ≡ To r → Ends next n r → Ends next (suc n) c
 
-pub record Basin (N : Network) (inside : ℕ → Type 0) (outlet : ℕ) : Type 0 where
+-- the inside cells drain to outlets
+pub record Forest (N : Network) (inside : ℕ → Type 0) : Type 0 where
+  pub some : 0 < N .cells
   pub small : (u : ℕ) → inside u → u < N .cells
   pub from-inside : (u r : ℕ) → N .next u ≡ To r → inside u
   pub to-inside : (u r : ℕ) → N .next u ≡ To r → inside r
-  pub outlet-inside : inside outlet
-  pub one-outlet : (u : ℕ) → inside u → N .next u ≡ Outlet → u ≡ outlet
   pub ends : (u : ℕ) → inside u → (k : ℕ) × Ends (N .next) k u
   -- a mouth that is heavier than one that counts, counts
   pub upwards : (u v : ℕ) → heavier N u v ≡ true → N .counted v ≡ true → N .counted u ≡ true
+
+-- and there is a single outlet
+pub record Basin (N : Network) (inside : ℕ → Type 0) (outlet : ℕ) : Type 0 where
+  pub forest : Forest N inside
+  pub outlet-inside : inside outlet
+  pub one-outlet : (u : ℕ) → inside u → N .next u ≡ Outlet → u ≡ outlet

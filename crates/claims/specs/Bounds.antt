@@ -8,7 +8,7 @@ use Rattle.sheet.specs.Sheet.{Grid, Sheet, cells, inside, next, isOutlet}
 use Rattle.sheet.specs.Water.{Passes, passes, reachesOutlet}
 use Rattle.sheet.specs.Area.{count, sumOver, weight, area}
 use Rattle.sheet.specs.River.{network, donors, riverWithin, river}
-use Rattle.sheet.specs.Label.{labelAt}
+use Rattle.sheet.specs.Label.{outletOf, labelAt}
 use Rattle.sheet.specs.Refusal.{undrained}
 use Rattle.sheet.specs.Flow.{isLabel}
 use Rattle.claims.specs.Demand.{Inside}
@@ -28,6 +28,8 @@ pub record NeverComes (G : Grid) (c : ℕ) : Type 0 where
 pub record FuelIsEnough (G : Grid) : Type 0 where
   pub passes-is : (q p : ℕ) → inside G q ≡ true → (passes (next G) (cells G) q p ≡ true) ↔ Passes (next G) q p
   pub undrained-is : (c : ℕ) → (undrained G c ≡ true) ↔ NeverComes G c
+  -- the outlet that an inside cell's water comes to, if it comes to one
+  pub outlet-is : (c : ℕ) → inside G c ≡ true → (o : ComesToOutlet G c) → outletOf G c ≡ o .cell
 
 -- the river lists of an accepted sheet are whole: more fuel adds nothing
 pub record RiversAreWhole (S : Sheet) : Type 0 where

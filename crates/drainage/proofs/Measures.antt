@@ -14,7 +14,7 @@ use Rattle.sheet.specs.declared.Next.{Next}
 use Rattle.sheet.specs.declared.Next.the-variants.{Outlet, To}
 use Rattle.sheet.specs.Sheet.{Grid, Sheet, cells, dirAt, inside, next}
 use Rattle.sheet.specs.Water.{passes, Passes, here, there}
-use Rattle.sheet.specs.Area.{count, sumOver, drainsInto, area}
+use Rattle.sheet.specs.Area.{sumOver, drainsInto, area}
 use Rattle.sheet.specs.Label.{listFrom, areasOf}
 use Rattle.sheet.specs.Refusal.{written}
 use Rattle.sheet.proofs.Cells.{inside-is, next-outside, next-to-lt, next-goes}

@@ -19,7 +19,8 @@ use Rattle.claims.proofs.Runs.{In}
 use Rattle.claims.proofs.Lawful.{Test, yes, no, in-test}
 use Rattle.claims.proofs.Rivers.{river-covers, river-passes}
 use Rattle.claims.proofs.Basins.{lawful, drain, upstream-inside}
-use Rattle.claims.proofs.Written.{length-list, written-at}
+use Rattle.claims.proofs.Written.{length-list, written-at, own-digits}
+use Rattle.claims.proofs.Units.{digitsIn}
 use Rattle.rivers.specs.Labelled.{relabelled}
 use Rattle.rivers.proofs.Relabelled.{relabelled-is}
 
@@ -43,17 +44,21 @@ outside-past G c l = go (inside G c) refl
 module _ (S : Sheet) (B : Basin (network S) (λ c. inside (S .grid) c ≡ true) (outlet (S .grid))) where
   -- the river of the outlet holds the inside cells
   held : (c : ℕ) → holds (network S) (river (network S) (outlet (S .grid))) c ≡ inside (S .grid) c
-  held c = go (inside (S .grid) c) refl (in-test (lawful B) (river (network S) (outlet (S .grid))) c)
+  held c = go (inside (S .grid) c) refl (in-test (lawful (B .forest)) (river (network S) (outlet (S .grid))) c)
     where
       go : (b : Bool) → inside (S .grid) c ≡ b → Test (holds (network S) (river (network S) (outlet (S .grid))) c) (In (network S .next) (river (network S) (outlet (S .grid))) c) → holds (network S) (river (network S) (outlet (S .grid))) c ≡ b
       go true i (yes e h) = e
-      go true i (no e n) = absurd (n (river-covers (lawful B) (outlet (S .grid)) c (drain B c i)))
-      go false i (yes e h) = absurd (true≢false (sym (upstream-inside B c (river-passes (lawful B) (outlet (S .grid)) c h)) ∙ i))
+      go true i (no e n) = absurd (n (river-covers (lawful (B .forest)) (outlet (S .grid)) c (drain B c i)))
+      go false i (yes e h) = absurd (true≢false (sym (upstream-inside B c (river-passes (lawful (B .forest)) (outlet (S .grid)) c h)) ∙ i))
       go false i (no e n) = e
 
   label-of : (c : ℕ) → labelOf S c ≡ cond (inside (S .grid) c) (number (label (network S) (S .depth) (river (network S) (outlet (S .grid))) c)) 0
-  unfolding labelOf labelDigits
-  label-of c = refl
+  unfolding labelOf
+  label-of c = go (inside (S .grid) c) refl
+    where
+      go : (b : Bool) → inside (S .grid) c ≡ b → cond b (number (labelDigits S c)) 0 ≡ cond b (number (digitsIn (network S) (outlet (S .grid)) (S .depth) c)) 0
+      go true i = ap number (own-digits S B c i)
+      go false i = refl
 
   module _ (labels : List ℕ) (room : cells (S .grid) ≤ length labels) where
     cleared-at : (c : ℕ) → c < length labels → (c < cells (S .grid)) ⊎ (cells (S .grid) ≤ c)

@@ -112,7 +112,7 @@ module _ (S : Sheet) {areas work : List ℕ} {queued : ℕ} (accepted : outcomeO
   pub network-of : NetworkOf cell size areas (split S) (least S)
   network-of = record {
     network = network S;
-    lawful = lawful (the-basin S accepted);
+    lawful = lawful (the-basin S accepted .forest);
     laid-out = rw same at (r .layout-of (least S) (split S));
   }
 

@@ -35,14 +35,14 @@ module _ {N : Network} {inside : ℕ → Type 0} {outlet : ℕ} (B : Basin N ins
       mouth-at (rw (← p) (cell-is u j)) (rw (← p) (size-is u j)) (λ s. omega arith)
       (upstream-laid f end (lo + size u) (v ∷ us) w (omega arith) (λ x m. i x (List·Memᴰ·tail m)) (λ x m. h x (List·Memᴰ·tail m)))
 
-  within-laid : (k c : ℕ) → N .cells ≤ k + lawful B .dist c → inside c → Laid cell sizes (pos c + size c) (pos c) (pos c + size c) (riverWithin N k c)
+  within-laid : (k c : ℕ) → N .cells ≤ k + lawful (B .forest) .dist c → inside c → Laid cell sizes (pos c + size c) (pos c) (pos c + size c) (riverWithin N k c)
   unfolding riverWithin
-  within-laid zero c l i = absurd (omega (arith, lawful B .short c))
+  within-laid zero c l i = absurd (omega (arith, lawful (B .forest) .short c))
   within-laid (suc k) c l i =
       stem-at (cell-is c i) (size-is c i) refl
       (upstream-laid (riverWithin N k) (pos c + size c) (pos c + 1) (donors N c) (P .follow c i) (omega (arith, P .adds c i))
-      (λ u m. B .from-inside u c (lawful B .donor-steps c u m))
-      (λ u m e. rw (← e) (within-laid k u (omega (arith, lawful B .falls u c (lawful B .donor-steps c u m))) (B .from-inside u c (lawful B .donor-steps c u m)))))
+      (λ u m. B .forest .from-inside u c (lawful (B .forest) .donor-steps c u m))
+      (λ u m e. rw (← e) (within-laid k u (omega (arith, lawful (B .forest) .falls u c (lawful (B .forest) .donor-steps c u m))) (B .forest .from-inside u c (lawful (B .forest) .donor-steps c u m)))))
 
   pub river-laid : (c : ℕ) → inside c → Laid cell sizes (pos c + size c) (pos c) (pos c + size c) (river N c)
   unfolding river

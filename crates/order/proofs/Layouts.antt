@@ -50,8 +50,8 @@ module _ {N : Network} {inside : ℕ → Type 0} {outlet : ℕ} (B : Basin N ins
     sized = F .sized;
     some = λ j l. let s = stands j l in omega (arith, s .1 .size-is, some B P (s .0) (s .1 .is-inside));
     within = λ j l. let s = stands j l in omega (arith, s .1 .size-is, s .1 .place, within (s .0) (s .1 .is-inside));
-    on = λ j l. let s = stands j l in omega (arith, s .1 .cell-is, B .small (s .0) (s .1 .is-inside));
-    small = λ j l. let s = stands j l in omega (arith, s .1 .cell-is, B .small (s .0) (s .1 .is-inside));
+    on = λ j l. let s = stands j l in omega (arith, s .1 .cell-is, B .forest .small (s .0) (s .1 .is-inside));
+    small = λ j l. let s = stands j l in omega (arith, s .1 .cell-is, B .forest .small (s .0) (s .1 .is-inside));
     apart = λ i j h l e.
         let s = stands i h in
         let t = stands j l in

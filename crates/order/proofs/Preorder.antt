@@ -24,8 +24,8 @@ module _ {N : Network} {inside : ℕ → Type 0} {outlet : ℕ} (B : Basin N ins
   -- a donor's positions lie after the cell's own, within those of the cell
   pub donor-between : {u c : ℕ} → N .next u ≡ To c → Between size pos (pos c + 1) (pos c + size c) u
   donor-between {u} {c} e =
-      let i = B .to-inside u c e in
-      let b = between (P .follow c i) u (lawful B .donors-complete c u e) in
+      let i = B .forest .to-inside u c e in
+      let b = between (P .follow c i) u (lawful (B .forest) .donors-complete c u e) in
       record { from = b .from; upto = omega (arith, P .adds c i, b .upto) }
 
   pub upstream-between : {q c : ℕ} → Passes (N .next) q c → Between size pos (pos c) (pos c + size c) q
@@ -39,14 +39,14 @@ module _ {N : Network} {inside : ℕ → Type 0} {outlet : ℕ} (B : Basin N ins
   -- the cell at a position among those of c
   cell-within : (k c p : ℕ) → size c ≤ k → inside c → At size pos c p → (q : ℕ) × Passes (N .next) q c × (pos q ≡ p)
   cell-within zero c p l i a = absurd (omega (arith, some c i))
-  cell-within (suc k) c p l i a = go (eqb (pos c) p) refl (λ u e b. cell-within k u p (smaller k e l) (B .from-inside u c e) b)
+  cell-within (suc k) c p l i a = go (eqb (pos c) p) refl (λ u e b. cell-within k u p (smaller k e l) (B .forest .from-inside u c e) b)
     where
       go : (b : Bool) → eqb (pos c) p ≡ b → ((u : ℕ) → N .next u ≡ To c → At size pos u p → (q : ℕ) × Passes (N .next) q u × (pos q ≡ p)) → (q : ℕ) × Passes (N .next) q c × (pos q ≡ p)
       go true t f = (c, here, eqb-true (pos c) p t)
       go false t f =
           let d : pos c ≢ p = eqb-false (pos c) p t in
           let m = member-at (P .follow c i) p (omega arith) (omega (arith, P .adds c i, a .before)) in
-          let e = lawful B .donor-steps c (m .0) (m .1) in
+          let e = lawful (B .forest) .donor-steps c (m .0) (m .1) in
           let r = f (m .0) e (m .2) in
           (r .0, pass-trans {c = r .0} (r .1) (there e here), r .2)
 
@@ -58,7 +58,7 @@ module _ {N : Network} {inside : ℕ → Type 0} {outlet : ℕ} (B : Basin N ins
 
   -- cells with the same position are the same
   same-within : (k c p q : ℕ) → size c ≤ k → inside p → inside q → Passes (N .next) p c → Passes (N .next) q c → pos p ≡ pos q → p ≡ q
-  same-within zero c p q l i j h m e = absurd (omega (arith, some c (stays-inside B i h)))
+  same-within zero c p q l i j h m e = absurd (omega (arith, some c (stays-inside (B .forest) i h)))
   same-within (suc k) c p q l i j h m e = go (pass-last h) (pass-last m) (λ u s x y. same-within k u p q (smaller k s l) i j x y e)
     where
       up : ℕ → Type 0
@@ -70,7 +70,7 @@ module _ {N : Network} {inside : ℕ → Type 0} {outlet : ℕ} (B : Basin N ins
       go (inr x) (inl y) f = let b = upstream-between (x .2) in let d = donor-between (x .1) in let z = ap pos y in absurd (omega arith)
       go (inr x) (inr y) f =
           let a : At size pos (y .0) (pos p) = rw e (at-own j (y .2)) in
-          let s = member-once (P .follow c (B .to-inside (x .0) c (x .1))) (lawful B .donors-complete c (x .0) (x .1)) (lawful B .donors-complete c (y .0) (y .1)) (at-own i (x .2)) a in
+          let s = member-once (P .follow c (B .forest .to-inside (x .0) c (x .1))) (lawful (B .forest) .donors-complete c (x .0) (x .1)) (lawful (B .forest) .donors-complete c (y .0) (y .1)) (at-own i (x .2)) a in
           f (x .0) (x .1) (x .2) (rw s (y .2))
 
   pub same-cell : (p q : ℕ) → inside p → inside q → pos p ≡ pos q → p ≡ q

@@ -40,7 +40,7 @@ module _ {G : Grid} {areas work : List ℕ} {queued : ℕ} (W : Surveyed G areas
   -- a cell's size is one more than those of its donors together
   adds : (c : ℕ) → inside G c ≡ true → size G c ≡ suc (sum (size G) (donorsIn G areas c))
   unfolding donors networkBy
-  adds c i = size-adds G (areaIn (cells G) areas) 0 0 (whole 0 0) c i
+  adds c i = size-adds G (areaIn (cells G) areas) 0 0 (whole 0 0 .forest) c i
 
   pub queue-inside : (i : ℕ) → i < queued → inside G (placed work i) ≡ true
   queue-inside i l = up .is-inside i l

@@ -12,7 +12,7 @@ use Rattle.sheet.specs.River.{networkBy, donors}
 use Rattle.sheet.specs.Label.{outlet}
 use Rattle.sheet.specs.Refusal.{both}
 use Rattle.sheet.proofs.Cells.{inside-lt, next-goes}
-use Rattle.claims.specs.Basin.{Basin}
+use Rattle.claims.specs.Basin.{Forest, Basin}
 use Rattle.claims.specs.Bounds.{sum}
 use Rattle.claims.proofs.Basins.{lawful, drain}
 use Rattle.claims.proofs.Counts.{count-some}
@@ -42,7 +42,7 @@ module _ {G : Grid} {work : List ℕ} {queued : ℕ} (D : Drained G work queued)
 
   module _ (S : SingleOutlet G work) where
     pub basin : (area : ℕ → ℕ) (least split : ℕ) → Basin (networkBy G area least split) (λ c. inside G c ≡ true) (outlet G)
-    basin = one-basin G reaches (S .is-outlet) (S .only)
+    basin area least split = one-basin G reaches area least split (S .is-outlet) (S .only)
 
 module _ (G : Grid) where
   size-inside : (c : ℕ) → inside G c ≡ true → size G c ≡ count (cells G) (drainsInto G c)
@@ -55,20 +55,20 @@ module _ (G : Grid) where
   pub size-some : (c : ℕ) → inside G c ≡ true → 1 ≤ size G c
   size-some c i = rw (size-inside c i) (count-some (cells G) (drainsInto G c) c (drains-itself G c i) (inside-lt G c i))
 
-  module _ (area : ℕ → ℕ) (least split : ℕ) (B : Basin (networkBy G area least split) (λ c. inside G c ≡ true) (outlet G)) where
+  module _ (area : ℕ → ℕ) (least split : ℕ) where
     -- a cell's size is one more than those of its donors together
-    pub size-adds : (c : ℕ) → inside G c ≡ true → size G c ≡ suc (sum (size G) (donors (networkBy G area least split) c))
+    pub size-adds : Forest (networkBy G area least split) (λ c. inside G c ≡ true) → (c : ℕ) → inside G c ≡ true → size G c ≡ suc (sum (size G) (donors (networkBy G area least split) c))
     unfolding networkBy drainsInto
-    size-adds c i =
-        let s = area-sum (lawful B) (inside G) (λ q. 1) c i (inside-lt G c i) in
+    size-adds F c i =
+        let s = area-sum (lawful F) (inside G) (λ q. 1) c i (inside-lt G c i) in
         let d = sum-same (size G) (λ u. sumOver (cells G) (drainsInto G u) (λ q. 1)) (donors (networkBy G area least split) c)
-        (λ u m. size-inside u (next-goes G u (lawful B .donor-steps c u m) .from-inside) ∙ count-sum (cells G) (drainsInto G u)) in
+        (λ u m. size-inside u (next-goes G u (lawful F .donor-steps c u m) .from-inside) ∙ count-sum (cells G) (drainsInto G u)) in
         size-inside c i ∙ count-sum (cells G) (drainsInto G c) ∙ s ∙ (rw d (omega arith))
 
     -- all inside cells drain into the outlet
-    drains-all : (c : ℕ) → inside G c ≡ drainsInto G (outlet G) c
+    drains-all : Basin (networkBy G area least split) (λ c. inside G c ≡ true) (outlet G) → (c : ℕ) → inside G c ≡ drainsInto G (outlet G) c
     unfolding networkBy drainsInto
-    drains-all c = go (inside G c) refl
+    drains-all B c = go (inside G c) refl
       where
         go : (b : Bool) → inside G c ≡ b → b ≡ cond b (passes (next G) (cells G) c (outlet G)) false
         go true i = sym ((passes-is G c (outlet G) i) .1 (drain B c i))

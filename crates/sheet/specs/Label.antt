@@ -6,8 +6,8 @@ use lib.Dec.{eqb}
 use lib.ListN.{getD}
 use Rattle.sheet.specs.declared.Found.{Found}
 use Rattle.sheet.specs.declared.Found.the-variants.{At, Nothing}
-use Rattle.sheet.specs.Sheet.{Grid, Sheet, cells, inside, isOutlet, first}
-use Rattle.sheet.specs.Water.{passes}
+use Rattle.sheet.specs.Sheet.{Grid, Sheet, cells, inside, next, isOutlet, first}
+use Rattle.sheet.specs.Water.{passes, wayEnd}
 use Rattle.sheet.specs.Area.{area}
 use Rattle.sheet.specs.River.{Network, network, stem, mouth, Run, river}
 use Rattle.sheet.specs.Unit.{Parts, last, part, parts, finished}
@@ -85,15 +85,20 @@ abbrev pub cellFound : Found → ℕ
 cellFound (At c) = c
 cellFound Nothing = 0
 
--- the outlet of the basin: the first in reading order
+-- the first outlet in reading order
 unfoldable pub outlet : Grid → ℕ
 unfolding isOutlet first
 outlet G = cellFound (first (isOutlet G) (cells G))
 
--- the digits of an inside cell's label, cut to the depth that the sheet names
+-- the outlet that an inside cell's water comes to
+unfoldable pub outletOf : Grid → ℕ → ℕ
+unfolding next wayEnd
+outletOf G c = wayEnd (next G) (cells G) c
+
+-- the digits of an inside cell's label, from the river of its outlet on, cut to the depth that the sheet names
 unfoldable pub labelDigits : Sheet → ℕ → List ℕ
-unfolding network river outlet label
-labelDigits S c = label (network S) (S .depth) (river (network S) (outlet (S .grid))) c
+unfolding network river outletOf label
+labelDigits S c = label (network S) (S .depth) (river (network S) (outletOf (S .grid) c)) c
 
 -- "label" of a cell; outside cells have label 0
 unfoldable pub labelOf : Sheet → ℕ → ℕ

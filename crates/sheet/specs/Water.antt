@@ -22,9 +22,9 @@ pub record DrainsTo (next : ℕ → Next) (S : ℕ → Type 0) (c : ℕ) : Type 
   pub drains : (x : ℕ) → S x → Drains next S x c
 
 -- go on with f to the cell that water goes to, if there is one
-unfoldable pub onward : Next → Bool → (ℕ → Bool) → Bool
-onward Outlet b f = b
-onward (To r) b f = f r
+unfoldable pub onward : {A : Type 0} → Next → A → (ℕ → A) → A
+onward Outlet a f = a
+onward (To r) a f = f r
 
 -- is p among the first n + 1 cells of q's way?
 unfoldable pub passes : (ℕ → Next) → ℕ → ℕ → ℕ → Bool
@@ -37,3 +37,9 @@ unfoldable pub reachesOutlet : (ℕ → Next) → ℕ → ℕ → Bool
 unfolding onward
 reachesOutlet next zero q = false
 reachesOutlet next (suc n) q = onward (next q) true (λ r. reachesOutlet next n r)
+
+-- the outlet that q's way comes to within n steps, or where it is then
+unfoldable pub wayEnd : (ℕ → Next) → ℕ → ℕ → ℕ
+unfolding onward
+wayEnd next zero q = q
+wayEnd next (suc n) q = onward (next q) q (λ r. wayEnd next n r)

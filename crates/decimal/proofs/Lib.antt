@@ -1,3 +1,4 @@
+pub mod Answers
 pub mod ValueLaws
 pub mod TextLaws
 pub mod ReadBack

@@ -25,6 +25,15 @@ decimalText n = textWithin n n
 unfoldable pub overwrite : List ℕ → ℕ → List ℕ → List ℕ
 overwrite buffer at text = take at buffer ++ (text ++ drop (at + length text) buffer)
 
+-- document 01's number of an answer, and its value: 3 where the buffer is too short
+pub record WrittenValues : Type 0 where
+  pub number : ℕ
+  pub end : ℕ
+
+abbrev pub writtenValues : Written → WrittenValues
+writtenValues (End end) = record { number = 0; end = end }
+writtenValues NoRoom = record { number = 3; end = 0 }
+
 -- the answer of a call that writes, and the buffer afterwards
 pub record Writing : Type 0 where
   pub answer : Written

@@ -48,3 +48,13 @@ valueAt most s at =
     -- The digits begin at the position itself. What may stand in front of a value is to be passed over here.
     let digits : List ℕ = digitRun (drop at s) in
     cond (leb most mostDigits) (foundAt (isValue most digits) digits at) Bad
+
+-- document 01's number of an answer, and its values: 8 where the file's rules ask for a value and there is none
+pub record FoundValues : Type 0 where
+  pub number : ℕ
+  pub value : ℕ
+  pub end : ℕ
+
+abbrev pub foundValues : Value → FoundValues
+foundValues (Found value end) = record { number = 0; value = value; end = end }
+foundValues Bad = record { number = 8; value = 0; end = 0 }

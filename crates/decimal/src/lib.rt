@@ -2,8 +2,8 @@
 ghost use mathlib.Core.Path.{_≡_};
 ghost use Prim.Native.Nat.{_≤_};
 ghost use lib.ListN.{length};
-ghost use Rattle.decimal.specs.Value.{isDigit, mostDigits, numberAt, valueAt};
-ghost use Rattle.decimal.specs.Text.{decimalText, writeText};
+ghost use Rattle.decimal.specs.Value.{isDigit, mostDigits, numberAt, valueAt, foundValues};
+ghost use Rattle.decimal.specs.Text.{decimalText, writtenValues, writeText};
 
 // What reading a value gives: the value and the position after it, or that no value stands there.
 pub enum Value {
@@ -62,7 +62,8 @@ fn read_digits(line: &[u8], at: usize, most: u8) -> Value
 
 // The value at a position: 0 alone, or 1 to `most` digits not starting with 0. Where `most` is over MOST_DIGITS there is none.
 pub fn read_value(line: &[u8], at: usize, most: u8) -> Value
-    ensures { λ r. ⌜ r ≡ valueAt most (now (line .entry)) at ⌝ }
+    ensures value { λ r. ⌜ r ≡ valueAt most (now (line .entry)) at ⌝ }
+    ensures values { λ r. ⌜ foundValues r ≡ foundValues (valueAt most (now (line .entry)) at) ⌝ }
 {
     if MOST_DIGITS < most {
         return Value::Bad;
@@ -81,7 +82,8 @@ pub fn read_value(line: &[u8], at: usize, most: u8) -> Value
     }
 }
 
-fn count_digits(n: u64) -> usize
+// How many bytes n has in decimal.
+pub fn decimal_length(n: u64) -> usize
     ensures { λ r. ⌜ r ≡ length (decimalText n) ⌝ }
 {
     let mut count = 1;
@@ -95,9 +97,10 @@ fn count_digits(n: u64) -> usize
 
 // Writes n in decimal from a position on.
 pub fn write_decimal(n: u64, out: &mut [u8], at: usize) -> Written
-    ensures { λ r. ⌜ record { answer = r; buffer = now (out .exit) } ≡ writeText (decimalText n) (now (out .entry)) at ⌝ }
+    ensures written { λ r. ⌜ record { answer = r; buffer = now (out .exit) } ≡ writeText (decimalText n) (now (out .entry)) at ⌝ }
+    ensures values { λ r. ⌜ writtenValues r ≡ writtenValues (writeText (decimalText n) (now (out .entry)) at .answer) ⌝ }
 {
-    let count = count_digits(n);
+    let count = decimal_length(n);
     if out.len() < at {
         return Written::NoRoom;
     }

@@ -1,6 +1,6 @@
--- What refuses sizes and a cell line, by document 01's numbers in its order; 0 is no fault.
+-- What refuses sizes and a cell line: tests in document 01's order, with its numbers; 0 is no fault.
 use mathlib.Core.Bool.{Bool, cond}
-use mathlib.Core.List.{List}
+use mathlib.Core.List.{List, [], _∷_}
 use Prim.Native.Nat.{ℕ, _+_, _*_}
 use lib.Dec.{leb, ltb, eqb}
 use lib.ListN.{getD}
@@ -28,10 +28,30 @@ cellIn c v = record { row = valueOf c v Row; col = valueOf c v Col; dir = valueO
 abbrev pub cellCount : Sizes → ℕ
 cellCount z = z .rows * z .cols
 
--- 1, 2 and 3 of sizes, where `lent` direction bytes are lent
+-- a test, and the number of the refusal where it is not passed
+pub record Test : Type 0 where
+  pub number : ℕ
+  pub passed : Bool
+
+abbrev pub test : ℕ → Bool → Test
+test number passed = record { number = number; passed = passed }
+
+-- the number of the first test that fails; 0 if none does
+unfoldable pub firstFailing : List Test → ℕ
+firstFailing [] = 0
+firstFailing (t ∷ ts) = let rest : ℕ = firstFailing ts in cond (t .passed) rest (t .number)
+
+-- the tests of sizes, where `lent` direction bytes are lent
+abbrev pub sizesTests : Sizes → ℕ → List Test
+sizesTests z lent =
+    test 1 (sizesFit (z .rows) (z .cols))
+    ∷ test 2 (depthFits (z .depth))
+    ∷ test 3 (leb (cellCount z) lent)
+    ∷ []
+
 unfoldable pub sizesFault : Sizes → ℕ → ℕ
-unfolding sizesFit depthFits
-sizesFault z lent = cond (sizesFit (z .rows) (z .cols)) (cond (depthFits (z .depth)) (cond (leb (cellCount z) lent) 0 3) 2) 1
+unfolding firstFailing sizesFit depthFits
+sizesFault z lent = firstFailing (sizesTests z lent)
 
 unfoldable pub onSheet : Sizes → Cell → Bool
 onSheet z x = both (ltb (x .row) (z .rows)) (ltb (x .col) (z .cols))
@@ -40,7 +60,14 @@ onSheet z x = both (ltb (x .row) (z .rows)) (ltb (x .col) (z .cols))
 abbrev pub cellNumber : Sizes → Cell → ℕ
 cellNumber z x = x .row * z .cols + x .col
 
--- 9, 4 and 10 of a cell line
+-- the tests of a cell line
+abbrev pub cellTests : Sizes → Cell → List ℕ → List Test
+cellTests z x dirs =
+    test 9 (onSheet z x)
+    ∷ test 4 (isCode (x .dir))
+    ∷ test 10 (eqb (getD dirs (cellNumber z x) 0) 0)
+    ∷ []
+
 unfoldable pub cellFault : Sizes → Cell → List ℕ → ℕ
-unfolding onSheet isCode
-cellFault z x dirs = cond (onSheet z x) (cond (isCode (x .dir)) (cond (eqb (getD dirs (cellNumber z x) 0) 0) 0 10) 4) 9
+unfolding firstFailing onSheet isCode
+cellFault z x dirs = firstFailing (cellTests z x dirs)

@@ -52,8 +52,10 @@ fn cell_fault(sizes: Sizes, cell: Cell, dirs: &[u8]) -> u8
     requires { ⌜ sizesFault sizes (length (now dirs)) ≡ 0 ⌝ }
     ensures { λ r. ⌜ r ≡ cellFault sizes cell (now (dirs .entry)) ⌝ }
 {
-    if on_sheet(sizes, cell) {
-        if is_dir(cell.dir) {
+    let place_ok = on_sheet(sizes, cell);
+    let code_ok = is_dir(cell.dir);
+    if place_ok {
+        if code_ok {
             if dirs[cell.row * sizes.cols + cell.col] == 0 {
                 return 0;
             }

@@ -110,7 +110,8 @@ impl Intake {
 
     // Takes one line, without its line feed.
     pub fn line(self, line: &[u8], dirs: &mut [u8]) -> Taken
-        ensures { λ r. ⌜ record { taken = r; dirs = now (dirs .exit) } ≡ lineAfter self (now (line .entry)) (now (dirs .entry)) ⌝ }
+        ensures after { λ r. ⌜ record { taken = r; dirs = now (dirs .exit) } ≡ lineAfter self (now (line .entry)) (now (dirs .entry)) ⌝ }
+        ensures values { λ r. ⌜ takenValues (r .outcome) ≡ takenValues (lineAfter self (now (line .entry)) (now (dirs .entry)) .taken .outcome) ⌝ }
     {
         let stage = self.stage;
         let fault = state_fault(stage, dirs.len());
@@ -122,7 +123,8 @@ impl Intake {
 
     // Takes the end of the file.
     pub fn end(self) -> Taken
-        ensures { λ r. ⌜ r ≡ endTaken self ⌝ }
+        ensures taken { λ r. ⌜ r ≡ endTaken self ⌝ }
+        ensures values { λ r. ⌜ takenValues (r .outcome) ≡ takenValues (endTaken self .outcome) ⌝ }
     {
         let stage = self.stage;
         match stage {

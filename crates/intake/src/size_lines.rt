@@ -24,8 +24,10 @@ use lines::values::value_of;
 pub fn sizes_fault(sizes: Sizes, lent: usize) -> u8
     ensures { λ r. ⌜ r ≡ sizesFault sizes lent ⌝ }
 {
-    if sizes_fit(sizes.rows, sizes.cols) {
-        if depth_fits(sizes.depth) {
+    let sizes_ok = sizes_fit(sizes.rows, sizes.cols);
+    let depth_ok = depth_fits(sizes.depth);
+    if sizes_ok {
+        if depth_ok {
             if sizes.rows * sizes.cols <= lent {
                 return 0;
             }

@@ -54,6 +54,15 @@ unfoldable pub valuesLine : List ℕ → ValuesLine
 unfolding fitsLine fields valuesFrom valueAt
 valuesLine s = cond (fitsLine s) (valuesFrom columnCount 0 (fields s) noValues) Bad
 
+-- document 01's number of an answer, and its values: 8 where the line breaks the file's rules
+pub record LineValues : Type 0 where
+  pub number : ℕ
+  pub values : Values
+
+abbrev pub lineValues : ValuesLine → LineValues
+lineValues (Valued v) = record { number = 0; values = v }
+lineValues Bad = record { number = 8; values = noValues }
+
 -- The value in a column: that of the first column of the name, and 0 where there is none. So a name that stands twice has a meaning.
 unfoldable pub valueOf : Columns → Values → Column → ℕ
 valueOf c v x =

@@ -1,7 +1,7 @@
 // Value lines: a value for each column, parted by commas.
 ghost use mathlib.Core.Path.{_≡_};
 ghost use Rattle.lines.specs.Fields.{fields};
-ghost use Rattle.lines.specs.Values.{fieldValue, withValue, noValues, valuesFrom, valuesLine, valueOf};
+ghost use Rattle.lines.specs.Values.{fieldValue, withValue, noValues, valuesFrom, valuesLine, lineValues, valueOf};
 use super::columns::Column;
 use super::columns::Columns;
 use super::columns::same_column;
@@ -84,7 +84,8 @@ fn values_in(line: &[u8], count: usize) -> ValuesLine
 
 // A line of one value for each column.
 pub fn read_values(line: &[u8]) -> ValuesLine
-    ensures { λ r. ⌜ r ≡ valuesLine (now (line .entry)) ⌝ }
+    ensures line { λ r. ⌜ r ≡ valuesLine (now (line .entry)) ⌝ }
+    ensures values { λ r. ⌜ lineValues r ≡ lineValues (valuesLine (now (line .entry))) ⌝ }
 {
     if super::LINE_BYTES < line.len() {
         return ValuesLine::Bad;

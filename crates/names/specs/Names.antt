@@ -30,3 +30,12 @@ ifExpected expected Bad = Bad
 unfoldable pub namesLine : Columns → List ℕ → NamesLine
 unfolding fitsLine fields namesFrom sameColumns
 namesLine expected s = cond (fitsLine s) (ifExpected expected (namesFrom 0 (fields s) noColumns)) Bad
+
+-- document 01's number of an answer, and its columns: 8 where the line breaks the file's rules
+pub record NamesValues : Type 0 where
+  pub number : ℕ
+  pub columns : Columns
+
+abbrev pub namesValues : NamesLine → NamesValues
+namesValues (Named c) = record { number = 0; columns = c }
+namesValues Bad = record { number = 8; columns = noColumns }

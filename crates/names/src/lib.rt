@@ -2,7 +2,7 @@
 ghost use mathlib.Core.Path.{_≡_};
 ghost use Rattle.lines.specs.Fields.{fields};
 ghost use Rattle.names.specs.Columns.{columnIf, columnNamed, withColumn, noColumns, countColumn, asOften, sameColumns, sizeColumns, cellColumns};
-ghost use Rattle.names.specs.Names.{namesFrom, namesLine};
+ghost use Rattle.names.specs.Names.{namesFrom, namesLine, namesValues};
 use lines::columns::Column;
 use lines::columns::Columns;
 use lines::columns::same_column;
@@ -150,7 +150,8 @@ fn read_names(line: &[u8], expected: Columns) -> NamesLine
 
 // The names of the sizes: rows, cols and depth.
 pub fn read_size_names(line: &[u8]) -> NamesLine
-    ensures { λ r. ⌜ r ≡ namesLine sizeColumns (now (line .entry)) ⌝ }
+    ensures line { λ r. ⌜ r ≡ namesLine sizeColumns (now (line .entry)) ⌝ }
+    ensures values { λ r. ⌜ namesValues r ≡ namesValues (namesLine sizeColumns (now (line .entry))) ⌝ }
 {
     read_names(
         line,
@@ -164,7 +165,8 @@ pub fn read_size_names(line: &[u8]) -> NamesLine
 
 // The names of a cell: row, col and dir.
 pub fn read_cell_names(line: &[u8]) -> NamesLine
-    ensures { λ r. ⌜ r ≡ namesLine cellColumns (now (line .entry)) ⌝ }
+    ensures line { λ r. ⌜ r ≡ namesLine cellColumns (now (line .entry)) ⌝ }
+    ensures values { λ r. ⌜ namesValues r ≡ namesValues (namesLine cellColumns (now (line .entry))) ⌝ }
 {
     read_names(
         line,

@@ -4,10 +4,15 @@ use mathlib.Core.Path.{_≡_, refl, ap, _∙_}
 use native.Mathlib.Omega.{arith}
 use borrow.Author.Needs.{needs}
 use lib.ListN.{length, length-set}
-use Rattle.decimal.specs.Text.{decimalText, overwrite}
+use Rattle.decimal.specs.Text.{decimalText, overwrite, WrittenValues, writtenValues, Writing}
+use Rattle.decimal.proofs.Answers.{with-values}
 use Rattle.decimal.proofs.TextLaws.{text-longer, text-some, write-last-digit, write-first-digit, written, not-written}
 use Rattle.decimal.proofs.write_decimal.Statement.{statement}
 use Rattle.decimal.proofs.write_decimal.Tie as tie
+
+-- the number and value of the answer
+abbrev values : Writing → WrittenValues
+values w = writtenValues (w .answer)
 
 abbrev Inv-loop : tie.InvT-loop
 Inv-loop n out₀ at count end₀ rest₀ out end rest =
@@ -16,23 +21,23 @@ Inv-loop n out₀ at count end₀ rest₀ out end rest =
 abbrev μ-loop : tie.MeasureT-loop
 μ-loop n out₀ at count end₀ rest₀ out end rest = rest
 
-count-digits-requires : tie.Need-count-digits-requires Inv-loop μ-loop
-count-digits-requires c κs = search needs
+decimal-length-requires : tie.Need-decimal-length-requires Inv-loop μ-loop
+decimal-length-requires c κs = search needs
 
 returns : tie.Need-returns Inv-loop μ-loop
-returns c = not-written _ _ _ (omega arith)
+returns c = with-values values (not-written _ _ _ (omega arith))
 
 sub-if2 : tie.Need-sub-if2 Inv-loop μ-loop
 sub-if2 c = search needs
 
 returns-2 : tie.Need-returns-2 Inv-loop μ-loop
-returns-2 c = not-written _ _ _ (omega arith)
+returns-2 c = with-values values (not-written _ _ _ (omega arith))
 
 add-end : tie.Need-add-end Inv-loop μ-loop
 add-end c = omega arith
 
 loop-holds : tie.Need-loop-holds Inv-loop μ-loop
-loop-holds c = (refl, ap (λ (k : ℕ). c .before .before .before .before .args .at + k) (c .before .before .count-digits .ensures), omega arith, refl)
+loop-holds c = (refl, ap (λ (k : ℕ). c .before .before .before .before .args .at + k) (c .before .before .decimal-length .ensures), omega arith, refl)
 
 sub-end : tie.Need-sub-end Inv-loop μ-loop
 sub-end c = omega (arith, text-some (c .before .loop .rest))
@@ -77,11 +82,12 @@ same-length c = simp length-set (c .before .loop .inv .3)
 returns-3 : tie.Need-returns-3 Inv-loop μ-loop
 returns-3 c =
     let l = c .before .loop in
-    let count = c .before .before .before .before .count-digits .ensures in
-    written _ _ _ _ _
+    let count = c .before .before .before .before .decimal-length .ensures in
+    with-values values
+    (written _ _ _ _ _
     (omega arith)
     (write-first-digit _ _ _ (c .loop-test .left) (omega (arith, text-some (l .rest))) ∙ l .inv .0)
-    (ap (λ (k : ℕ). c .before .before .before .before .before .before .args .at + k) count)
+    (ap (λ (k : ℕ). c .before .before .before .before .before .before .args .at + k) count))
 
 pub write-decimal-spec : {M : Type 1} → statement M
 write-decimal-spec =
@@ -89,7 +95,7 @@ write-decimal-spec =
     (tie.spec
     Inv-loop
     μ-loop
-    count-digits-requires
+    decimal-length-requires
     returns
     sub-if2
     returns-2

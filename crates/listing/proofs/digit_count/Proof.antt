@@ -25,7 +25,7 @@ enum-told c = search needs
 
 -- 20 bytes are enough for any number, so the text is written whole
 answer : (c : tie.After-digits2) → c .before .write-decimal .result ≡ End (0 + length (decimalText (c .before .before .before .args .n)))
-answer c = let a = c .before .before .before in wrote-answer (decimalText (a .args .n)) (replicate 20 0) 0 (omega (arith, text-64-bit (a .args .n) (a .fits .n .fits))) (c .before .write-decimal .ensures)
+answer c = let a = c .before .before .before in wrote-answer (decimalText (a .args .n)) (replicate 20 0) 0 (omega (arith, text-64-bit (a .args .n) (a .fits .n .fits))) (c .before .write-decimal .ensures .0)
 
 returns : tie.Need-returns
 returns c =

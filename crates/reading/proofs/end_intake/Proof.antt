@@ -19,11 +19,11 @@ next-line-requires c κs = search needs
 
 returns : tie.Need-returns
 unfolding endAfter
-returns c = simp (sym (c .before .before .before .end .ensures), c .enum-told .given .1)
+returns c = simp (sym (c .before .before .before .end .ensures .0), c .enum-told .given .1)
 
 returns-2 : tie.Need-returns-2
 unfolding endAfter
-returns-2 c = simp (sym (c .before .before .before .before .before .end .ensures), c .before .before .outcome .given .1, c .next-line .ensures)
+returns-2 c = simp (sym (c .before .before .before .before .before .end .ensures .0), c .before .before .outcome .given .1, c .next-line .ensures)
 
 pub end-intake-spec : {M : Type 1} → statement M
 end-intake-spec =

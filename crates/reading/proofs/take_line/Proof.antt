@@ -19,7 +19,7 @@ same-length c = search needs
 
 returns : tie.Need-returns
 unfolding lineText
-returns c = rw (le-leb _ _ (c .before .before .before .before .before .if1 .taken)) (c .before .before .line .ensures)
+returns c = rw (le-leb _ _ (c .before .before .before .before .before .if1 .taken)) (c .before .before .line .ensures .0)
 
 slice-aggregate-line-2 : tie.Need-slice-aggregate-line-2
 slice-aggregate-line-2 c = search needs
@@ -32,7 +32,7 @@ same-length-2 c = search needs
 
 returns-2 : tie.Need-returns-2
 unfolding lineText
-returns-2 c = rw (lt-leb _ _ (c .before .before .before .before .before .if1 .left)) (c .before .before .line2 .ensures)
+returns-2 c = rw (lt-leb _ _ (c .before .before .before .before .before .if1 .left)) (c .before .before .line2 .ensures .0)
 
 pub take-line-spec : {M : Type 1} → statement M
 take-line-spec =

@@ -1,8 +1,14 @@
 -- `end` meets its contract.
-use Rattle.intake.specs.Intake.{endTaken}
+use Rattle.decimal.proofs.Answers.{with-values}
+use Rattle.intake.specs.declared.Taken.{Taken}
+use Rattle.intake.specs.Intake.{TakenValues, takenValues, endTaken}
 use borrow.Author.Needs.{needs}
 use Rattle.intake.proofs.Intake.end.Statement.{statement}
 use Rattle.intake.proofs.Intake.end.Tie as tie
+
+-- the number and place of the outcome
+abbrev values : Taken → TakenValues
+values t = takenValues (t .outcome)
 
 enum-told : tie.Need-enum-told
 enum-told c = search needs
@@ -36,23 +42,23 @@ answer-requires-5 c κs = search needs
 
 returns : tie.Need-returns
 unfolding endTaken
-returns c = simp (c .before .enum-told .given .1, c .answer .ensures)
+returns c = with-values values (simp (c .before .enum-told .given .1, c .answer .ensures))
 
 returns-2 : tie.Need-returns-2
 unfolding endTaken
-returns-2 c = simp (c .before .enum-told2 .given .1, c .answer2 .ensures)
+returns-2 c = with-values values (simp (c .before .enum-told2 .given .1, c .answer2 .ensures))
 
 returns-3 : tie.Need-returns-3
 unfolding endTaken
-returns-3 c = simp (c .before .enum-told3 .given .1, c .answer3 .ensures)
+returns-3 c = with-values values (simp (c .before .enum-told3 .given .1, c .answer3 .ensures))
 
 returns-4 : tie.Need-returns-4
 unfolding endTaken
-returns-4 c = simp (c .before .before .stage .given .1, c .answer4 .ensures)
+returns-4 c = with-values values (simp (c .before .before .stage .given .1, c .answer4 .ensures))
 
 returns-5 : tie.Need-returns-5
 unfolding endTaken
-returns-5 c = simp (c .before .enum-told4 .given .1, c .answer5 .ensures)
+returns-5 c = with-values values (simp (c .before .enum-told4 .given .1, c .answer5 .ensures))
 
 pub end-spec : {M : Type 1} → statement M
 end-spec =

@@ -1,10 +1,15 @@
 -- `line` meets its contract.
 use mathlib.Core.Path.{sym, _∙_}
 use borrow.Author.Tests.{ne-eqb}
-use Rattle.intake.specs.Intake.{lineAfter}
+use Rattle.decimal.proofs.Answers.{with-values}
+use Rattle.intake.specs.Intake.{TakenValues, takenValues, After, lineAfter}
 use borrow.Author.Needs.{needs}
 use Rattle.intake.proofs.Intake.line.Statement.{statement}
 use Rattle.intake.proofs.Intake.line.Tie as tie
+
+-- the number and place of the outcome
+abbrev values : After → TakenValues
+values a = takenValues (a .taken .outcome)
 
 state-fault-requires : tie.Need-state-fault-requires
 state-fault-requires c κs = search needs
@@ -17,14 +22,16 @@ same-length c = search needs
 
 returns : tie.Need-returns
 unfolding lineAfter
-returns c = simp (sym (c .before .before .before .before .before .state-fault .ensures) ∙ c .before .before .before .before .if1 .taken, c .before .before .line-in .ensures)
+returns c =
+    with-values values
+    (simp (sym (c .before .before .before .before .before .state-fault .ensures) ∙ c .before .before .before .before .if1 .taken, c .before .before .line-in .ensures))
 
 answer-requires : tie.Need-answer-requires
 answer-requires c κs = search needs
 
 returns-2 : tie.Need-returns-2
 unfolding lineAfter
-returns-2 c = simp (sym (c .before .before .state-fault .ensures), ne-eqb _ _ (c .before .if1 .left), c .answer .ensures)
+returns-2 c = with-values values (simp (sym (c .before .before .state-fault .ensures), ne-eqb _ _ (c .before .if1 .left), c .answer .ensures))
 
 pub line-spec : {M : Type 1} → statement M
 line-spec =

@@ -1,14 +1,12 @@
 -- `cell_fault` meets its contract.
 use native.Mathlib.Omega.{arith}
-use mathlib.Core.Path.{sym, _∙_}
-use borrow.Author.Tests.{eq-eqb, ne-eqb}
-use Rattle.intake.specs.Faults.{cellFault}
-use Rattle.intake.proofs.FaultLaws.{sizes-fit, on-sheet-placed}
-use mathlib.Core.Path.{sym, _∙_}
-use borrow.Author.Tests.{eq-eqb, ne-eqb}
-use Rattle.intake.specs.Faults.{cellFault}
-use Rattle.intake.proofs.FaultLaws.{sizes-fit, on-sheet-placed}
+use mathlib.Core.Path.{_≡_, sym}
+use mathlib.Core.Bool.{true}
+use lib.ListN.{length}
 use borrow.Author.Needs.{needs}
+use borrow.Author.Tests.{eq-eqb, ne-eqb}
+use Rattle.intake.specs.Faults.{onSheet, cellFault}
+use Rattle.intake.proofs.FaultLaws.{Placed, sizes-fit, on-sheet-placed}
 use Rattle.intake.proofs.cell_lines.cell_fault.Statement.{statement}
 use Rattle.intake.proofs.cell_lines.cell_fault.Tie as tie
 
@@ -18,36 +16,41 @@ on-sheet-requires c κs = search needs
 is-dir-requires : tie.Need-is-dir-requires
 is-dir-requires c κs = search needs
 
+-- where both tests are passed, the cell's byte is lent
+placed : (c : tie.Then2) → let a = c .before .before .before .before .before .args in Placed (a .sizes) (a .cell) (length (a .dirs .now))
+placed c =
+    let a = c .before .before .before .before .before .args in
+    let on : onSheet (a .sizes) (a .cell) ≡ true = cc in
+    on-sheet-placed _ _ _ (sizes-fit _ _ (c .before .before .before .before .before .pre)) on
+
 mul-if3 : tie.Need-mul-if3
-mul-if3 c = let p = on-sheet-placed _ _ _ (sizes-fit _ _ (c .before .before .before .before .before .before .before .pre)) (sym (c .before .before .before .before .before .on-sheet .ensures) ∙ c .before .before .before .before .if1 .taken) in omega (arith, p .number-small)
+mul-if3 c = let p = placed (c .before .before) in omega (arith, p .number-small)
 
 add-if3 : tie.Need-add-if3
-add-if3 c = let p = on-sheet-placed _ _ _ (sizes-fit _ _ (c .before .before .before .before .before .before .before .before .pre)) (sym (c .before .before .before .before .before .before .on-sheet .ensures) ∙ c .before .before .before .before .before .if1 .taken) in omega (arith, p .number-small)
+add-if3 c = let p = placed (c .before .before .before) in omega (arith, p .number-small)
 
 shared-slice-read-if3 : tie.Need-shared-slice-read-if3
-shared-slice-read-if3 c = on-sheet-placed _ _ _ (sizes-fit _ _ (c .before .before .before .before .before .before .before .before .before .pre)) (sym (c .before .before .before .before .before .before .before .on-sheet .ensures) ∙ c .before .before .before .before .before .before .if1 .taken) .byte-lent
+shared-slice-read-if3 c = placed (c .before .before .before .before) .byte-lent
 
 returns : tie.Need-returns
 unfolding cellFault
 returns c =
-    let on = sym (c .before .before .before .before .before .before .before .before .on-sheet .ensures) ∙ c .before .before .before .before .before .before .before .if1 .taken in
-    let code = sym (c .before .before .before .before .before .before .is-dir .ensures) ∙ c .before .before .before .before .before .if2 .taken in
-    simp (on, code, eq-eqb _ _ (c .if3 .taken))
+    let t = c .before .before .before .before .before in
+    simp (sym (t .before .before .before .on-sheet .ensures), sym (t .before .before .is-dir .ensures), t .before .if1 .taken, t .if2 .taken, eq-eqb _ _ (c .if3 .taken))
 
 returns-2 : tie.Need-returns-2
 unfolding cellFault
 returns-2 c =
-    let on = sym (c .before .before .before .before .before .before .before .before .on-sheet .ensures) ∙ c .before .before .before .before .before .before .before .if1 .taken in
-    let code = sym (c .before .before .before .before .before .before .is-dir .ensures) ∙ c .before .before .before .before .before .if2 .taken in
-    simp (on, code, ne-eqb _ _ (c .if3 .left))
+    let t = c .before .before .before .before .before in
+    simp (sym (t .before .before .before .on-sheet .ensures), sym (t .before .before .is-dir .ensures), t .before .if1 .taken, t .if2 .taken, ne-eqb _ _ (c .if3 .left))
 
 returns-3 : tie.Need-returns-3
 unfolding cellFault
-returns-3 c = simp (sym (c .before .before .before .on-sheet .ensures) ∙ c .before .before .if1 .taken, sym (c .before .is-dir .ensures) ∙ c .if2 .left)
+returns-3 c = simp (sym (c .before .before .before .on-sheet .ensures), sym (c .before .before .is-dir .ensures), c .before .if1 .taken, c .if2 .left)
 
 returns-4 : tie.Need-returns-4
 unfolding cellFault
-returns-4 c = simp (sym (c .before .on-sheet .ensures) ∙ c .if1 .left)
+returns-4 c = simp (sym (c .before .before .on-sheet .ensures), sym (c .before .is-dir .ensures), c .if1 .left)
 
 pub cell-fault-spec : {M : Type 1} → statement M
 cell-fault-spec =

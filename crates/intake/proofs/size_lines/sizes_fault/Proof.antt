@@ -1,12 +1,13 @@
 -- `sizes_fault` meets its contract.
 use native.Mathlib.Omega.{arith}
-use mathlib.Core.Path.{sym, _∙_}
+use mathlib.Core.Path.{_≡_, sym}
+use mathlib.Core.Bool.{true}
+use borrow.Author.Needs.{needs}
 use borrow.Author.Tests.{le-leb, lt-leb}
-use Rattle.intake.specs.Faults.{sizesFault}
-use Rattle.intake.proofs.FaultLaws.{sizes-fit}
+use Rattle.sheet.specs.Refusal.{sizesFit}
 use Rattle.sheet.proofs.Cells.{cells-most}
 use Rattle.sheet.proofs.Within.{rows-cols-most}
-use borrow.Author.Needs.{needs}
+use Rattle.intake.specs.Faults.{sizesFault}
 use Rattle.intake.proofs.size_lines.sizes_fault.Statement.{statement}
 use Rattle.intake.proofs.size_lines.sizes_fault.Tie as tie
 
@@ -17,29 +18,32 @@ depth-fits-requires : tie.Need-depth-fits-requires
 depth-fits-requires c κs = search needs
 
 mul-if3 : tie.Need-mul-if3
-mul-if3 c = let most = rows-cols-most _ _ (sym (c .before .before .before .before .sizes-fit .ensures) ∙ c .before .before .before .if1 .taken) in omega (arith, cells-most (most .0) (most .1))
+mul-if3 c =
+    let t = c .before in
+    let z = t .before .before .before .before .args .sizes in
+    let fit : sizesFit (z .rows) (z .cols) ≡ true = cc in
+    let most = rows-cols-most _ _ fit in
+    omega (arith, cells-most (most .0) (most .1))
 
 returns : tie.Need-returns
 unfolding sizesFault
 returns c =
-    let one = sym (c .before .before .before .before .before .sizes-fit .ensures) ∙ c .before .before .before .before .if1 .taken in
-    let two = sym (c .before .before .before .depth-fits .ensures) ∙ c .before .before .if2 .taken in
-    simp (one, two, le-leb _ _ (c .if3 .taken))
+    let t = c .before .before in
+    simp (sym (t .before .before .before .sizes-fit .ensures), sym (t .before .before .depth-fits .ensures), t .before .if1 .taken, t .if2 .taken, le-leb _ _ (c .if3 .taken))
 
 returns-2 : tie.Need-returns-2
 unfolding sizesFault
 returns-2 c =
-    let one = sym (c .before .before .before .before .before .sizes-fit .ensures) ∙ c .before .before .before .before .if1 .taken in
-    let two = sym (c .before .before .before .depth-fits .ensures) ∙ c .before .before .if2 .taken in
-    simp (one, two, lt-leb _ _ (c .if3 .left))
+    let t = c .before .before in
+    simp (sym (t .before .before .before .sizes-fit .ensures), sym (t .before .before .depth-fits .ensures), t .before .if1 .taken, t .if2 .taken, lt-leb _ _ (c .if3 .left))
 
 returns-3 : tie.Need-returns-3
 unfolding sizesFault
-returns-3 c = simp (sym (c .before .before .before .sizes-fit .ensures) ∙ c .before .before .if1 .taken, sym (c .before .depth-fits .ensures) ∙ c .if2 .left)
+returns-3 c = simp (sym (c .before .before .before .sizes-fit .ensures), sym (c .before .before .depth-fits .ensures), c .before .if1 .taken, c .if2 .left)
 
 returns-4 : tie.Need-returns-4
 unfolding sizesFault
-returns-4 c = simp (sym (c .before .sizes-fit .ensures) ∙ c .if1 .left)
+returns-4 c = simp (sym (c .before .before .sizes-fit .ensures), sym (c .before .depth-fits .ensures), c .if1 .left)
 
 pub sizes-fault-spec : {M : Type 1} → statement M
 sizes-fault-spec =

@@ -30,6 +30,13 @@ bounded rows cols e =
     record { rows-most = m .0; cols-most = m .1; cols-some = cols-some rows cols e; cells-fit = cells-most (m .0) (m .1) }
 
 module _ (S : Sheet) (L : Lent) where
+  -- what a direct call promises
+  abbrev Answered : Outcome → Lent → Type 0
+  Answered r L′ = (r ≡ outcome S L) × (L′ ≡ lentAfter S L)
+
+  answered : {r : Outcome} {L′ : Lent} → r ≡ outcome S L → L′ ≡ lentAfter S L → Answered r L′
+  answered e l = (e, l)
+
   abbrev fits : Bool
   fits = both (sizesFit (S .grid .rows) (S .grid .cols)) (both (depthFits (S .depth)) (slicesFit (S .grid) L))
 
@@ -65,21 +72,21 @@ module _ (S : Sheet) (L : Lent) where
   fits-by : (a b c : Bool) → sizesFit (S .grid .rows) (S .grid .cols) ≡ a → depthFits (S .depth) ≡ b → slicesFit (S .grid) L ≡ c → fits ≡ both a (both b c)
   fits-by a b c e f g = rw (e, f, g)
 
-  pub refused-1 : sizesFit (S .grid .rows) (S .grid .cols) ≡ false → (Refused 1 0 ≡ outcome S L) × (L ≡ lentAfter S L)
+  pub refused-1 : sizesFit (S .grid .rows) (S .grid .cols) ≡ false → Answered (Refused 1 0) L
   refused-1 e =
       let o = outcome-by false (depthFits (S .depth)) (slicesFit (S .grid) L) e refl refl in
-      (sym o, lent-kept 1 0 o (fits-by false (depthFits (S .depth)) (slicesFit (S .grid) L) e refl refl))
+      answered (sym o) (lent-kept 1 0 o (fits-by false (depthFits (S .depth)) (slicesFit (S .grid) L) e refl refl))
 
-  pub refused-2 : sizesFit (S .grid .rows) (S .grid .cols) ≡ true → depthFits (S .depth) ≡ false → (Refused 2 0 ≡ outcome S L) × (L ≡ lentAfter S L)
+  pub refused-2 : sizesFit (S .grid .rows) (S .grid .cols) ≡ true → depthFits (S .depth) ≡ false → Answered (Refused 2 0) L
   refused-2 e f =
       let o = outcome-by true false (slicesFit (S .grid) L) e f refl in
-      (sym o, lent-kept 2 0 o (fits-by true false (slicesFit (S .grid) L) e f refl))
+      answered (sym o) (lent-kept 2 0 o (fits-by true false (slicesFit (S .grid) L) e f refl))
 
   pub refused-3 : sizesFit (S .grid .rows) (S .grid .cols) ≡ true → depthFits (S .depth) ≡ true → slicesFit (S .grid) L ≡ false
-      → (Refused 3 0 ≡ outcome S L) × (L ≡ lentAfter S L)
+      → Answered (Refused 3 0) L
   refused-3 e f g =
       let o = outcome-by true true false e f g in
-      (sym o, lent-kept 3 0 o (fits-by true true false e f g))
+      answered (sym o) (lent-kept 3 0 o (fits-by true true false e f g))
 
   module _ (e : sizesFit (S .grid .rows) (S .grid .cols) ≡ true) (f : depthFits (S .depth) ≡ true) (g : slicesFit (S .grid) L ≡ true) where
     -- enough places are lent
@@ -123,11 +130,11 @@ module _ (S : Sheet) (L : Lent) where
     -- after checks 4 to 7
     pub labelled : {r : Outcome} {areas labels work : List ℕ} → r ≡ outcomeOn (S .grid) → areas ≡ ifAccepted r (areasOf S) (L .areas)
         → labels ≡ ifAccepted r (labelsOf S) (L .labels) → work ≡ replicate (8 * cells (S .grid)) 0 ++ drop (8 * cells (S .grid)) (L .work)
-        → (r ≡ outcome S L) × (record { areas = areas; labels = labels; work = work } ≡ lentAfter S L)
+        → Answered r (record { areas = areas; labels = labels; work = work })
     unfolding lentAfter
     labelled {r} {areas} {labels} {work} o a l w =
         let same : r ≡ outcome S L = o ∙ sym (outcome-by true true true e f g) in
-        (same, go (outcome S L) same fits (fits-by true true true e f g))
+        answered same (go (outcome S L) same fits (fits-by true true true e f g))
       where
         go : (x : Outcome) → r ≡ x → (b : Bool) → b ≡ true
             → _≡_ {A = Lent} (record { areas = areas; labels = labels; work = work }) (record {

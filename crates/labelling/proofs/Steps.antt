@@ -1,11 +1,11 @@
 -- What each step of labelling hands to the next.
 use mathlib.Core.Path.{_≡_, refl, sym, ap, _∙_, subst, fun-ext}
 use mathlib.Core.Bool.{true}
-use mathlib.Core.List.{List, append-nil}
+use mathlib.Core.List.{List}
 use Prim.Native.Nat.{ℕ, _+_, _*_, _-_, _<_, _≤_}
 use native.Mathlib.Decide.{decLt}
 use native.Mathlib.Omega.{arith}
-use lib.ListN.{length, getD, take, drop, replicate, length-take, length-replicate, getD-replicate, List·getD-append, List·getD-eq-default, drop-of-length-le}
+use lib.ListN.{length, getD, take, drop, replicate, length-take, length-replicate, getD-replicate, List·getD-eq-default}
 use lib.Seq.{getD-take}
 use Rattle.sheet.specs.declared.Outcome.the-variants.{Accepted}
 use Rattle.sheet.specs.Sheet.{Grid, Sheet, cells, inside, Sized}
@@ -138,17 +138,11 @@ module _ (S : Sheet) {areas work : List ℕ} {queued : ℕ} (accepted : outcomeO
       f network-of ∙ (rw (r .outlet-first, e) (basin-labels S (the-basin S accepted) labels room))
 
 -- ---- the work places
-pub cleared : (n : ℕ) (old : List ℕ) {work : List ℕ} → work ≡ written (replicate (8 * n) 0) old → 8 * n ≤ length old → Cleared n work
-cleared n old {work} e l = rw e (record {
-  room = rw (written-length (replicate (8 * n) 0) old (rw length-replicate l)) l;
-  zero = λ j k. List·getD-append (replicate (8 * n) 0) (drop (length (replicate (8 * n) 0)) old) 0 j (rw length-replicate k) ∙ getD-replicate (8 * n) j 0 0 k;
+pub cleared : (n : ℕ) (old : List ℕ) {work : List ℕ} → length old ≡ 8 * n → work ≡ replicate (length old) 0 → Cleared n work
+cleared n old long e = rw (e, long) (record {
+  room = rw length-replicate (omega arith);
+  zero = λ j k. getD-replicate (8 * n) j 0 0 k;
 })
-
--- a slice that is written whole
-pub written-whole : (n : ℕ) (old : List ℕ) → length old ≡ n → written (replicate n 0) old ≡ replicate n 0
-written-whole n old e =
-    let l : length old ≤ length (replicate {A = ℕ} n 0) = rw length-replicate (omega arith) in
-    rw (drop-of-length-le old l, append-nil)
 
 pub other-work : {S : Sheet} {areas labels work work′ : List ℕ} → Fitting S (record { areas = areas; labels = labels; work = work }) → length work′ ≡ length work
     → Fitting S (record { areas = areas; labels = labels; work = work′ })

@@ -5,9 +5,12 @@ use mathlib.Core.List.{List}
 use Prim.Native.Nat.{ℕ, _*_, _≤_}
 use lib.ListN.{length}
 use Rattle.sheet.specs.Sheet.{Grid, Sheet, grid, cells, Sized}
-use Rattle.sheet.specs.Refusal.{Lent, outcomeOn}
+use Rattle.sheet.specs.Label.{areasOf, labelsOf}
+use Rattle.sheet.specs.Refusal.{Lent, outcomeOn, ifAccepted}
 use Rattle.sheet.specs.declared.Outcome.the-variants.{Accepted}
 use Rattle.upstream.specs.Search.{Drained, SingleOutlet}
+use Rattle.drainage.specs.declared.Inspection.{Inspection}
+use Rattle.order.specs.Places.{Arranged}
 
 abbrev pub sheet : ℕ → ℕ → ℕ → List ℕ → Sheet
 sheet rows cols depth dirs = record { grid = grid rows cols dirs; depth = depth }
@@ -28,3 +31,11 @@ pub record Inspected (G : Grid) (work : List ℕ) (queued : ℕ) : Type 0 where
   pub accepted : outcomeOn G ≡ Accepted
   pub drained : Drained G work queued
   pub single : SingleOutlet G work
+
+-- what labelling leaves before the work places are cleared: L was lent, and L′ is what the slices hold then
+pub record LabelledInOrder (S : Sheet) (L L′ : Lent) (r : Inspection) : Type 0 where
+  pub outcome : r .outcome ≡ outcomeOn (S .grid)
+  pub areas : L′ .areas ≡ ifAccepted (r .outcome) (areasOf S) (L .areas)
+  pub labels : L′ .labels ≡ ifAccepted (r .outcome) (labelsOf S) (L .labels)
+  -- of an accepted sheet, the order along rivers of as many cells as were queued
+  pub order : r .outcome ≡ Accepted → Arranged (S .grid) (L′ .areas) (L′ .work) (r .queued)

@@ -11,23 +11,24 @@ ghost use lib.ListN.{length, replicate};
 ghost use Rattle.sheet.specs.Sheet.{grid, cells};
 ghost use Rattle.sheet.specs.Label.{areasOf, labelsOf};
 ghost use Rattle.sheet.specs.Refusal.{written, ifAccepted, both, outcomeOn, outcome, lentAfter};
-ghost use Rattle.labelling.specs.Labelling.{sheet, lent, Fitting, Inspected};
+ghost use Rattle.labelling.specs.Labelling.{sheet, lent, Fitting, Inspected, LabelledInOrder};
+ghost use Rattle.order.specs.Places.{Arranged};
 
 // How many mouths of a unit are taken, and the least area of a mouth that counts.
 const SPLIT: usize = 4;
 
 const LEAST_AREA: u32 = 1;
 
-// Sets the first n places to 0.
-fn clear_places(places: &mut [u32], n: usize)
-    requires { ⌜ n ≤ length (now places) ⌝ }
-    ensures { λ _. ⌜ now (places .exit) ≡ written (replicate n 0) (now (places .entry)) ⌝ }
+// Sets all places to 0.
+fn clear_places(places: &mut [u32])
+    ensures { λ _. ⌜ now (places .exit) ≡ replicate (length (now (places .entry))) 0 ⌝ }
 {
-    for i in 0..n {
+    for i in 0..places.len() {
         places[i] = 0;
     }
 }
 
+// Sets the labels of the first n cells to 0.
 fn clear_labels(labels: &mut [u64], n: usize)
     requires { ⌜ n ≤ length (now labels) ⌝ }
     ensures { λ _. ⌜ now (labels .exit) ≡ written (replicate n 0) (now (labels .entry)) ⌝ }
@@ -37,7 +38,7 @@ fn clear_labels(labels: &mut [u64], n: usize)
     }
 }
 
-// Writes the areas and labels of an accepted sheet.
+// Writes the areas and labels of an accepted sheet, and leaves its order along rivers in the work places.
 fn write_labels(
     rows: usize,
     cols: usize,
@@ -52,6 +53,7 @@ fn write_labels(
     requires { ⌜ Inspected (grid rows cols (now dirs)) (now work) queued ⌝ }
     ensures areas { λ _. ⌜ now (areas .exit) ≡ written (areasOf (sheet rows cols depth (now (dirs .entry)))) (now (areas .entry)) ⌝ }
     ensures labels { λ _. ⌜ now (labels .exit) ≡ written (labelsOf (sheet rows cols depth (now (dirs .entry)))) (now (labels .entry)) ⌝ }
+    ensures order { λ _. ⌜ Arranged (grid rows cols (now (dirs .entry))) (now (areas .exit)) (now (work .exit)) queued ⌝ }
 {
     drainage::measure::measure(dirs, rows, cols, work, queued, areas);
     order::positions::arrange(dirs, rows, cols, areas, queued, work);
@@ -72,7 +74,7 @@ fn write_labels(
     );
 }
 
-// Writes areas and labels, if the sheet is accepted.
+// The same, if the sheet is accepted.
 fn write_if_accepted(
     found: Inspection,
     rows: usize,
@@ -87,6 +89,7 @@ fn write_if_accepted(
     requires { ⌜ (found .outcome ≡ Outcome.Accepted → Inspected (grid rows cols (now dirs)) (now work) (found .queued)) ⌝ }
     ensures areas { λ _. ⌜ now (areas .exit) ≡ ifAccepted (found .outcome) (areasOf (sheet rows cols depth (now (dirs .entry)))) (now (areas .entry)) ⌝ }
     ensures labels { λ _. ⌜ now (labels .exit) ≡ ifAccepted (found .outcome) (labelsOf (sheet rows cols depth (now (dirs .entry)))) (now (labels .entry)) ⌝ }
+    ensures order { λ _. ⌜ (found .outcome ≡ Outcome.Accepted → Arranged (grid rows cols (now (dirs .entry))) (now (areas .exit)) (now (work .exit)) (found .queued)) ⌝ }
 {
     let outcome = found.outcome;
     let queued = found.queued;
@@ -94,6 +97,26 @@ fn write_if_accepted(
         Outcome::Accepted => write_labels(rows, cols, depth, dirs, queued, areas, labels, work),
         Outcome::Refused(_, _) => {}
     }
+}
+
+// Labels a sheet that passed checks 1 to 3. Of an accepted sheet the order along rivers is left in the work places, with
+// the number of its cells.
+fn label_in_order(
+    rows: usize,
+    cols: usize,
+    depth: usize,
+    dirs: &[u8],
+    areas: &mut [u32],
+    labels: &mut [u64],
+    work: &mut [u32],
+) -> Inspection
+    requires { ⌜ Fitting (sheet rows cols depth (now dirs)) (lent (now areas) (now labels) (now work)) ⌝ }
+    ensures { λ r. ⌜ LabelledInOrder (sheet rows cols depth (now (dirs .entry))) (lent (now (areas .entry)) (now (labels .entry)) (now (work .entry))) (lent (now (areas .exit)) (now (labels .exit)) (now (work .exit))) r ⌝ }
+{
+    clear_places(work);
+    let found = drainage::inspect::inspect(dirs, rows, cols, work);
+    write_if_accepted(found, rows, cols, depth, dirs, areas, labels, work);
+    found
 }
 
 // Labels a sheet that passed checks 1 to 3. The work places are 0 afterwards.
@@ -112,11 +135,8 @@ fn label_fitting(
     ensures labels { λ r. ⌜ now (labels .exit) ≡ ifAccepted r (labelsOf (sheet rows cols depth (now (dirs .entry)))) (now (labels .entry)) ⌝ }
     ensures work { λ _. ⌜ now (work .exit) ≡ replicate (8 * (rows * cols)) 0 ⌝ }
 {
-    let places = 8 * (rows * cols);
-    clear_places(work, places);
-    let found = drainage::inspect::inspect(dirs, rows, cols, work);
-    write_if_accepted(found, rows, cols, depth, dirs, areas, labels, work);
-    clear_places(work, places);
+    let found = label_in_order(rows, cols, depth, dirs, areas, labels, work);
+    clear_places(work);
     found.outcome
 }
 
@@ -151,8 +171,10 @@ pub fn label(
     ensures outcome { λ r. ⌜ r ≡ outcome (sheet rows cols depth (now (dirs .entry))) (lent (now (areas .entry)) (now (labels .entry)) (now (work .entry))) ⌝ }
     ensures lent { λ _. ⌜ lent (now (areas .exit)) (now (labels .exit)) (now (work .exit)) ≡ lentAfter (sheet rows cols depth (now (dirs .entry))) (lent (now (areas .entry)) (now (labels .entry)) (now (work .entry))) ⌝ }
 {
-    if checks::sizes_fit(rows, cols) {
-        if checks::depth_fits(depth) {
+    let sizes_fit = checks::sizes_fit(rows, cols);
+    let depth_fits = checks::depth_fits(depth);
+    if sizes_fit {
+        if depth_fits {
             let n = rows * cols;
             if slices_fit(n, dirs.len(), areas.len(), labels.len(), work.len()) {
                 let places = 8 * n;

@@ -1,3 +1,6 @@
+use mathlib.Core.Path.{_≡_}
+use Prim.Native.Nat.{ℕ}
+use native.Mathlib.Omega.{arith}
 use borrow.Author.Needs.{needs}
 use Rattle.labelling.proofs.write_if_accepted.Statement.{statement}
 use Rattle.labelling.proofs.write_if_accepted.Tie as tie
@@ -24,10 +27,12 @@ same-length-3 : tie.Need-same-length-3
 same-length-3 c = search needs
 
 returns : tie.Need-returns
-returns c = rw (c .before .before .before .before .before .before .before .before .before .before .enum-told .given .1) (c .before .before .before .before .before .before .write-labels .ensures)
+returns c =
+    let w = c .before .before .before .before .before .before .write-labels .ensures in
+    rw (c .before .before .before .before .before .before .before .before .before .before .enum-told .given .1) (w .0, (w .1 .0, λ e. w .1 .1))
 
 returns-2 : tie.Need-returns-2
-returns-2 c = search needs
+returns-2 c = (search needs, (search needs, λ e. let z : _≡_ {A = ℕ} 0 1 = cc in absurd (omega arith)))
 
 pub write-if-accepted-spec : {M : Type 1} → statement M
 write-if-accepted-spec =

@@ -111,7 +111,7 @@ returns c =
     let S = sheet (a .rows) (a .cols) (a .depth) (a .dirs .now) in
     let areas = c .before .before .before .before .before .before .before .before .before .before .before .before .before .before .before .before .before .before .before .before .before .measure .ensures .1 S refl in
     let e = rw (part-is (cellsPart * n) (a .queued), part-is (orderedSizesPart * n) (a .queued)) at (c .before .before .label-basin .ensures) in
-    (areas, labels-written S (p .1 .accepted) (network-in S (a .areas .now) areas) r (a .labels .now) (p .0 .labels) (c .before .before .before .before .before .before .before .before .before .before .clear-labels .ensures) e)
+    (areas, (labels-written S (p .1 .accepted) (network-in S (a .areas .now) areas) r (a .labels .now) (p .0 .labels) (c .before .before .before .before .before .before .before .before .before .before .clear-labels .ensures) e, r))
 
 pub write-labels-spec : {M : Type 1} → statement M
 write-labels-spec =

@@ -1,0 +1,50 @@
+-- `label_in_order` meets its contract: each step hands the next what it asks.
+use mathlib.Core.Path.{_∙_}
+use Prim.Native.Nat.{_*_}
+use borrow.Author.Needs.{needs}
+use Rattle.labelling.proofs.Steps.{cleared, other-work, inspected}
+use Rattle.labelling.proofs.label_in_order.Statement.{statement}
+use Rattle.labelling.proofs.label_in_order.Tie as tie
+use Rattle.labelling.proofs.label_in_order.Reads as reads
+use Rattle.labelling.proofs.label_in_order.Lts as lts
+use Rattle.drainage.proofs.inspect.inspect.Reads as inspect-reads
+use Rattle.labelling.proofs.clear_places.Reads as clear-places-reads
+use Rattle.labelling.proofs.write_if_accepted.Reads as write-if-accepted-reads
+
+clear-places-requires : tie.Need-clear-places-requires
+clear-places-requires c κs = search needs
+
+inspect-requires : tie.Need-inspect-requires
+inspect-requires c κs =
+    let s = c .before .before .before .before .before .before .before .before .before in
+    (s .pre .sized, cleared (s .args .rows * s .args .cols) (s .args .work .now) (s .pre .work) (c .before .before .before .clear-places .ensures))
+
+write-if-accepted-requires : tie.Need-write-if-accepted-requires
+write-if-accepted-requires c κs =
+    (other-work (c .before .before .before .before .before .before .before .before .before .before .before .before .before .before .before .pre) (c .before .before .before .before .before .inspect .kept .1 .1 .1 .0 ∙ c .before .before .before .before .before .before .before .before .before .clear-places .kept .0), inspected (c .before .before .before .before .before .inspect .ensures))
+
+same-length : tie.Need-same-length
+same-length c = search needs
+
+same-length-2 : tie.Need-same-length-2
+same-length-2 c = search needs
+
+same-length-3 : tie.Need-same-length-3
+same-length-3 c = search needs
+
+returns : tie.Need-returns
+returns c =
+    let w = c .before .before .before .before .before .before .write-if-accepted .ensures in
+    record { outcome = c .before .before .before .before .before .before .before .before .before .before .before .before .inspect .ensures .outcome; areas = w .0; labels = w .1 .0; order = w .1 .1 }
+
+pub label-in-order-spec : {M : Type 1} → statement M
+label-in-order-spec =
+    tie.close
+    (tie.spec
+    clear-places-requires
+    inspect-requires
+    write-if-accepted-requires
+    same-length
+    same-length-2
+    same-length-3
+    returns)

@@ -1,37 +1,47 @@
-// The tests of checks 1, 2 and 4 to 7: sizes, depth, and the first cell in reading order with a fault.
-use sheet::Fault;
+// The tests of checks 1, 2 and 4 to 7: sizes, depth, and the first cell in reading order that a check looks for.
+pub mod codes;
+
 use sheet::Found;
 ghost use mathlib.Core.Path.{_≡_};
 ghost use Prim.Native.Nat.{_+_, _*_, _≤_};
 ghost use lib.ListN.{length};
-ghost use Rattle.sheet.specs.Sheet.{grid, OnSheet, Sized, first};
-ghost use Rattle.sheet.specs.Refusal.{within, sizesFit, depthFits, faultAt};
+ghost use Rattle.sheet.specs.Sheet.{grid, first};
+ghost use Rattle.directions.specs.Sizes.{OnSheet, Sized};
+ghost use Rattle.sheet.specs.Refusal.{within, sizesFit, depthFits};
+ghost use Rattle.checks.specs.Search.{isTarget};
 
-// Whether the cell in a row and a column has a fault.
-fn has_fault(
+// What a search in reading order looks for: an inside cell, an inside cell that a search upstream did not reach, an outlet from a
+// cell on.
+pub enum Target {
+    Inside,
+    Unreached,
+    OutletFrom(usize),
+}
+
+// Whether the cell in a row and a column is one that is looked for.
+fn is_target(
     dirs: &[u8],
     rows: usize,
     cols: usize,
     reached: &[u32],
-    fault: Fault,
+    target: Target,
     row: usize,
     col: usize,
 ) -> bool
     requires { ⌜ Sized rows cols (now dirs) × OnSheet rows cols row col × (rows * cols ≤ length (now reached)) ⌝ }
-    ensures { λ r. ⌜ r ≡ faultAt (grid rows cols (now (dirs .entry))) (now (reached .entry)) fault (row * cols + col) ⌝ }
+    ensures { λ r. ⌜ r ≡ isTarget (grid rows cols (now (dirs .entry))) (now (reached .entry)) target (row * cols + col) ⌝ }
 {
     let cell = row * cols + col;
     let code = dirs[cell];
-    match fault {
-        Fault::BadCode => !directions::is_code(code),
-        Fault::Inside => code != 0,
-        Fault::Unreached => {
+    match target {
+        Target::Inside => code != 0,
+        Target::Unreached => {
             if code == 0 {
                 return false;
             }
             reached[cell] == 0
         }
-        Fault::OutletFrom(from) => {
+        Target::OutletFrom(from) => {
             if cell < from {
                 return false;
             }
@@ -40,15 +50,15 @@ fn has_fault(
     }
 }
 
-// The first cell in reading order that has a fault.
-pub fn first_fault(dirs: &[u8], rows: usize, cols: usize, reached: &[u32], fault: Fault) -> Found
+// The first cell in reading order that is looked for.
+pub fn first_target(dirs: &[u8], rows: usize, cols: usize, reached: &[u32], target: Target) -> Found
     requires { ⌜ Sized rows cols (now dirs) × (rows * cols ≤ length (now reached)) ⌝ }
-    ensures { λ r. ⌜ r ≡ first (faultAt (grid rows cols (now (dirs .entry))) (now (reached .entry)) fault) (rows * cols) ⌝ }
+    ensures { λ r. ⌜ r ≡ first (isTarget (grid rows cols (now (dirs .entry))) (now (reached .entry)) target) (rows * cols) ⌝ }
 {
     let mut found = Found::Nothing;
     'rows: for row in 0..rows {
         for col in 0..cols {
-            if has_fault(dirs, rows, cols, reached, fault, row, col) {
+            if is_target(dirs, rows, cols, reached, target, row, col) {
                 found = Found::At(row * cols + col);
                 break 'rows;
             }

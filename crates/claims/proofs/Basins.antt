@@ -10,7 +10,6 @@ use Rattle.sheet.specs.declared.Next.the-variants.{Outlet, To}
 use Rattle.sheet.specs.Water.{Passes, DrainsTo, here, there, onward, wayEnd}
 use Rattle.sheet.specs.Unit.{finished}
 use Rattle.sheet.specs.River.{heavier, donors, Run, river, Network}
-use Rattle.sheet.proofs.Faults.{is-inside}
 use Rattle.claims.specs.Basin.{Ends, Forest, Basin, ends-here, ends-after}
 use Rattle.claims.specs.Demand.{Shares, OneOutlet, DemandThree, OutletRule}
 use Rattle.claims.specs.Parting.{PartAt, RuleAt}

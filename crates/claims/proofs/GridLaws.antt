@@ -12,7 +12,6 @@ use Rattle.sheet.specs.Refusal.{undrained}
 use Rattle.sheet.specs.Area.{count, sumOver, drainsInto, weight, area}
 use Rattle.sheet.specs.Sheet.{cells, inside, next, Grid, Sheet}
 use Rattle.sheet.proofs.Cells.{inside-lt, next-goes}
-use Rattle.sheet.proofs.Faults.{is-inside}
 use Rattle.claims.specs.Basin.{Ends, Forest}
 use Rattle.claims.specs.Bounds.{sum, ComesToOutlet, NeverComes, FuelIsEnough}
 use Rattle.claims.proofs.Lawful.{passes-true}

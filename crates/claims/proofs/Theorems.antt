@@ -18,7 +18,6 @@ use Rattle.sheet.specs.Area.{area}
 use Rattle.sheet.specs.River.{network, least}
 use Rattle.sheet.specs.Refusal.{outcome, written, lentAfter, Lent}
 use Rattle.sheet.specs.Sheet.{next, Sheet}
-use Rattle.sheet.proofs.Faults.{is-inside}
 use Rattle.claims.specs.Demand.{Inside, digitsAt, DemandThreeOf, OutletRuleOf, Shares, DemandThree, OutletRule}
 use Rattle.claims.specs.Flow.{asked, FlowMeaning}
 use Rattle.claims.specs.Bounds.{RiversAreWhole, AreaBounds, LabelBounds}

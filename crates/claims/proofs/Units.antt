@@ -12,7 +12,6 @@ use Rattle.sheet.specs.Water.{Passes, Drains, DrainsTo, here, there, drained, d
 use Rattle.sheet.specs.Unit.{finished, taken}
 use Rattle.sheet.specs.Label.{placeOf, label, Place}
 use Rattle.sheet.specs.River.{Run, upstream, river, Network, stem}
-use Rattle.sheet.proofs.Faults.{is-inside}
 use Rattle.claims.specs.Demand.{Shares, OneOutlet}
 use Rattle.claims.specs.Parting.{Begins, begins-none, begins-on}
 use Rattle.claims.specs.Runs.{Chain, chain-stem, chain-mouth, Headed, headed-none, headed-stem}

@@ -13,6 +13,7 @@ use Rattle.sheet.specs.River.{network, river, least, split}
 use Rattle.sheet.specs.Flow.{isLabel}
 use Rattle.sheet.specs.Refusal.{outcome, written, ifAccepted, lentAfter, Lent}
 use Rattle.sheet.specs.Sheet.{cells, inside, Sheet}
+use Rattle.sheet.proofs.Lists.{written-at}
 use Rattle.sheet.proofs.Digits.{digits-number, number-fits}
 use Rattle.sheet.proofs.Within.{depth-most, digits-label}
 use Rattle.sheet.proofs.Cells.{inside-lt}
@@ -23,23 +24,6 @@ use Rattle.claims.proofs.Mouths.{label-at-most, label-range}
 use Rattle.claims.proofs.Basins.{drain, lawful, own-outlet}
 use Rattle.claims.proofs.Units.{digitsIn}
 use Rattle.claims.proofs.Sheets.{accepted-passed, passed-on, basin, Passed}
-
-module _ (f : ℕ → ℕ) where
-  pub length-list : (i m : ℕ) → length (listFrom f i m) ≡ m
-  unfolding listFrom
-  length-list i zero = refl
-  length-list i (suc m) = ap suc (length-list (suc i) m)
-
-  list-at : (i m k : ℕ) → k < m → getD (listFrom f i m) k 0 ≡ f (i + k)
-  unfolding listFrom
-  list-at i zero k l = absurd (omega arith)
-  list-at i (suc m) zero l = ap f (omega arith)
-  list-at i (suc m) (suc k) l = list-at (suc i) m k (omega arith) ∙ ap f (omega arith)
-
-  -- what stands for a cell, whatever the slice held before
-  pub written-at : (n c : ℕ) (old : List ℕ) → c < n → getD (written (listFrom f 0 n) old) c 0 ≡ f c
-  written-at n c old l =
-      List·getD-append (listFrom f 0 n) (drop (length (listFrom f 0 n)) old) 0 c (rw (length-list 0 n) l) ∙ list-at 0 n c l ∙ ap f (omega arith)
 
 -- where there is one outlet, an inside cell's digits start from it
 pub own-digits : (S : Sheet) → Basin (network S) (Inside S) (outlet (S .grid)) → (c : ℕ) → Inside S c

@@ -1,11 +1,13 @@
-// The fixed table of steps, where a cell's water goes, and donors.
+// The fixed table of steps, where a cell's water goes, and the neighbours one step back.
 use sheet::End;
 use sheet::Next;
 use sheet::Step;
 ghost use mathlib.Core.Path.{_≡_};
 ghost use Prim.Native.Nat.{_+_, _*_, _<_};
-ghost use Rattle.sheet.specs.Direction.{stepAt, stepOf, isCode, Near, Short, movedBy, stepEnd};
-ghost use Rattle.sheet.specs.Sheet.{grid, OnSheet, Sized, next, isOutlet, donorAgainst};
+ghost use Rattle.sheet.specs.Direction.{stepOf, isCode, movedBy, stepEnd};
+ghost use Rattle.sheet.specs.Sheet.{grid, next, isOutlet};
+ghost use Rattle.directions.specs.Sizes.{OnSheet, Sized};
+ghost use Rattle.directions.specs.Steps.{stepAt, Near, Short, neighbourAgainst};
 
 // The eight codes from east on, each an eighth of a turn clockwise from the one before: the step back is four entries on.
 const STEPS: [Step; 8] = [
@@ -162,10 +164,17 @@ pub fn is_outlet(dirs: &[u8], rows: usize, cols: usize, row: usize, col: usize) 
     }
 }
 
-// The donor of a cell against the k-th step of the table: the cell one step back, if that step is its own.
-pub fn donor_at(dirs: &[u8], rows: usize, cols: usize, row: usize, col: usize, k: usize) -> End
+// The neighbour of a cell against the k-th step of the table: the cell one step back, if that step is its own. Of an inside cell it is a donor.
+pub fn neighbour_against(
+    dirs: &[u8],
+    rows: usize,
+    cols: usize,
+    row: usize,
+    col: usize,
+    k: usize,
+) -> End
     requires { ⌜ Sized rows cols (now dirs) × OnSheet rows cols row col × (k < 8) ⌝ }
-    ensures { λ r. ⌜ r ≡ donorAgainst (grid rows cols (now (dirs .entry))) row col k ⌝ }
+    ensures { λ r. ⌜ r ≡ neighbourAgainst (grid rows cols (now (dirs .entry))) row col k ⌝ }
 {
     let back = step_at((k + 4) % 8);
     match step_end(rows, cols, row, col, back) {

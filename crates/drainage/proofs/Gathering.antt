@@ -17,7 +17,7 @@ use Rattle.sheet.specs.declared.Next.the-variants.{Outlet, To}
 use Rattle.sheet.specs.Water.{passes, onward}
 use Rattle.sheet.specs.Refusal.{written}
 use Rattle.sheet.proofs.Cells.{outlet-not-to}
-use Rattle.upstream.specs.Work.{placed, rankOf, receiverOf, nextOfNumber, KeptFrom}
+use Rattle.upstream.specs.Work.{queuedAt, rankOf, receiverOf, nextOfNumber, KeptFrom}
 use Rattle.upstream.specs.Search.{Item, Queue}
 use Rattle.drainage.specs.Total.{total, nextIn, valueAt, Gathers, Adds, totalsIn, added}
 use Rattle.claims.proofs.Sums.{sum-same, sum-one, sum-most}
@@ -77,7 +77,7 @@ module _ {n : ℕ} {work : List ℕ} {queued : ℕ} (q : Queue n work queued) wh
 
   module _ (i : ℕ) (on : i < queued) where
     abbrev x : ℕ
-    x = placed work i
+    x = queuedAt work i
 
     item : Item n work i
     item = q .item i on
@@ -142,7 +142,7 @@ module _ {n : ℕ} {work : List ℕ} {queued : ℕ} {totals₀ : List ℕ} (g : 
 
   module _ {i : ℕ} {totals : List ℕ} (on : i < queued) (h : Gathered n work (i + 1) totals₀ totals) where
     abbrev cell : ℕ
-    cell = placed work i
+    cell = queuedAt work i
 
     it : Item n work i
     it = g .queue .item i on

@@ -10,13 +10,13 @@ use Rattle.sheet.specs.Sheet.{Grid, cells, isOutlet}
 use Rattle.sheet.specs.Refusal.{written}
 use Rattle.sheet.proofs.Cells.{inside-lt}
 use Rattle.claims.proofs.Counts.{count-le}
-use Rattle.upstream.specs.Work.{ranksPart, receiversPart, sizesPart, positionsPart, placed, rankOf, receiverOf, sizeAt, isReached, KeptFrom, withSizes}
+use Rattle.upstream.specs.Work.{ranksPart, receiversPart, sizesPart, positionsPart, queuedAt, rankOf, receiverOf, sizeAt, isReached, KeptFrom, withSizes}
 use Rattle.upstream.specs.Search.{Before, Queue, Upstream, OutletsFirst, Searched, Drained, SingleOutlet}
 use Rattle.drainage.specs.Total.{size, sizesOf}
 use Rattle.claims.proofs.Sums.{sum-same, count-sum}
 use Rattle.upstream.proofs.Queues.{item-at, queued-most}
 use Rattle.upstream.proofs.Upstream.{outlet-lt}
-use Rattle.drainage.proofs.Lists.{list-at}
+use Rattle.sheet.proofs.Lists.{list-at}
 use Rattle.drainage.proofs.Measures.{sizes-long}
 
 -- the places before the sizes agree
@@ -25,7 +25,7 @@ pub record SameSearch (n : ℕ) (work work′ : List ℕ) : Type 0 where
   pub same : (j : ℕ) → j < sizesPart * n → getD work′ j 0 ≡ getD work j 0
 
 module _ {n : ℕ} {work work′ : List ℕ} (s : SameSearch n work work′) where
-  place-same : (i : ℕ) → i < n → placed work′ i ≡ placed work i
+  place-same : (i : ℕ) → i < n → queuedAt work′ i ≡ queuedAt work i
   place-same i l = s .same i (omega arith)
 
   rank-same : (c : ℕ) → c < n → rankOf n work′ c ≡ rankOf n work c
@@ -46,7 +46,7 @@ module _ {n : ℕ} {work work′ : List ℕ} (s : SameSearch n work work′) whe
         ∙ sym (count-sum n (isReached n work′));
     item = λ i l.
         let t = q .item i l in
-        let c = placed work i in
+        let c = queuedAt work i in
         item-at n work′ i c (place-same i (omega (arith, queued-most q))) (t .on) (rank-same c (t .on) ∙ t .rank)
         (λ r e. before-same (t .before r (sym (receiver-same c (t .on)) ∙ e)));
     stands = λ c l h.
@@ -61,7 +61,7 @@ module _ {G : Grid} {work work′ : List ℕ} (s : SameSearch (cells G) work wor
     queue = queue-same s (u .queue);
     is-inside = λ i l. rw (place-same s i (omega (arith, queued-most (u .queue)))) (u .is-inside i l);
     receiver = λ i l.
-        rw (place-same s i (omega (arith, queued-most (u .queue)))) (receiver-same s (placed work i) (u .queue .item i l .on) ∙ u .receiver i l);
+        rw (place-same s i (omega (arith, queued-most (u .queue)))) (receiver-same s (queuedAt work i) (u .queue .item i l .on) ∙ u .receiver i l);
   }
 
   outlets-same : OutletsFirst G work → OutletsFirst G work′

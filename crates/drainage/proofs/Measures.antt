@@ -26,7 +26,8 @@ use Rattle.drainage.specs.Total.{total, nextIn, valueAt, Gathers, totals
 use Rattle.claims.proofs.Sums.{sum-alike, sum-zero, sum-ones, count-sum}
 use Rattle.upstream.proofs.Queues.{reached-yes, reached-no}
 use Rattle.upstream.proofs.Upstream.{receiver-of, way-inside}
-use Rattle.drainage.proofs.Lists.{filled, filled-at, filled-long, filled-kept, list-same, list-long}
+use Rattle.sheet.proofs.Lists.{length-list}
+use Rattle.drainage.proofs.Lists.{filled, filled-at, filled-long, filled-kept, list-same}
 use Rattle.drainage.proofs.Ways.{total-same, total-alike}
 
 next-number : (x : Next) → nextOfNumber (numbered x) ≡ x
@@ -109,7 +110,7 @@ module _ (G : Grid) where
 
 pub sizes-long : (G : Grid) → length (sizesOf G) ≡ cells G
 unfolding sizesOf
-sizes-long G = list-long (size G) 0 (cells G)
+sizes-long G = length-list (size G) 0 (cells G)
 
 module _ {G : Grid} {work : List ℕ} {queued : ℕ} (d : Drained G work queued) (old : List ℕ) where
   -- what the cells add by themselves to counts
@@ -127,7 +128,7 @@ module _ {G : Grid} {work : List ℕ} {queued : ℕ} (d : Drained G work queued)
   unfolding totalsIn
   totals-written g same =
       ap (λ (l : List ℕ). written l own) (list-same (total (cells G) (nextIn (cells G) work) (valueAt own)) g (cells G) (λ c l. totals-are c l ∙ same c))
-      ∙ ap (λ (l : List ℕ). listFrom g 0 (cells G) ++ l) (rw (list-long g 0 (cells G)) (filled-kept (ownValues (G .dirs) ones) (cells G) old))
+      ∙ ap (λ (l : List ℕ). listFrom g 0 (cells G) ++ l) (rw (length-list g 0 (cells G)) (filled-kept (ownValues (G .dirs) ones) (cells G) old))
 
   pub sizes-written : written (totalsIn (cells G) work (valueAt own)) own ≡ written (sizesOf G) old
   unfolding sizesOf
@@ -152,7 +153,7 @@ written-over new former old e =
 
 pub areas-long : (S : Sheet) → length (areasOf S) ≡ cells (S .grid)
 unfolding areasOf
-areas-long S = list-long (area S) 0 (cells (S .grid))
+areas-long S = length-list (area S) 0 (cells (S .grid))
 
 -- sizes that are copied into their part of the work places
 pub sizes-put : (n : ℕ) (work sizes areas old : List ℕ) → sizesPart * n ≤ length work → length sizes ≡ n → areas ≡ written sizes old

@@ -10,24 +10,25 @@ use native.Mathlib.Omega.{arith}
 use lib.Dec.{eqb, ltb}
 use lib.ListN.{getD, take, drop}
 use lib.Seq.{getD-take, getD-drop}
-use borrow.Author.Tests.{ltb-true, lt-ltb, le-ltb, le-leb, eq-eqb, ne-eqb, not-false}
+use borrow.Author.Tests.{ltb-true, lt-ltb, le-ltb, le-leb, lt-leb, eq-eqb, ne-eqb, not-false}
 use Rattle.sheet.specs.declared.Found.{Found}
 use Rattle.sheet.specs.declared.Found.the-variants.{At, Nothing}
-use Rattle.sheet.specs.declared.Fault.the-variants.{BadCode, Inside, Unreached, OutletFrom}
 use Rattle.sheet.specs.declared.Outcome.the-variants.{Accepted, Refused}
 use Rattle.sheet.specs.Direction.{isCode}
 use Rattle.sheet.specs.Sheet.{Grid, cells, dirAt, inside, isOutlet, next, first}
 use Rattle.sheet.specs.Water.{reachesOutlet}
 use Rattle.sheet.specs.Label.{outlet, cellFound}
-use Rattle.sheet.specs.Refusal.{both, badCode, undrained, outletFrom, faultAt, secondOutlet, refusedAt, outcomeOn}
+use Rattle.sheet.specs.Refusal.{both, badCode, undrained, outletFrom, secondOutlet, refusedAt, outcomeOn}
 use Rattle.sheet.proofs.Cells.{inside-lt, is-outlet}
 use Rattle.sheet.proofs.First.{first-same, none-first, at-first}
 use Rattle.claims.proofs.Counts.{not-true}
 use Rattle.claims.proofs.Fuel.{reaches-ends, ends-at}
+use Rattle.checks.specs.declared.Target.the-variants.{Inside, Unreached, OutletFrom}
+use Rattle.checks.specs.Search.{isTarget}
 use Rattle.drainage.specs.declared.Inspection.{Inspection}
-use Rattle.upstream.specs.Work.{ranksPart, sizesPart, placed, rankOf, KeptFrom}
+use Rattle.upstream.specs.Work.{ranksPart, sizesPart, queuedAt, rankOf, KeptFrom}
 use Rattle.upstream.specs.Search.{Searched, Coded, Drained, SingleOutlet, outletCount}
-use Rattle.drainage.specs.Inspect.{Inspected}
+use Rattle.drainage.specs.Inspect.{afterSearch, InspectionResult}
 use Rattle.claims.proofs.Sums.{sum-same, sum-one, count-sum}
 use Rattle.upstream.proofs.Upstream.{outlet-lt, way-inside}
 
@@ -49,22 +50,18 @@ module _ (G : Grid) where
   First test x = first test (cells G) ≡ x
 
   module _ (reached : List ℕ) where
-    pub bad-is : first (faultAt G reached BadCode) (cells G) ≡ first (badCode G) (cells G)
-    unfolding faultAt
-    bad-is = first-same (faultAt G reached BadCode) (badCode G) (cells G) (λ c l. refl)
+    pub inside-is : first (isTarget G reached Inside) (cells G) ≡ first (inside G) (cells G)
+    unfolding isTarget
+    inside-is = first-same (isTarget G reached Inside) (inside G) (cells G) (λ c l. refl)
 
-    pub inside-is : first (faultAt G reached Inside) (cells G) ≡ first (inside G) (cells G)
-    unfolding faultAt
-    inside-is = first-same (faultAt G reached Inside) (inside G) (cells G) (λ c l. refl)
-
-    pub outlet-from-is : (from : ℕ) → first (faultAt G reached (OutletFrom from)) (cells G) ≡ first (outletFrom G from) (cells G)
-    unfolding faultAt
-    outlet-from-is from = first-same (faultAt G reached (OutletFrom from)) (outletFrom G from) (cells G) (λ c l. refl)
+    pub outlet-from-is : (from : ℕ) → first (isTarget G reached (OutletFrom from)) (cells G) ≡ first (outletFrom G from) (cells G)
+    unfolding isTarget
+    outlet-from-is from = first-same (isTarget G reached (OutletFrom from)) (outletFrom G from) (cells G) (λ c l. refl)
 
     pub undrained-is : {work : List ℕ} {queued : ℕ} → Searched G work queued → ((c : ℕ) → c < cells G → getD reached c 0 ≡ rankOf (cells G) work c)
-        → first (faultAt G reached Unreached) (cells G) ≡ first (undrained G) (cells G)
-    unfolding faultAt undrained
-    undrained-is {work} s ranks = first-same (faultAt G reached Unreached) (undrained G) (cells G) (λ c l. rw (ranks c l, rank-none (rankOf (cells G) work c), s .reached c l) (go (inside G c) (reachesOutlet (next G) (cells G) c)))
+        → first (isTarget G reached Unreached) (cells G) ≡ first (undrained G) (cells G)
+    unfolding isTarget undrained
+    undrained-is {work} s ranks = first-same (isTarget G reached Unreached) (undrained G) (cells G) (λ c l. rw (ranks c l, rank-none (rankOf (cells G) work c), s .reached c l) (go (inside G c) (reachesOutlet (next G) (cells G) c)))
       where
         go : (a b : Bool) → both a (not (both a b)) ≡ both a (not b)
         go true b = refl
@@ -172,7 +169,7 @@ module _ (G : Grid) where
         record {
           is-outlet = rw same (a .passes);
           only = λ c o. only-one c o ∙ sym same;
-          first = ap (placed work) (sym e) ∙ s .upstream .queue .stands f (a .below) r .place ∙ sym same;
+          first = ap (queuedAt work) (sym e) ∙ s .upstream .queue .stands f (a .below) r .place ∙ sym same;
         }
 
   -- an inside cell whose water comes to an outlet: there is an outlet
@@ -188,19 +185,32 @@ module _ (G : Grid) where
 
 -- ---- the inspection
 
-pub inspected-refused : {G : Grid} {work work′ : List ℕ} {r : Inspection} {number place : ℕ} → r .outcome ≡ Refused number place → Refused number place ≡ outcomeOn G → KeptFrom (sizesPart * cells G) work work′ → Inspected G work work′ r
-inspected-refused e o kept = record {
+-- 4 and 5 are told before the search
+pub inspected-before : {G : Grid} {work : List ℕ} {r : Inspection} {number place : ℕ}
+    → r .outcome ≡ Refused number place → number < 6 → Refused number place ≡ outcomeOn G → InspectionResult G work work r
+inspected-before {number = number} e early o = record {
   outcome = e ∙ o;
+  unwritten = λ a. refl;
+  searched = λ a. absurd (true≢false (sym a ∙ ap afterSearch e ∙ lt-leb 6 number early));
   drained = λ a. absurd (not-accepted (sym e ∙ a));
   single = λ a. absurd (not-accepted (sym e ∙ a));
-  kept = kept;
+  kept = refl;
 }
+
+-- 6 and 7 after it
+after-both : (a b : Found) → afterSearch (refusedAt 6 a (refusedAt 7 b Accepted)) ≡ true
+unfolding refusedAt
+after-both (At c) b = refl
+after-both Nothing (At c) = refl
+after-both Nothing Nothing = refl
 
 -- a sheet of codes with an inside cell, searched
 pub inspected : {G : Grid} {work work′ : List ℕ} {r : Inspection} {x : ℕ} → First G (badCode G) Nothing → First G (inside G) (At x) → Searched G work′ (r .queued)
-    → r .outcome ≡ refusedAt 6 (first (undrained G) (cells G)) (refusedAt 7 (secondOutlet G) Accepted) → KeptFrom (sizesPart * cells G) work work′ → Inspected G work work′ r
+    → r .outcome ≡ refusedAt 6 (first (undrained G) (cells G)) (refusedAt 7 (secondOutlet G) Accepted) → KeptFrom (sizesPart * cells G) work work′ → InspectionResult G work work′ r
 inspected {G} {work} {work′} {r} {x} bad some s e kept = record {
   outcome = e ∙ refused-later G bad some;
+  unwritten = λ a. absurd (true≢false (sym (after-both (first (undrained G) (cells G)) (secondOutlet G)) ∙ ap afterSearch (sym e) ∙ a));
+  searched = λ a. s;
   drained = λ a. drained-of G s (none a .0) (coded-of G bad);
   single = λ a. let f = outlet-some G x is (all-reach G s (none a .0) x is) in single-of G (f .1) (none a .1) s;
   kept = kept;

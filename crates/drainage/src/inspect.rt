@@ -1,6 +1,6 @@
 // Refusals 4 to 7, in order, with the search upstream on the way.
 use crate::Inspection;
-use sheet::Fault;
+use checks::Target;
 use sheet::Found;
 use sheet::Outcome;
 use upstream::parts;
@@ -8,9 +8,10 @@ use upstream::search;
 ghost use mathlib.Core.Path.{_≡_};
 ghost use Prim.Native.Nat.{_*_, _≤_};
 ghost use lib.ListN.{length};
-ghost use Rattle.sheet.specs.Sheet.{grid, Sized};
+ghost use Rattle.sheet.specs.Sheet.{grid};
+ghost use Rattle.directions.specs.Sizes.{Sized};
 ghost use Rattle.sheet.specs.Refusal.{refusedAt, secondOutlet};
-ghost use Rattle.drainage.specs.Inspect.{Inspected};
+ghost use Rattle.drainage.specs.Inspect.{InspectionResult};
 ghost use Rattle.upstream.specs.Work.{Cleared};
 
 // The second outlet in reading order.
@@ -18,9 +19,9 @@ fn second_outlet(dirs: &[u8], rows: usize, cols: usize, reached: &[u32]) -> Foun
     requires { ⌜ Sized rows cols (now dirs) × (rows * cols ≤ length (now reached)) ⌝ }
     ensures { λ r. ⌜ r ≡ secondOutlet (grid rows cols (now (dirs .entry))) ⌝ }
 {
-    match checks::first_fault(dirs, rows, cols, reached, Fault::OutletFrom(0)) {
+    match checks::first_target(dirs, rows, cols, reached, Target::OutletFrom(0)) {
         Found::Nothing => Found::Nothing,
-        Found::At(c) => checks::first_fault(dirs, rows, cols, reached, Fault::OutletFrom(c + 1)),
+        Found::At(c) => checks::first_target(dirs, rows, cols, reached, Target::OutletFrom(c + 1)),
     }
 }
 
@@ -51,20 +52,20 @@ fn refused(number: u8, cell: usize) -> Inspection
 // reach, a second outlet.
 pub fn inspect(dirs: &[u8], rows: usize, cols: usize, work: &mut [u32]) -> Inspection
     requires { ⌜ Sized rows cols (now dirs) × Cleared (rows * cols) (now work) ⌝ }
-    ensures { λ r. ⌜ Inspected (grid rows cols (now (dirs .entry))) (now (work .entry)) (now (work .exit)) r ⌝ }
+    ensures { λ r. ⌜ InspectionResult (grid rows cols (now (dirs .entry))) (now (work .entry)) (now (work .exit)) r ⌝ }
 {
+    if let Found::At(c) = checks::codes::first_bad_code(dirs, rows, cols) {
+        return refused(4, c);
+    }
     let n = rows * cols;
     let ranks = parts::RANKS * n;
     let end = ranks + n;
-    if let Found::At(c) = checks::first_fault(dirs, rows, cols, &work[ranks..end], Fault::BadCode) {
-        return refused(4, c);
-    }
-    let Found::At(_) = checks::first_fault(dirs, rows, cols, &work[ranks..end], Fault::Inside)
+    let Found::At(_) = checks::first_target(dirs, rows, cols, &work[ranks..end], Target::Inside)
     else {
         return refused(5, 0);
     };
     let queued = search(dirs, rows, cols, work);
-    let unreached = checks::first_fault(dirs, rows, cols, &work[ranks..end], Fault::Unreached);
+    let unreached = checks::first_target(dirs, rows, cols, &work[ranks..end], Target::Unreached);
     let second = second_outlet(dirs, rows, cols, &work[ranks..end]);
     Inspection {
         outcome: refused_by(6, unreached, 7, second),

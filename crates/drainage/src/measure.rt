@@ -4,7 +4,8 @@ ghost use mathlib.Core.Path.{_≡_};
 ghost use mathlib.Core.List.{_++_};
 ghost use Prim.Native.Nat.{_*_, _≤_};
 ghost use lib.ListN.{length, take, drop};
-ghost use Rattle.sheet.specs.Sheet.{Sheet, grid, Sized};
+ghost use Rattle.sheet.specs.Sheet.{Sheet, grid};
+ghost use Rattle.directions.specs.Sizes.{Sized};
 ghost use Rattle.sheet.specs.Label.{areasOf, listFrom};
 ghost use Rattle.sheet.specs.Refusal.{written};
 ghost use Rattle.upstream.specs.Work.{positionsPart, receiverOf, withSizes};
@@ -53,7 +54,7 @@ fn gather(work: &[u32], n: usize, queued: usize, totals: &mut [u32])
 }
 
 // The areas of a drained sheet: of any sheet with this grid.
-pub fn areas(dirs: &[u8], rows: usize, cols: usize, work: &[u32], queued: usize, areas: &mut [u32])
+fn areas(dirs: &[u8], rows: usize, cols: usize, work: &[u32], queued: usize, areas: &mut [u32])
     requires { ⌜ Sized rows cols (now dirs) × Drained (grid rows cols (now dirs)) (now work) queued × (rows * cols ≤ length (now areas)) ⌝ }
     ensures { λ _. ⌜ ((S : Sheet) → S .grid ≡ grid rows cols (now (dirs .entry)) → now (areas .exit) ≡ written (areasOf S) (now (areas .entry))) ⌝ }
 {
@@ -73,7 +74,7 @@ fn copy(from: &[u32], n: usize, to: &mut [u32])
 }
 
 // The sizes of a drained sheet, into their part of the work places. They are gathered in the places lent for areas.
-pub fn sizes(
+fn sizes(
     dirs: &[u8],
     rows: usize,
     cols: usize,

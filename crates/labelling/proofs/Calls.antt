@@ -10,7 +10,8 @@ use lib.Seq.{length-take-le}
 use borrow.Author.Tests.{leb-true}
 use Rattle.sheet.specs.declared.Outcome.{Outcome}
 use Rattle.sheet.specs.declared.Outcome.the-variants.{Accepted, Refused}
-use Rattle.sheet.specs.Sheet.{Sheet, cells, Sized}
+use Rattle.sheet.specs.Sheet.{Sheet, cells}
+use Rattle.directions.specs.Sizes.{Sized}
 use Rattle.sheet.specs.Label.{areasOf, labelsOf}
 use Rattle.sheet.specs.Refusal.{Lent, both, written, sizesFit, depthFits, slicesFit, outcomeOn, outcome, ifAccepted, lentAfter}
 use Rattle.sheet.proofs.Cells.{cells-most}

@@ -19,7 +19,8 @@ use Rattle.claims.proofs.Runs.{In}
 use Rattle.claims.proofs.Lawful.{Test, yes, no, in-test}
 use Rattle.claims.proofs.Rivers.{river-covers, river-passes}
 use Rattle.claims.proofs.Basins.{lawful, drain, upstream-inside}
-use Rattle.claims.proofs.Written.{length-list, written-at, own-digits}
+use Rattle.sheet.proofs.Lists.{length-list, written-at}
+use Rattle.claims.proofs.Written.{own-digits}
 use Rattle.claims.proofs.Units.{digitsIn}
 use Rattle.rivers.specs.Labelled.{relabelled}
 use Rattle.rivers.proofs.Relabelled.{relabelled-is}

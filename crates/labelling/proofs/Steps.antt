@@ -8,20 +8,21 @@ use native.Mathlib.Omega.{arith}
 use lib.ListN.{length, getD, take, drop, replicate, length-take, length-replicate, getD-replicate, List·getD-eq-default}
 use lib.Seq.{getD-take}
 use Rattle.sheet.specs.declared.Outcome.the-variants.{Accepted}
-use Rattle.sheet.specs.Sheet.{Grid, Sheet, cells, inside, Sized}
+use Rattle.sheet.specs.Sheet.{Grid, Sheet, cells, inside}
+use Rattle.directions.specs.Sizes.{Sized}
 use Rattle.sheet.specs.Area.{area}
 use Rattle.sheet.specs.River.{network, networkBy, least, split, river}
 use Rattle.sheet.specs.Label.{areasOf, labelsOf, outlet, holds, label, number}
 use Rattle.sheet.specs.Refusal.{Lent, written, outcomeOn}
 use Rattle.claims.specs.Basin.{Basin}
-use Rattle.claims.proofs.Counts.{count-le}
 use Rattle.claims.proofs.Basins.{lawful}
 use Rattle.claims.proofs.Sheets.{basin, passed-on}
-use Rattle.claims.proofs.Written.{length-list, written-at}
-use Rattle.upstream.specs.Work.{sizesPart, withSizes, isReached}
+use Rattle.sheet.proofs.Lists.{length-list, written-at}
+use Rattle.upstream.specs.Work.{sizesPart, withSizes}
+use Rattle.upstream.proofs.Queues.{queued-most as queue-most}
 use Rattle.drainage.specs.declared.Inspection.{Inspection}
 use Rattle.upstream.specs.Search.{Drained}
-use Rattle.drainage.specs.Inspect.{Inspected as InspectedBy}
+use Rattle.drainage.specs.Inspect.{InspectionResult}
 use Rattle.upstream.specs.Work.{Cleared}
 use Rattle.drainage.specs.Total.{sizesOf}
 use Rattle.drainage.proofs.Kept.{with-sizes-same, drained-same, single-same, size-written}
@@ -59,7 +60,7 @@ module _ (S : Sheet) where
   network-in old e = ap (λ (f : ℕ → ℕ). networkBy (S .grid) f (least S) (split S)) (ap (areaIn (cells (S .grid))) e ∙ areas-in old)
 
 pub queued-most : {G : Grid} {work : List ℕ} {queued : ℕ} → Drained G work queued → queued ≤ cells G
-queued-most {G} {work} {queued} d = let q = d .searched .upstream .queue in omega (arith, q .counted, count-le (cells G) (isReached (cells G) work))
+queued-most d = queue-most (d .searched .upstream .queue)
 
 -- after the areas and sizes, the order along rivers can be worked out
 pub surveyed : {S : Sheet} {L : Lent} {queued : ℕ} {areas work : List ℕ} → Fitting S L → Inspected (S .grid) (L .work) queued
@@ -148,5 +149,5 @@ pub other-work : {S : Sheet} {areas labels work work′ : List ℕ} → Fitting 
     → Fitting S (record { areas = areas; labels = labels; work = work′ })
 other-work f e = record { sized = f .sized; depth-most = f .depth-most; areas = f .areas; labels = f .labels; work = e ∙ f .work }
 
-pub inspected : {G : Grid} {work work′ : List ℕ} {r : Inspection} → InspectedBy G work work′ r → r .outcome ≡ Accepted → Inspected G work′ (r .queued)
+pub inspected : {G : Grid} {work work′ : List ℕ} {r : Inspection} → InspectionResult G work work′ r → r .outcome ≡ Accepted → Inspected G work′ (r .queued)
 inspected i h = record { accepted = sym (i .outcome) ∙ h; drained = i .drained h; single = i .single h }

@@ -4,7 +4,8 @@ use mathlib.Core.Bool.{true}
 use mathlib.Core.List.{List}
 use Prim.Native.Nat.{ℕ, _*_, _≤_}
 use lib.ListN.{length}
-use Rattle.sheet.specs.Sheet.{Grid, Sheet, grid, cells, Sized}
+use Rattle.sheet.specs.Sheet.{Grid, Sheet, grid, cells}
+use Rattle.directions.specs.Sizes.{Sized}
 use Rattle.sheet.specs.Label.{areasOf, labelsOf}
 use Rattle.sheet.specs.Refusal.{Lent, outcomeOn, ifAccepted}
 use Rattle.sheet.specs.declared.Outcome.the-variants.{Accepted}

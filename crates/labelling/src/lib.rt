@@ -11,6 +11,7 @@ ghost use lib.ListN.{length, replicate};
 ghost use Rattle.sheet.specs.Sheet.{grid, cells};
 ghost use Rattle.sheet.specs.Label.{areasOf, labelsOf};
 ghost use Rattle.sheet.specs.Refusal.{written, ifAccepted, both, outcomeOn, outcome, lentAfter};
+ghost use Rattle.directions.specs.Sizes.{mostCells};
 ghost use Rattle.labelling.specs.Labelling.{sheet, lent, Fitting, Inspected, LabelledInOrder};
 ghost use Rattle.order.specs.Places.{Arranged};
 
@@ -142,7 +143,7 @@ fn label_fitting(
 
 // Enough places are lent for n cells.
 fn slices_fit(n: usize, dirs: usize, areas: usize, labels: usize, work: usize) -> bool
-    requires { ⌜ n ≤ 65536 ⌝ }
+    requires { ⌜ n ≤ mostCells ⌝ }
     ensures { λ r. ⌜ r ≡ both (leb n dirs) (both (leb n areas) (both (leb n labels) (leb (8 * n) work))) ⌝ }
 {
     if dirs < n {

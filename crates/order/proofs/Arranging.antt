@@ -11,7 +11,7 @@ use Rattle.sheet.specs.Sheet.{Grid, cells, inside}
 use Rattle.sheet.specs.River.{networkBy}
 use Rattle.sheet.specs.Label.{outlet}
 use Rattle.sheet.proofs.Cells.{cells-most, inside-lt}
-use Rattle.upstream.specs.Work.{sizesPart, positionsPart, cellsPart, orderedSizesPart, placed, sizeAt}
+use Rattle.upstream.specs.Work.{sizesPart, positionsPart, cellsPart, orderedSizesPart, queuedAt, sizeAt}
 use Rattle.drainage.specs.Total.{size}
 use Rattle.order.specs.Places.{positionAt, cellsIn, sizesIn, Surveyed, Placed, Entered, Arranged, OtherPlaces}
 use Rattle.order.proofs.Preorder.{some}
@@ -46,11 +46,11 @@ module _ {G : Grid} {areas work now later : List ℕ} {queued : ℕ} (W : Survey
     sized = part-length orderedSizesPart (omega arith) ∙ sym (part-length cellsPart (omega arith));
     cell-is = λ c i.
         let q = place-of W c i in
-        let e : placed now (q .0) ≡ c = queue-kept W same P (q .0) (q .1) ∙ q .2 in
+        let e : queuedAt now (q .0) ≡ c = queue-kept W same P (q .0) (q .1) ∙ q .2 in
         part-at cellsPart (positionAt n now c) (below c i) ∙ (rw e at (E .cell-is (q .0) (q .1)));
     size-is = λ c i.
         let q = place-of W c i in
-        let e : placed now (q .0) ≡ c = queue-kept W same P (q .0) (q .1) ∙ q .2 in
+        let e : queuedAt now (q .0) ≡ c = queue-kept W same P (q .0) (q .1) ∙ q .2 in
         part-at orderedSizesPart (positionAt n now c) (below c i) ∙ (rw e at (E .size-is (q .0) (q .1))) ∙ P .kept (sizesPart * n + c) (λ u h e. omega (arith, inside-lt G c i)) ∙ W .size-is c (inside-lt G c i);
   }
 
@@ -86,5 +86,5 @@ module _ {G : Grid} {areas work now later : List ℕ} {queued : ℕ} (W : Survey
             ∙ P .kept j (e .no-position);
       }
     where
-      queue-below : (k : ℕ) → k < queued → positionAt n now (placed now k) < queued
-      queue-below k h = rw (queue-kept W same P k h) (below (placed work k) (queue-inside W k h))
+      queue-below : (k : ℕ) → k < queued → positionAt n now (queuedAt now k) < queued
+      queue-below k h = rw (queue-kept W same P k h) (below (queuedAt work k) (queue-inside W k h))

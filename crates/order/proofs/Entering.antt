@@ -9,7 +9,7 @@ use lib.Dec.{eqb}
 use lib.ListN.{length, getD, set, length-set}
 use lib.Seq.{getD-set-same, getD-set-other}
 use borrow.Author.Tests.{eqb-true, eqb-false}
-use Rattle.upstream.specs.Work.{sizesPart, positionsPart, cellsPart, orderedSizesPart, placed, sizeAt}
+use Rattle.upstream.specs.Work.{sizesPart, positionsPart, cellsPart, orderedSizesPart, queuedAt, sizeAt}
 use Rattle.order.specs.Places.{positionAt, entered, Apart, Entered}
 
 -- what holds before step i, and of step i, holds before step i + 1
@@ -25,25 +25,25 @@ entered-none = record { kept = λ j c d. refl; cell-is = λ j l. absurd (omega a
 
 module _ {n queued : ℕ} {work₀ work : List ℕ} (A : Apart n work₀ queued) (same : length work ≡ length work₀) {i : ℕ} (E : Entered n work₀ work i) (l : i < queued) where
   abbrev cell : ℕ
-  cell = placed work₀ i
+  cell = queuedAt work₀ i
 
   abbrev at : ℕ
   at = positionAt n work₀ cell
 
   -- the queue, positions and sizes are as at the start
-  pub cell-kept : placed work i ≡ cell
+  pub cell-kept : queuedAt work i ≡ cell
   cell-kept = E .kept i (λ k h e. omega (arith, A .most)) (λ k h e. omega (arith, A .most))
 
-  pub at-kept : positionAt n work (placed work i) ≡ at
+  pub at-kept : positionAt n work (queuedAt work i) ≡ at
   at-kept = rw cell-kept (E .kept (positionsPart * n + cell) (λ k h e. omega (arith, A .on i l)) (λ k h e. omega (arith, A .on i l)))
 
-  pub size-kept : sizeAt n work (placed work i) ≡ sizeAt n work₀ cell
+  pub size-kept : sizeAt n work (queuedAt work i) ≡ sizeAt n work₀ cell
   size-kept = rw cell-kept (E .kept (sizesPart * n + cell) (λ k h e. omega (arith, A .on i l)) (λ k h e. omega (arith, A .on i l)))
 
   abbrev after : List ℕ
   after = set (set work (cellsPart * n + at) cell) (orderedSizesPart * n + at) (sizeAt n work₀ cell)
 
-  entered-is : entered n work (placed work i) ≡ after
+  entered-is : entered n work (queuedAt work i) ≡ after
   unfolding entered
   entered-is = rw (at-kept, size-kept, cell-kept)
 
@@ -52,7 +52,7 @@ module _ {n queued : ℕ} {work₀ work : List ℕ} (A : Apart n work₀ queued)
   elsewhere j d e = getD-set-other (set work (cellsPart * n + at) cell) (orderedSizesPart * n + at) j (sizeAt n work₀ cell) 0 e ∙ getD-set-other work (cellsPart * n + at) j cell 0 d
 
   -- an earlier cell's position is another
-  other : (j : ℕ) → j < i → positionAt n work₀ (placed work₀ j) ≢ at
+  other : (j : ℕ) → j < i → positionAt n work₀ (queuedAt work₀ j) ≢ at
   other j h e = let s = A .apart j i (omega arith) l e in omega arith
 
   after-entered : Entered n work₀ after (i + 1)
@@ -71,5 +71,5 @@ module _ {n queued : ℕ} {work₀ work : List ℕ} (A : Apart n work₀ queued)
         (getD-set-same (set work (cellsPart * n + at) cell) (orderedSizesPart * n + at) (sizeAt n work₀ cell) 0 (omega (arith, A .below i l, A .room, length-set work (cellsPart * n + at) cell)));
   }
 
-  pub entered-more : Entered n work₀ (entered n work (placed work i)) (i + 1)
+  pub entered-more : Entered n work₀ (entered n work (queuedAt work i)) (i + 1)
   entered-more = rw entered-is after-entered

@@ -16,9 +16,9 @@ use Rattle.sheet.specs.Label.{outlet}
 use Rattle.sheet.proofs.Cells.{cells-most, inside-lt, next-goes, outlet-not-to}
 use Rattle.claims.specs.Basin.{Basin}
 use Rattle.claims.specs.Bounds.{sum}
-use Rattle.claims.proofs.Counts.{count-le}
 use Rattle.claims.proofs.Sheets.{outlet-is, is-outlet}
-use Rattle.upstream.specs.Work.{sizesPart, positionsPart, placed, rankOf, receiverOf, numbered, isReached, sizeAt}
+use Rattle.upstream.specs.Work.{sizesPart, positionsPart, queuedAt, rankOf, receiverOf, numbered, sizeAt}
+use Rattle.upstream.proofs.Queues.{queued-most}
 use Rattle.upstream.specs.Search.{Upstream}
 use Rattle.drainage.specs.Total.{size}
 use Rattle.order.specs.Network.{areaIn, donorsIn, networkIn}
@@ -42,26 +42,26 @@ module _ {G : Grid} {areas work : List ℕ} {queued : ℕ} (W : Surveyed G areas
   unfolding donors networkBy
   adds c i = size-adds G (areaIn (cells G) areas) 0 0 (whole 0 0 .forest) c i
 
-  pub queue-inside : (i : ℕ) → i < queued → inside G (placed work i) ≡ true
+  pub queue-inside : (i : ℕ) → i < queued → inside G (queuedAt work i) ≡ true
   queue-inside i l = up .is-inside i l
 
   pub queue-most : queued ≤ cells G
-  queue-most = omega (arith, up .queue .counted, count-le (cells G) (isReached (cells G) work))
+  queue-most = queued-most (up .queue)
 
   -- an inside cell's place in the queue
-  pub place-of : (c : ℕ) → inside G c ≡ true → (i : ℕ) × (i < queued) × (placed work i ≡ c)
+  pub place-of : (c : ℕ) → inside G c ≡ true → (i : ℕ) × (i < queued) × (queuedAt work i ≡ c)
   place-of c i =
       let r = W .drained .all c i in
       let s = up .queue .stands c (inside-lt G c i) r in
       (rankOf (cells G) work c - 1, omega (arith, s .most), s .place)
 
-  pub queue-once : (i j : ℕ) → i < queued → j < queued → placed work i ≡ placed work j → i ≡ j
+  pub queue-once : (i j : ℕ) → i < queued → j < queued → queuedAt work i ≡ queuedAt work j → i ≡ j
   queue-once i j l h e = omega (arith, up .queue .item i l .rank, up .queue .item j h .rank, ap (rankOf (cells G) work) e)
 
   -- receivers stand before their donors
-  donor-later : (i j : ℕ) → i < queued → j < queued → next G (placed work i) ≡ To (placed work j) → j < i
+  donor-later : (i j : ℕ) → i < queued → j < queued → next G (queuedAt work i) ≡ To (queuedAt work j) → j < i
   donor-later i j l h e =
-      let b = up .queue .item i l .before (placed work j) (up .receiver i l ∙ ap numbered e ∙ sym (add-one _)) in
+      let b = up .queue .item i l .before (queuedAt work j) (up .receiver i l ∙ ap numbered e ∙ sym (add-one _)) in
       omega (arith, b .earlier, up .queue .item j h .rank)
 
   pub placed-none : Placed G areas work (set work (positionsPart * cells G + outlet G) 0) queued 0
@@ -77,7 +77,7 @@ module _ {G : Grid} {areas work : List ℕ} {queued : ℕ} (W : Surveyed G areas
     n = cells G
 
     abbrev cell : ℕ
-    cell = placed work i
+    cell = queuedAt work i
 
     -- no position of the cell lies past the last
     within-cell : (x : Next) → next G cell ≡ x → positionAt n now cell + size G cell ≤ queued
@@ -86,16 +86,16 @@ module _ {G : Grid} {areas work : List ℕ} {queued : ℕ} (W : Surveyed G areas
         rw s (omega (arith, P .first, outlet-size (W .drained) (W .single)))
     within-cell (To r) e =
         let q = place-of r (next-goes G cell e .to-inside) in
-        let t : next G cell ≡ To (placed work (q .0)) = rw (q .2) e in
+        let t : next G cell ≡ To (queuedAt work (q .0)) = rw (q .2) e in
         let j = donor-later i (q .0) l (q .1) t in
-        let b = between (P .follow (q .0) j) cell (goes-donor G areas (placed work (q .0)) cell t) in
-        omega (arith, b .upto, adds (placed work (q .0)) (queue-inside (q .0) (q .1)), P .within (q .0) j)
+        let b = between (P .follow (q .0) j) cell (goes-donor G areas (queuedAt work (q .0)) cell t) in
+        omega (arith, b .upto, adds (queuedAt work (q .0)) (queue-inside (q .0) (q .1)), P .within (q .0) j)
 
     -- the queue is as it was
-    cell-kept : placed now i ≡ cell
+    cell-kept : queuedAt now i ≡ cell
     cell-kept = P .kept i (λ c h e. omega (arith, queue-most))
 
-    pub standing : length now ≡ length work → Standing G areas now (placed now i)
+    pub standing : length now ≡ length work → Standing G areas now (queuedAt now i)
     standing same = rw cell-kept (record {
       is-inside = queue-inside i l;
       room = omega (arith, W .room);
@@ -104,7 +104,7 @@ module _ {G : Grid} {areas work : List ℕ} {queued : ℕ} (W : Surveyed G areas
       adds = adds cell (queue-inside i l);
     })
 
-    module _ {later : List ℕ} (placing : DonorsPlaced G areas now later (placed now i)) where
+    module _ {later : List ℕ} (placing : DonorsPlaced G areas now later (queuedAt now i)) where
       D : DonorsPlaced G areas now later cell
       D = rw cell-kept at placing
 
@@ -112,13 +112,13 @@ module _ {G : Grid} {areas work : List ℕ} {queued : ℕ} (W : Surveyed G areas
       stays : (u : ℕ) → (next G u ≡ To cell → ⊥) → positionAt n later u ≡ positionAt n now u
       stays u d = D .kept (positionsPart * n + u) (λ v m e. let s : u ≡ v = omega arith in d (rw s (donor-goes G areas cell v m)))
 
-      queue-stays : (j : ℕ) → j < i + 1 → positionAt n later (placed work j) ≡ positionAt n now (placed work j)
-      queue-stays j h = stays (placed work j) (λ e. let k = donor-later j i (omega arith) l e in omega arith)
+      queue-stays : (j : ℕ) → j < i + 1 → positionAt n later (queuedAt work j) ≡ positionAt n now (queuedAt work j)
+      queue-stays j h = stays (queuedAt work j) (λ e. let k = donor-later j i (omega arith) l e in omega arith)
 
-      donor-stays : (j : ℕ) → j < i → (u : ℕ) → List·Memᴰ u (donorsIn G areas (placed work j)) → positionAt n later u ≡ positionAt n now u
+      donor-stays : (j : ℕ) → j < i → (u : ℕ) → List·Memᴰ u (donorsIn G areas (queuedAt work j)) → positionAt n later u ≡ positionAt n now u
       donor-stays j h u m =
-          let d = donor-goes G areas (placed work j) u m in
-          stays u (λ e. let s : placed work j ≡ cell = cc in let k = queue-once j i (omega arith) l s in omega arith)
+          let d = donor-goes G areas (queuedAt work j) u m in
+          stays u (λ e. let s : queuedAt work j ≡ cell = cc in let k = queue-once j i (omega arith) l s in omega arith)
 
       pub placed-more : Placed G areas work later queued (i + 1)
       placed-more = record {
@@ -143,7 +143,7 @@ module _ {G : Grid} {areas work now : List ℕ} {queued : ℕ} (W : Surveyed G a
   }
 
   -- the queue is as it was
-  pub queue-kept : (i : ℕ) → i < queued → placed now i ≡ placed work i
+  pub queue-kept : (i : ℕ) → i < queued → queuedAt now i ≡ queuedAt work i
   queue-kept i l = P .kept i (λ c h e. omega (arith, queue-most W))
 
   pub apart : Apart (cells G) now queued
@@ -152,7 +152,7 @@ module _ {G : Grid} {areas work now : List ℕ} {queued : ℕ} (W : Surveyed G a
     room = omega (arith, W .room);
     most = queue-most W;
     on = λ i l. rw (queue-kept i l) (inside-lt G _ (queue-inside W i l));
-    below = λ i l. rw (queue-kept i l) (omega (arith, P .within i l, queue-most W, some (whole W 0 0) (preorder 0 0) (placed work i) (queue-inside W i l)));
+    below = λ i l. rw (queue-kept i l) (omega (arith, P .within i l, queue-most W, some (whole W 0 0) (preorder 0 0) (queuedAt work i) (queue-inside W i l)));
     apart = λ i j l h e.
-        queue-once W i j l h (same-cell (whole W 0 0) (preorder 0 0) (placed work i) (placed work j) (queue-inside W i l) (queue-inside W j h) (rw (queue-kept i l, queue-kept j h) at e));
+        queue-once W i j l h (same-cell (whole W 0 0) (preorder 0 0) (queuedAt work i) (queuedAt work j) (queue-inside W i l) (queue-inside W j h) (rw (queue-kept i l, queue-kept j h) at e));
   }

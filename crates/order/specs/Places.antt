@@ -5,10 +5,11 @@ use mathlib.Core.List.{List, [], _∷_, List·Memᴰ}
 use mathlib.Core.Logic.{_≢_}
 use Prim.Native.Nat.{ℕ, suc, _+_, _*_, _<_, _≤_, _^_}
 use lib.ListN.{getD, length, set, take, drop}
-use Rattle.sheet.specs.Sheet.{Grid, Sized, cells, inside}
+use Rattle.sheet.specs.Sheet.{Grid, cells, inside}
+use Rattle.directions.specs.Sizes.{mostCells, Sized}
 use Rattle.sheet.specs.Label.{outlet}
 use Rattle.claims.specs.Bounds.{sum}
-use Rattle.upstream.specs.Work.{positionsPart, cellsPart, orderedSizesPart, placed, sizeAt}
+use Rattle.upstream.specs.Work.{positionsPart, cellsPart, orderedSizesPart, queuedAt, sizeAt}
 use Rattle.upstream.specs.Search.{Coded, Drained, SingleOutlet}
 use Rattle.drainage.specs.Total.{size}
 use Rattle.rivers.specs.Layout.{Layout, LayoutOf}
@@ -53,7 +54,7 @@ positioned n at (x ∷ xs) work = positioned n (at + sizeAt n work (cellOf x)) x
 
 -- the cells of keys have places, and their positions fit 32 bits
 pub record PositionsFit (n at : ℕ) (keys work : List ℕ) : Type 0 where
-  pub small : n ≤ 65536
+  pub small : n ≤ mostCells
   pub room : 8 * n ≤ length work
   pub on : (x : ℕ) → List·Memᴰ x keys → cellOf x < n
   pub fits : at + sum (λ x. sizeAt n work (cellOf x)) keys < 2 ^ 32
@@ -63,7 +64,7 @@ pub record Standing (G : Grid) (areas work : List ℕ) (cell : ℕ) : Type 0 whe
   pub is-inside : inside G cell ≡ true
   pub room : 8 * cells G ≤ length work
   pub size-is : (c : ℕ) → c < cells G → sizeAt (cells G) work c ≡ size G c
-  pub within : positionAt (cells G) work cell + size G cell ≤ 65536
+  pub within : positionAt (cells G) work cell + size G cell ≤ mostCells
   pub adds : size G cell ≡ suc (sum (size G) (donorsIn G areas cell))
 
 -- the donors of a cell have got their positions, and no other place is written
@@ -75,8 +76,8 @@ pub record DonorsPlaced (G : Grid) (areas work work′ : List ℕ) (cell : ℕ) 
 pub record Placed (G : Grid) (areas work work′ : List ℕ) (queued i : ℕ) : Type 0 where
   pub kept : (j : ℕ) → ((c : ℕ) → inside G c ≡ true → j ≢ positionsPart * cells G + c) → getD work′ j 0 ≡ getD work j 0
   pub first : positionAt (cells G) work′ (outlet G) ≡ 0
-  pub follow : (j : ℕ) → j < i → Consecutive (size G) (positionAt (cells G) work′) (positionAt (cells G) work′ (placed work j) + 1) (donorsIn G areas (placed work j))
-  pub within : (j : ℕ) → j < i → positionAt (cells G) work′ (placed work j) + size G (placed work j) ≤ queued
+  pub follow : (j : ℕ) → j < i → Consecutive (size G) (positionAt (cells G) work′) (positionAt (cells G) work′ (queuedAt work j) + 1) (donorsIn G areas (queuedAt work j))
+  pub within : (j : ℕ) → j < i → positionAt (cells G) work′ (queuedAt work j) + size G (queuedAt work j) ≤ queued
 
 -- ---- cells and sizes by position
 
@@ -86,19 +87,19 @@ entered n work c = set (set work (cellsPart * n + positionAt n work c) c) (order
 
 -- queued cells with different positions
 pub record Apart (n : ℕ) (work : List ℕ) (queued : ℕ) : Type 0 where
-  pub small : n ≤ 65536
+  pub small : n ≤ mostCells
   pub room : 8 * n ≤ length work
   pub most : queued ≤ n
-  pub on : (i : ℕ) → i < queued → placed work i < n
-  pub below : (i : ℕ) → i < queued → positionAt n work (placed work i) < n
-  pub apart : (i j : ℕ) → i < queued → j < queued → positionAt n work (placed work i) ≡ positionAt n work (placed work j) → i ≡ j
+  pub on : (i : ℕ) → i < queued → queuedAt work i < n
+  pub below : (i : ℕ) → i < queued → positionAt n work (queuedAt work i) < n
+  pub apart : (i j : ℕ) → i < queued → j < queued → positionAt n work (queuedAt work i) ≡ positionAt n work (queuedAt work j) → i ≡ j
 
 -- the first i queued cells stand at their positions, and no other place is written
 pub record Entered (n : ℕ) (work work′ : List ℕ) (i : ℕ) : Type 0 where
-  pub kept : (j : ℕ) → ((k : ℕ) → k < i → j ≢ cellsPart * n + positionAt n work (placed work k))
-      → ((k : ℕ) → k < i → j ≢ orderedSizesPart * n + positionAt n work (placed work k)) → getD work′ j 0 ≡ getD work j 0
-  pub cell-is : (j : ℕ) → j < i → getD work′ (cellsPart * n + positionAt n work (placed work j)) 0 ≡ placed work j
-  pub size-is : (j : ℕ) → j < i → getD work′ (orderedSizesPart * n + positionAt n work (placed work j)) 0 ≡ sizeAt n work (placed work j)
+  pub kept : (j : ℕ) → ((k : ℕ) → k < i → j ≢ cellsPart * n + positionAt n work (queuedAt work k))
+      → ((k : ℕ) → k < i → j ≢ orderedSizesPart * n + positionAt n work (queuedAt work k)) → getD work′ j 0 ≡ getD work j 0
+  pub cell-is : (j : ℕ) → j < i → getD work′ (cellsPart * n + positionAt n work (queuedAt work j)) 0 ≡ queuedAt work j
+  pub size-is : (j : ℕ) → j < i → getD work′ (orderedSizesPart * n + positionAt n work (queuedAt work j)) 0 ≡ sizeAt n work (queuedAt work j)
 
 -- ---- the order along rivers
 

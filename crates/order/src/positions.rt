@@ -5,7 +5,8 @@ ghost use mathlib.Core.Path.{_≡_};
 ghost use Prim.Native.Nat.{_+_, _*_, _<_, _≤_};
 ghost use lib.ListN.{length, set};
 ghost use Rattle.sheet.specs.Sheet.{grid};
-ghost use Rattle.upstream.specs.Work.{positionsPart, placed};
+ghost use Rattle.directions.specs.Sizes.{mostCells};
+ghost use Rattle.upstream.specs.Work.{positionsPart, queuedAt};
 ghost use Rattle.order.specs.Places.{positionAt, Measured, Surveyed, positioned, PositionsFit, Standing, DonorsPlaced, Placed, entered, Apart, Entered, Arranged, OtherPlaces};
 
 // Gives the cells of keys positions one after the other from `first` on.
@@ -49,8 +50,8 @@ fn place_upstream(
 
 // Gives the outlet, which stands first in the queue, the first position.
 fn place_outlet(n: usize, work: &mut [u32])
-    requires { ⌜ (n ≤ 65536) × (8 * n ≤ length (now work)) × (placed (now work) 0 < n) ⌝ }
-    ensures { λ _. ⌜ now (work .exit) ≡ set (now (work .entry)) (positionsPart * n + placed (now (work .entry)) 0) 0 ⌝ }
+    requires { ⌜ (n ≤ mostCells) × (8 * n ≤ length (now work)) × (queuedAt (now work) 0 < n) ⌝ }
+    ensures { λ _. ⌜ now (work .exit) ≡ set (now (work .entry)) (positionsPart * n + queuedAt (now (work .entry)) 0) 0 ⌝ }
 {
     let cell = work[0] as usize;
     work[parts::POSITIONS * n + cell] = 0;
@@ -70,7 +71,7 @@ fn place_all(dirs: &[u8], rows: usize, cols: usize, areas: &[u32], queued: usize
 
 // Writes a cell and its size at its position.
 fn enter(n: usize, cell: usize, work: &mut [u32])
-    requires { ⌜ (n ≤ 65536) × (8 * n ≤ length (now work)) × (cell < n) × (positionAt n (now work) cell < n) ⌝ }
+    requires { ⌜ (n ≤ mostCells) × (8 * n ≤ length (now work)) × (cell < n) × (positionAt n (now work) cell < n) ⌝ }
     ensures { λ _. ⌜ now (work .exit) ≡ entered n (now (work .entry)) cell ⌝ }
 {
     let at = work[parts::POSITIONS * n + cell] as usize;

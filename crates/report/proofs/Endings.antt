@@ -17,7 +17,7 @@ use Rattle.intake.specs.declared.Intake.{Intake}
 use Rattle.intake.specs.declared.TakenOutcome.{TakenOutcome}
 use Rattle.intake.specs.declared.TakenOutcome.the-variants.{Accepted, Refused as RefusedBy}
 use Rattle.intake.specs.Intake.{lineAfter, endIn, endTaken, newIntake, accepted}
-use Rattle.claims.proofs.Written.{length-list}
+use Rattle.sheet.proofs.Lists.{length-list}
 use Rattle.labelling.specs.Labelling.{sheet}
 use Rattle.labelling.specs.FromIntake.{intakeOutcome, intakeLent}
 use Rattle.listing.specs.Listing.{listingText, refusalText}

@@ -19,7 +19,8 @@ use Rattle.intake.proofs.Laws.{line-length}
 use Rattle.claims.proofs.Counts.{count-le}
 use Rattle.claims.proofs.GridLaws.{area-most-cells}
 use Rattle.claims.proofs.Sheets.{accepted-passed}
-use Rattle.claims.proofs.Written.{length-list, written-at, one-to-nine, at-most-depth}
+use Rattle.sheet.proofs.Lists.{length-list, written-at}
+use Rattle.claims.proofs.Written.{one-to-nine, at-most-depth}
 use Rattle.labelling.specs.Labelling.{sheet}
 use Rattle.lines.specs.Fields.{longer}
 use Rattle.listing.specs.Listing.{listingText, refusalText}

@@ -18,7 +18,7 @@ use Rattle.intake.specs.declared.Stage.{Stage}
 use Rattle.intake.specs.declared.Stage.the-variants.{WaitingForSizeNames, WaitingForSizes, WaitingForCellNames, TakingCells, Ended as AtEnd}
 use Rattle.intake.specs.declared.Intake.{Intake}
 use Rattle.claims.proofs.Sheets.{accepted-passed}
-use Rattle.claims.proofs.Written.{length-list}
+use Rattle.sheet.proofs.Lists.{length-list}
 use Rattle.labelling.specs.Labelling.{sheet}
 use Rattle.labelling.specs.FromIntake.{intakeOutcome, intakeLent}
 use Rattle.listing.specs.Listing.{listingText, refusalText}

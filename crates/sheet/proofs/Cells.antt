@@ -14,7 +14,7 @@ use Rattle.sheet.specs.declared.End.the-variants.{Off, At}
 use Rattle.sheet.specs.declared.Next.{Next}
 use Rattle.sheet.specs.declared.Next.the-variants.{Outlet, To}
 use Rattle.sheet.specs.Direction.{stepOf, below, movedBy, cellAt, stepEnd}
-use Rattle.sheet.specs.Sheet.{Grid, cells, dirAt, inside, endOf, onto, next, goesNowhere, isOutlet, OnSheet}
+use Rattle.sheet.specs.Sheet.{Grid, cells, dirAt, inside, endOf, onto, next, goesNowhere, isOutlet}
 
 pub off-not-at : {n : ℕ} → Off ≡ At n → ⊥
 off-not-at {n} e = let z : _≡_ {A = ℕ} 0 1 = cc in omega arith
@@ -29,14 +29,6 @@ cells-most h k = mul-le-mul h k
 
 pub cell-lt : {rows cols row col : ℕ} → row < rows → col < cols → row * cols + col < rows * cols
 cell-lt h k = digits-lt h k
-
--- the cell in a row and a column lies on the sheet, and its number fits
-module _ {rows cols row col : ℕ} (on : OnSheet rows cols row col) where
-  pub on-lt : row * cols + col < rows * cols
-  on-lt = cell-lt (on .row-on) (on .col-on)
-
-  pub on-fits : row * cols + col < 65536
-  on-fits = omega (arith, on-lt, cells-most (on .rows-most) (on .cols-most))
 
 module _ (row : ℕ) {cols col : ℕ} (k : col < cols) where
   pub cell-row : (row * cols + col) / cols ≡ row

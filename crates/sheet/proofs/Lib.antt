@@ -1,9 +1,6 @@
 pub mod Cases
-pub mod Signed
-pub mod Steps
 pub mod Cells
-pub mod Donors
 pub mod First
-pub mod Faults
+pub mod Lists
 pub mod Digits
 pub mod Within

@@ -1,11 +1,9 @@
 -- Document 01's direction codes, their steps, and the cell that a step ends on.
 use mathlib.Core.Bool.{Bool, cond}
 use mathlib.Core.List.{List, [], _∷_}
-use Prim.Native.Nat.{ℕ, _+_, _*_, _<_}
+use Prim.Native.Nat.{ℕ, _+_, _*_}
 use lib.Dec.{ltb, eqb}
 use lib.IntN.{ℤ, pos, negsuc, _+ℤ_}
-use lib.ListN.{getD}
-use lib.Signed.{mag}
 use Rattle.sheet.specs.declared.Step.{Step}
 use Rattle.sheet.specs.declared.End.{End}
 use Rattle.sheet.specs.declared.End.the-variants.{Off, At}
@@ -29,10 +27,6 @@ steps =
 -- of the code 0, and of a byte that is no code: it stays in place
 abbrev pub noStep : Step
 noStep = step 0 (pos 0) (pos 0)
-
--- the k-th step of the table
-abbrev pub stepAt : ℕ → Step
-stepAt k = getD steps k noStep
 
 -- the first step of a list with a code
 unfoldable pub stepIn : List Step → ℕ → Step
@@ -69,13 +63,3 @@ cellAt cols (At row) (At col) = At (row * cols + col)
 unfoldable pub stepEnd : ℕ → ℕ → ℕ → ℕ → Step → End
 unfolding movedBy cellAt
 stepEnd rows cols row col s = cellAt cols (movedBy row (s .row) rows) (movedBy col (s .col) cols)
-
--- a row or a column below 256, and a step of at most one
-pub record Near (at : ℕ) (z : ℤ) : Type 0 where
-  pub small : at < 256
-  pub short : mag z < 2
-
--- a step of at most one row and one column
-pub record Short (s : Step) : Type 0 where
-  pub rows : mag (s .row) < 2
-  pub cols : mag (s .col) < 2

@@ -2,12 +2,10 @@
 use mathlib.Core.Bool.{Bool, false, cond, not}
 use mathlib.Core.List.{List, _++_}
 use Prim.Native.Nat.{ℕ, suc, _*_}
-use lib.Dec.{leb, eqb}
-use lib.ListN.{length, drop, replicate, getD}
+use lib.Dec.{leb}
+use lib.ListN.{length, drop, replicate}
 use Rattle.sheet.specs.declared.Found.{Found}
 use Rattle.sheet.specs.declared.Found.the-variants.{At, Nothing}
-use Rattle.sheet.specs.declared.Fault.{Fault}
-use Rattle.sheet.specs.declared.Fault.the-variants.{BadCode, Inside, Unreached, OutletFrom}
 use Rattle.sheet.specs.declared.Outcome.{Outcome}
 use Rattle.sheet.specs.declared.Outcome.the-variants.{Accepted, Refused}
 use Rattle.sheet.specs.Direction.{isCode}
@@ -56,14 +54,6 @@ undrained G c = both (inside G c) (not (reachesOutlet (next G) (cells G) c))
 unfoldable pub outletFrom : Grid → ℕ → ℕ → Bool
 unfolding isOutlet
 outletFrom G from c = both (leb from c) (isOutlet G c)
-
--- the cell has a fault; `reached` has a number other than 0 for each cell that a search upstream reached
-unfoldable pub faultAt : Grid → List ℕ → Fault → ℕ → Bool
-unfolding badCode inside outletFrom
-faultAt G reached BadCode c = badCode G c
-faultAt G reached Inside c = inside G c
-faultAt G reached Unreached c = both (inside G c) (eqb (getD reached c 0) 0)
-faultAt G reached (OutletFrom from) c = outletFrom G from c
 
 unfoldable pub firstAfter : (ℕ → ℕ → Bool) → ℕ → Found → Found
 unfolding first

@@ -1,16 +1,16 @@
 -- Document 01's sheet: inside cells, where a cell's water goes, outlets.
 use mathlib.Core.Bool.{Bool, true, false, cond, not}
 use mathlib.Core.List.{List}
-use Prim.Native.Nat.{ℕ, zero, suc, _+_, _*_, _/_, _%_, _<_, _≤_}
+use Prim.Native.Nat.{ℕ, zero, suc, _*_, _/_, _%_}
 use lib.Dec.{ltb, eqb}
-use lib.ListN.{getD, length}
+use lib.ListN.{getD}
 use Rattle.sheet.specs.declared.End.{End}
 use Rattle.sheet.specs.declared.End.the-variants.{Off, At}
 use Rattle.sheet.specs.declared.Next.{Next}
 use Rattle.sheet.specs.declared.Next.the-variants.{Outlet, To}
 use Rattle.sheet.specs.declared.Found.{Found}
 use Rattle.sheet.specs.declared.Found.the-variants.{At as FoundAt, Nothing}
-use Rattle.sheet.specs.Direction.{stepOf, stepAt, stepEnd}
+use Rattle.sheet.specs.Direction.{stepOf, stepEnd}
 
 -- the rows, columns and direction bytes of a sheet; more bytes than cells may be lent
 pub record Grid : Type 0 where
@@ -62,16 +62,6 @@ unfoldable pub isOutlet : Grid → ℕ → Bool
 unfolding inside next
 isOutlet G c = cond (inside G c) (goesNowhere (next G c)) false
 
--- the cell t, if its code is that of the k-th step
-unfoldable pub withCode : Grid → ℕ → End → End
-withCode G k Off = Off
-withCode G k (At t) = cond (eqb (dirAt G t) (stepAt k .code)) (At t) Off
-
--- the "donor" of the cell in a row and a column against the k-th step: the cell one step back, if that step is its own
-unfoldable pub donorAgainst : Grid → ℕ → ℕ → ℕ → End
-unfolding stepEnd withCode
-donorAgainst G row col k = withCode G k (stepEnd (G .rows) (G .cols) row col (stepAt ((k + 4) % 8)))
-
 -- the first of the m cells from i on that passes a test
 unfoldable pub firstFrom : (ℕ → Bool) → ℕ → ℕ → Found
 firstFrom test i zero = Nothing
@@ -81,17 +71,3 @@ firstFrom test i (suc m) = let r = firstFrom test (suc i) m in cond (test i) (Fo
 unfoldable pub first : (ℕ → Bool) → ℕ → Found
 unfolding firstFrom
 first test n = firstFrom test 0 n
-
--- a row and a column of a sheet of at most 256 each
-pub record OnSheet (rows cols row col : ℕ) : Type 0 where
-  pub rows-most : rows ≤ 256
-  pub cols-most : cols ≤ 256
-  pub row-on : row < rows
-  pub col-on : col < cols
-
--- a sheet of at most 256 rows and 1 to 256 columns, with a byte for each cell
-pub record Sized (rows cols : ℕ) (dirs : List ℕ) : Type 0 where
-  pub rows-most : rows ≤ 256
-  pub cols-most : cols ≤ 256
-  pub cols-some : 0 < cols
-  pub long : rows * cols ≤ length dirs

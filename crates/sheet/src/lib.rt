@@ -25,15 +25,6 @@ pub enum Found {
     Nothing,
 }
 
-// What a search in reading order looks for, be it a fault or not: a byte that is none of the nine codes, an inside cell, an inside cell that a search upstream
-// did not reach, an outlet from a cell on.
-pub enum Fault {
-    BadCode,
-    Inside,
-    Unreached,
-    OutletFrom(usize),
-}
-
 // The answer of labelling: accepted, or refused with document 01's number and place.
 pub enum Outcome {
     Accepted,

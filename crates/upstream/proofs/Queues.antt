@@ -12,7 +12,7 @@ use lib.Seq.{getD-set-same, getD-set-other, drop-set-lt}
 use borrow.Author.Tests.{lt-ltb, le-ltb}
 use Rattle.claims.proofs.Counts.{count-le, count-less}
 use Rattle.claims.proofs.Sums.{count-more}
-use Rattle.upstream.specs.Work.{ranksPart, receiversPart, sizesPart, placed, rankOf, receiverOf, isReached, pushed, KeptFrom}
+use Rattle.upstream.specs.Work.{ranksPart, receiversPart, sizesPart, queuedAt, rankOf, receiverOf, isReached, pushed, KeptFrom}
 use Rattle.upstream.specs.Search.{Before, Item, Stands, Queue}
 use Rattle.upstream.specs.Growth.{Grown}
 
@@ -23,14 +23,14 @@ module _ (n : ℕ) (work : List ℕ) (end cell receiver : ℕ) (room : sizesPart
   unfolding pushed
   push-long = simp length-set
 
-  pub push-place : placed (pushed n work end cell receiver) end ≡ cell
+  pub push-place : queuedAt (pushed n work end cell receiver) end ≡ cell
   unfolding pushed
   push-place =
       getD-set-other (set (set work end cell) (ranksPart * n + cell) (end + 1)) (receiversPart * n + cell) end receiver 0 (λ e. omega arith)
       ∙ getD-set-other (set work end cell) (ranksPart * n + cell) end (end + 1) 0 (λ e. omega arith)
       ∙ getD-set-same work end cell 0 (omega arith)
 
-  pub push-place-other : (i : ℕ) → i < n → i ≢ end → placed (pushed n work end cell receiver) i ≡ placed work i
+  pub push-place-other : (i : ℕ) → i < n → i ≢ end → queuedAt (pushed n work end cell receiver) i ≡ queuedAt work i
   unfolding pushed
   push-place-other i l d =
       getD-set-other (set (set work end cell) (ranksPart * n + cell) (end + 1)) (receiversPart * n + cell) i receiver 0 (λ e. omega arith)
@@ -92,14 +92,14 @@ module _ {n : ℕ} {work : List ℕ} {queued : ℕ} (q : Queue n work queued) wh
 
   -- no two cells have one rank
   pub rank-once : (c d : ℕ) → c < n → d < n → 0 < rankOf n work c → rankOf n work c ≡ rankOf n work d → c ≡ d
-  rank-once c d l k h e = sym (q .stands c l h .place) ∙ ap (λ (i : ℕ). placed work (i - 1)) e ∙ q .stands d k (omega arith) .place
+  rank-once c d l k h e = sym (q .stands c l h .place) ∙ ap (λ (i : ℕ). queuedAt work (i - 1)) e ∙ q .stands d k (omega arith) .place
 
 -- ---- a push keeps the queue
 
 before-kept : {n : ℕ} {work work′ : List ℕ} {i r : ℕ} → ((c : ℕ) → c < n → 0 < rankOf n work c → rankOf n work′ c ≡ rankOf n work c) → Before n work i r → Before n work′ i r
 before-kept {r = r} kept b = let e = kept r (b .on) (b .reached) in record { on = b .on; reached = omega (arith, b .reached); earlier = omega (arith, b .earlier) }
 
-pub item-at : (n : ℕ) (work : List ℕ) (i c : ℕ) → placed work i ≡ c → c < n → rankOf n work c ≡ i + 1 → ((r : ℕ) → receiverOf n work c ≡ r + 1 → Before n work i r) → Item n work i
+pub item-at : (n : ℕ) (work : List ℕ) (i c : ℕ) → queuedAt work i ≡ c → c < n → rankOf n work c ≡ i + 1 → ((r : ℕ) → receiverOf n work c ≡ r + 1 → Before n work i r) → Item n work i
 item-at n work i c e l r b = record { on = rw e l; rank = rw e r; before = λ s k. b s (ap (receiverOf n work) (sym e) ∙ k) }
 
 module _ {n : ℕ} {work : List ℕ} {end : ℕ} (q : Queue n work end) (cell : ℕ) (cell-on : cell < n) (free : rankOf n work cell ≡ 0) where
@@ -134,7 +134,7 @@ module _ {n : ℕ} {work : List ℕ} {end : ℕ} (q : Queue n work end) (cell : 
       old-item : (i : ℕ) → i < end → Item n after i
       old-item i l =
           let t = q .item i l in
-          let c = placed work i in
+          let c = queuedAt work i in
           let h : 0 < rankOf n work c = omega (arith, t .rank) in
           item-at n after i c (grown-push .places i l) (t .on) (rank-kept c (t .on) h ∙ t .rank)
           (λ r e. before-kept rank-kept (t .before r (sym (push-receiver-other n work end cell receiver (q .room) end-on cell-on c (other c h)) ∙ e)))

@@ -15,18 +15,18 @@ use Rattle.sheet.proofs.Within.{both-true}
 use Rattle.claims.specs.Basin.{Ends, ends-here, ends-after}
 use Rattle.claims.proofs.Counts.{not-true}
 use Rattle.claims.proofs.Fuel.{ends-within, reaches-ends, ends-reaches}
-use Rattle.upstream.specs.Work.{placed, rankOf, isReached}
+use Rattle.upstream.specs.Work.{queuedAt, rankOf, isReached}
 use Rattle.upstream.specs.Search.{Upstream, Searched}
 use Rattle.upstream.specs.Growth.{Spread}
 use Rattle.upstream.proofs.Queues.{reached-yes, reached-no, place-on}
 use Rattle.upstream.proofs.Upstream.{way-on, next-before, inside-of}
 
 module _ {G : Grid} {work : List ℕ} {queued : ℕ} (u : Upstream G work queued) where
-  place-ends : (m i : ℕ) → i < m → i < queued → (k : ℕ) × Ends (next G) k (placed work i)
+  place-ends : (m i : ℕ) → i < m → i < queued → (k : ℕ) × Ends (next G) k (queuedAt work i)
   place-ends zero i h l = absurd (omega arith)
-  place-ends (suc m) i h l = go (next G (placed work i)) refl (place-ends m)
+  place-ends (suc m) i h l = go (next G (queuedAt work i)) refl (place-ends m)
     where
-      go : (x : Next) → next G (placed work i) ≡ x → ((j : ℕ) → j < m → j < queued → (k : ℕ) × Ends (next G) k (placed work j)) → (k : ℕ) × Ends (next G) k (placed work i)
+      go : (x : Next) → next G (queuedAt work i) ≡ x → ((j : ℕ) → j < m → j < queued → (k : ℕ) × Ends (next G) k (queuedAt work j)) → (k : ℕ) × Ends (next G) k (queuedAt work i)
       go Outlet e ih = (1, ends-here e)
       go (To r) e ih =
           let b = next-before u i r l e in

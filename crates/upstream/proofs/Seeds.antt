@@ -9,7 +9,7 @@ use native.Mathlib.Omega.{arith}
 use Rattle.sheet.specs.Sheet.{Grid, cells, isOutlet}
 use Rattle.sheet.specs.Area.{count}
 use Rattle.sheet.proofs.Cells.{outlet-not-to}
-use Rattle.upstream.specs.Work.{ranksPart, placed, rankOf, isReached, numbered, pushed}
+use Rattle.upstream.specs.Work.{ranksPart, queuedAt, rankOf, isReached, numbered, pushed}
 use Rattle.upstream.specs.Search.{Upstream}
 use Rattle.upstream.specs.Growth.{Grown, Seeded}
 use Rattle.upstream.specs.Work.{Cleared}
@@ -74,7 +74,7 @@ module _ (G : Grid) where
       pub seed-grown : Grown (cells G) work end after (end + 1)
       seed-grown = grown-push (s .upstream .queue) cell on seed-free 0
 
-      new-place : placed after end ≡ cell
+      new-place : queuedAt after end ≡ cell
       new-place = push-place (cells G) work end cell 0 (s .upstream .queue .room) at-end on
 
       pushed-on : Upstream G after (end + 1)

@@ -7,10 +7,12 @@ use native.Mathlib.Nat.{div-add-mod', mod-lt}
 use native.Mathlib.Omega.{arith}
 use Rattle.sheet.specs.declared.End.the-variants.{Off, At}
 use Rattle.sheet.specs.declared.Next.the-variants.{To}
-use Rattle.sheet.specs.Sheet.{Grid, Sized, OnSheet, cells, next, donorAgainst}
+use Rattle.sheet.specs.Sheet.{Grid, cells, next}
+use Rattle.directions.specs.Sizes.{Sized, OnSheet}
+use Rattle.directions.specs.Steps.{neighbourAgainst}
 use Rattle.sheet.proofs.Cells.{off-not-at, cell-lt, row-lt, next-goes, next-from-lt}
-use Rattle.sheet.proofs.Donors.{donor-lt, donor-next, next-donor}
-use Rattle.upstream.specs.Work.{placed, rankOf, pushed}
+use Rattle.directions.proofs.Neighbours.{neighbour-lt, neighbour-next, next-neighbour}
+use Rattle.upstream.specs.Work.{queuedAt, rankOf, pushed}
 use Rattle.upstream.specs.Search.{Before, Upstream, Coded}
 use Rattle.upstream.specs.Growth.{Grown, Seeded, Ready, DonorsPushed, AllPushed, Spread}
 use Rattle.upstream.proofs.Queues.{end-on, grown-push, push-rank}
@@ -37,23 +39,23 @@ module _ {G : Grid} {work : List ℕ} {end row col : ℕ} (ready : Ready G work 
   on = cell-lt (ready .on .row-on) (ready .on .col-on)
 
   -- what is found against a step goes to the cell
-  pub found-next : {k q : ℕ} → k < 8 → donorAgainst G row col k ≡ At q → next G q ≡ To cell
-  found-next l e = donor-next G row col (ready .on .row-on) (ready .on .col-on) (inside-of (ready .upstream) cell on (ready .reached)) l e
+  pub found-next : {k q : ℕ} → k < 8 → neighbourAgainst G row col k ≡ At q → next G q ≡ To cell
+  found-next l e = neighbour-next G row col (ready .on .row-on) (ready .on .col-on) (inside-of (ready .upstream) cell on (ready .reached)) l e
 
   module _ (k : ℕ) where
     same-step : {j : ℕ} → k ≤ j → j < k + 1 → j ≡ k
     same-step l h = omega arith
 
-    pub donors-off : donorAgainst G row col k ≡ Off → DonorsPushed G work end work end row col k (k + 1)
+    pub donors-off : neighbourAgainst G row col k ≡ Off → DonorsPushed G work end work end row col k (k + 1)
     donors-off e = record {
       upstream = ready .upstream;
       grown = grown-none _ _ _;
-      donors = λ j l h q f. absurd (off-not-at (sym e ∙ ap (donorAgainst G row col) (sym (same-step l h)) ∙ f));
+      donors = λ j l h q f. absurd (off-not-at (sym e ∙ ap (neighbourAgainst G row col) (sym (same-step l h)) ∙ f));
     }
 
-    module _ {p : ℕ} (found : donorAgainst G row col k ≡ At p) where
-      same-cell : {j q : ℕ} → k ≤ j → j < k + 1 → donorAgainst G row col j ≡ At q → p ≡ q
-      same-cell {q = q} l h f = let e : At p ≡ At q = sym found ∙ ap (donorAgainst G row col) (sym (same-step l h)) ∙ f in cc
+    module _ {p : ℕ} (found : neighbourAgainst G row col k ≡ At p) where
+      same-cell : {j q : ℕ} → k ≤ j → j < k + 1 → neighbourAgainst G row col j ≡ At q → p ≡ q
+      same-cell {q = q} l h f = let e : At p ≡ At q = sym found ∙ ap (neighbourAgainst G row col) (sym (same-step l h)) ∙ f in cc
 
       pub donors-old : 0 < rankOf (cells G) work p → DonorsPushed G work end work end row col k (k + 1)
       donors-old r = record { upstream = ready .upstream; grown = grown-none _ _ _; donors = λ j l h q f. rw (← same-cell l h f) r }
@@ -61,7 +63,7 @@ module _ {G : Grid} {work : List ℕ} {end row col : ℕ} (ready : Ready G work 
       pub donors-new : k < 8 → rankOf (cells G) work p ≡ 0 → DonorsPushed G work end (pushed (cells G) work end p (cell + 1)) (end + 1) row col k (k + 1)
       donors-new kl free =
           let e = found-next kl found in
-          let p-on = donor-lt G row col k found in
+          let p-on = neighbour-lt G row col k found in
           let queue = ready .upstream .queue in
           let before : Before (cells G) work end cell = record { on = on; reached = ready .reached; earlier = queue .stands cell on (ready .reached) .most } in
           record {
@@ -84,7 +86,7 @@ module _ {G : Grid} where
     grown = grown-more (s .grown) (t .grown);
     donors = λ k l h q f. elim (ℕ-discrete k step) [
       | yes e ↦ t .donors k (omega arith) h q f
-      | no d ↦ let r = s .donors k l (omega arith) q f in omega (arith, t .grown .ranks q (donor-lt G row col k f) r)
+      | no d ↦ let r = s .donors k l (omega arith) q f in omega (arith, t .grown .ranks q (neighbour-lt G row col k f) r)
     ];
   }
 
@@ -101,7 +103,7 @@ module _ {G : Grid} where
     upstream = s .upstream;
     grown = s .grown;
     donors = λ q e.
-        let k = next-donor G row col (on .row-on) (on .col-on) (coded q (next-from-lt G q e)) (rw is e) in
+        let k = next-neighbour G row col (on .row-on) (on .col-on) (coded q (next-from-lt G q e)) (rw is e) in
         s .donors (k .0) (omega arith) (k .1) q (k .2);
   }
 
@@ -119,17 +121,17 @@ module _ {G : Grid} where
     donors = λ i l. absurd (omega arith);
   }
 
-  pub spread-ready : {work : List ℕ} {end head : ℕ} → Sized (G .rows) (G .cols) (G .dirs) → Spread G work end head → head < end → Ready G work end (placed work head / G .cols) (placed work head % G .cols)
+  pub spread-ready : {work : List ℕ} {end head : ℕ} → Sized (G .rows) (G .cols) (G .dirs) → Spread G work end head → head < end → Ready G work end (queuedAt work head / G .cols) (queuedAt work head % G .cols)
   spread-ready {work} {end} {head} z s l =
       let t = s .upstream .queue .item head l in
       record {
         sized = z;
-        on = record { rows-most = z .rows-most; cols-most = z .cols-most; row-on = row-lt (z .cols-some) (t .on); col-on = mod-lt (placed work head) (z .cols-some) };
+        on = record { rows-most = z .rows-most; cols-most = z .cols-most; row-on = row-lt (z .cols-some) (t .on); col-on = mod-lt (queuedAt work head) (z .cols-some) };
         upstream = s .upstream;
-        reached = rw (div-add-mod' (placed work head) (G .cols)) (omega (arith, t .rank));
+        reached = rw (div-add-mod' (queuedAt work head) (G .cols)) (omega (arith, t .rank));
       }
 
-  pub spread-more : {a b : List ℕ} {i j head : ℕ} → head < i → Spread G a i head → AllPushed G a i b j (placed a head) → Spread G b j (head + 1)
+  pub spread-more : {a b : List ℕ} {i j head : ℕ} → head < i → Spread G a i head → AllPushed G a i b j (queuedAt a head) → Spread G b j (head + 1)
   spread-more {a} {b} {i} {head = head} l s t = record {
     upstream = t .upstream;
     outlets = record {
@@ -142,7 +144,7 @@ module _ {G : Grid} where
     };
     within = omega (arith, s .within, t .grown .more);
     donors = λ m h q e. elim (ℕ-discrete m head) [
-      | yes z ↦ t .donors q (e ∙ ap To (t .grown .places m (omega arith) ∙ ap (placed a) z))
+      | yes z ↦ t .donors q (e ∙ ap To (t .grown .places m (omega arith) ∙ ap (queuedAt a) z))
       | no d ↦
           let r = s .donors m (omega arith) q (e ∙ ap To (t .grown .places m (omega arith))) in
           omega (arith, t .grown .ranks q (next-from-lt G q e) r)

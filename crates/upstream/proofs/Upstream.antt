@@ -11,7 +11,7 @@ use Rattle.sheet.specs.declared.Next.the-variants.{Outlet, To}
 use Rattle.sheet.specs.Sheet.{Grid, cells, inside, isOutlet, goesNowhere, next}
 use Rattle.sheet.specs.Water.{Passes, here, there}
 use Rattle.sheet.proofs.Cells.{inside-lt, next-goes, next-to-lt}
-use Rattle.upstream.specs.Work.{placed, rankOf, receiverOf, numbered, pushed}
+use Rattle.upstream.specs.Work.{queuedAt, rankOf, receiverOf, numbered, pushed}
 use Rattle.upstream.specs.Search.{Before, Upstream}
 use Rattle.upstream.proofs.Queues.{place-on, end-on, grown-push, queue-push, push-place, push-receiver, push-receiver-other}
 
@@ -53,7 +53,7 @@ way-inside G i (there {q = q} e h) = way-inside G (next-goes G q e .to-inside) h
 
 module _ {G : Grid} {work : List ℕ} {queued : ℕ} (u : Upstream G work queued) where
   -- the cell that the water of a queued cell goes to stands before it
-  pub next-before : (i r : ℕ) → i < queued → next G (placed work i) ≡ To r → Before (cells G) work i r
+  pub next-before : (i r : ℕ) → i < queued → next G (queuedAt work i) ≡ To r → Before (cells G) work i r
   next-before i r l e = u .queue .item i l .before r (u .receiver i l ∙ to-numbered e)
 
   module _ (c : ℕ) (on : c < cells G) (reached : 0 < rankOf (cells G) work c) where
@@ -75,16 +75,16 @@ module _ {G : Grid} {work : List ℕ} {end : ℕ} (u : Upstream G work end) (cel
   abbrev after : List ℕ
   after = pushed (cells G) work end cell receiver
 
-  new-place : placed after end ≡ cell
+  new-place : queuedAt after end ≡ cell
   new-place = push-place (cells G) work end cell receiver (u .queue .room) (end-on (u .queue) cell cell-on free) cell-on
 
-  old-place : (i : ℕ) → i < end → placed after i ≡ placed work i
+  old-place : (i : ℕ) → i < end → queuedAt after i ≡ queuedAt work i
   old-place i l = grown-push (u .queue) cell cell-on free receiver .places i l
 
-  old-receiver : (i : ℕ) → i < end → receiverOf (cells G) after (placed work i) ≡ receiverOf (cells G) work (placed work i)
+  old-receiver : (i : ℕ) → i < end → receiverOf (cells G) after (queuedAt work i) ≡ receiverOf (cells G) work (queuedAt work i)
   old-receiver i l =
-      push-receiver-other (cells G) work end cell receiver (u .queue .room) (end-on (u .queue) cell cell-on free) cell-on (placed work i)
-      (λ e. let z : rankOf (cells G) work (placed work i) ≡ 0 = ap (rankOf (cells G) work) e ∙ free in omega (arith, u .queue .item i l .rank))
+      push-receiver-other (cells G) work end cell receiver (u .queue .room) (end-on (u .queue) cell cell-on free) cell-on (queuedAt work i)
+      (λ e. let z : rankOf (cells G) work (queuedAt work i) ≡ 0 = ap (rankOf (cells G) work) e ∙ free in omega (arith, u .queue .item i l .rank))
 
   pub upstream-push : Upstream G after (end + 1)
   upstream-push = record {

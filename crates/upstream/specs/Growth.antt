@@ -5,16 +5,18 @@ use mathlib.Core.List.{List}
 use Prim.Native.Nat.{ℕ, _+_, _*_, _<_, _≤_}
 use Rattle.sheet.specs.declared.End.the-variants.{At}
 use Rattle.sheet.specs.declared.Next.the-variants.{To}
-use Rattle.sheet.specs.Sheet.{Grid, OnSheet, Sized, cells, isOutlet, next, donorAgainst}
+use Rattle.sheet.specs.Sheet.{Grid, cells, isOutlet, next}
+use Rattle.directions.specs.Sizes.{OnSheet, Sized}
+use Rattle.directions.specs.Steps.{neighbourAgainst}
 use Rattle.sheet.specs.Area.{count}
-use Rattle.upstream.specs.Work.{sizesPart, placed, rankOf, KeptFrom}
+use Rattle.upstream.specs.Work.{sizesPart, queuedAt, rankOf, KeptFrom}
 use Rattle.upstream.specs.Search.{Upstream, OutletsFirst, outletCount}
 
 -- a queue has grown from `end` places to end′
 pub record Grown (n : ℕ) (work : List ℕ) (end : ℕ) (work′ : List ℕ) (end′ : ℕ) : Type 0 where
   pub more : end ≤ end′
   pub ranks : (c : ℕ) → c < n → 0 < rankOf n work c → rankOf n work′ c ≡ rankOf n work c
-  pub places : (i : ℕ) → i < end → placed work′ i ≡ placed work i
+  pub places : (i : ℕ) → i < end → queuedAt work′ i ≡ queuedAt work i
   pub kept : KeptFrom (sizesPart * n) work work′
 
 -- ---- outlets
@@ -24,8 +26,8 @@ pub record Seeded (G : Grid) (work : List ℕ) (end upto : ℕ) : Type 0 where
   pub upstream : Upstream G work end
   pub counted : end ≡ count upto (isOutlet G)
   pub outlets : (c : ℕ) → c < upto → isOutlet G c ≡ true → 0 < rankOf (cells G) work c
-  pub before : (i : ℕ) → i < end → placed work i < upto
-  pub rising : (i j : ℕ) → i < j → j < end → placed work i < placed work j
+  pub before : (i : ℕ) → i < end → queuedAt work i < upto
+  pub rising : (i j : ℕ) → i < j → j < end → queuedAt work i < queuedAt work j
 
 -- ---- donors
 
@@ -40,7 +42,7 @@ pub record Ready (G : Grid) (work : List ℕ) (end row col : ℕ) : Type 0 where
 pub record DonorsPushed (G : Grid) (work : List ℕ) (end : ℕ) (work′ : List ℕ) (end′ row col from to : ℕ) : Type 0 where
   pub upstream : Upstream G work′ end′
   pub grown : Grown (cells G) work end work′ end′
-  pub donors : (k : ℕ) → from ≤ k → k < to → (q : ℕ) → donorAgainst G row col k ≡ At q → 0 < rankOf (cells G) work′ q
+  pub donors : (k : ℕ) → from ≤ k → k < to → (q : ℕ) → neighbourAgainst G row col k ≡ At q → 0 < rankOf (cells G) work′ q
 
 -- all donors of a cell are queued
 pub record AllPushed (G : Grid) (work : List ℕ) (end : ℕ) (work′ : List ℕ) (end′ cell : ℕ) : Type 0 where
@@ -53,4 +55,4 @@ pub record Spread (G : Grid) (work : List ℕ) (end head : ℕ) : Type 0 where
   pub upstream : Upstream G work end
   pub outlets : OutletsFirst G work
   pub within : outletCount G ≤ end
-  pub donors : (i : ℕ) → i < head → (q : ℕ) → next G q ≡ To (placed work i) → 0 < rankOf (cells G) work q
+  pub donors : (i : ℕ) → i < head → (q : ℕ) → next G q ≡ To (queuedAt work i) → 0 < rankOf (cells G) work q

@@ -10,7 +10,7 @@ use Rattle.sheet.specs.Water.{reachesOutlet}
 use Rattle.sheet.specs.Area.{count}
 use Rattle.sheet.specs.Label.{outlet}
 use Rattle.sheet.specs.Refusal.{both}
-use Rattle.upstream.specs.Work.{sizesPart, placed, rankOf, receiverOf, isReached, numbered}
+use Rattle.upstream.specs.Work.{sizesPart, queuedAt, rankOf, receiverOf, isReached, numbered}
 
 -- ---- the queue
 
@@ -22,14 +22,14 @@ pub record Before (n : ℕ) (work : List ℕ) (i r : ℕ) : Type 0 where
 
 -- the cell at place i: its rank says so, and its receiver stands before it
 pub record Item (n : ℕ) (work : List ℕ) (i : ℕ) : Type 0 where
-  pub on : placed work i < n
-  pub rank : rankOf n work (placed work i) ≡ i + 1
-  pub before : (r : ℕ) → receiverOf n work (placed work i) ≡ r + 1 → Before n work i r
+  pub on : queuedAt work i < n
+  pub rank : rankOf n work (queuedAt work i) ≡ i + 1
+  pub before : (r : ℕ) → receiverOf n work (queuedAt work i) ≡ r + 1 → Before n work i r
 
 -- the reached cell c stands at the place that its rank gives
 pub record Stands (n : ℕ) (work : List ℕ) (queued c : ℕ) : Type 0 where
   pub most : rankOf n work c ≤ queued
-  pub place : placed work (rankOf n work c - 1) ≡ c
+  pub place : queuedAt work (rankOf n work c - 1) ≡ c
 
 -- the first `queued` places hold the reached cells, each once
 pub record Queue (n : ℕ) (work : List ℕ) (queued : ℕ) : Type 0 where
@@ -43,8 +43,8 @@ pub record Queue (n : ℕ) (work : List ℕ) (queued : ℕ) : Type 0 where
 -- it holds inside cells, each with its receiver
 pub record Upstream (G : Grid) (work : List ℕ) (queued : ℕ) : Type 0 where
   pub queue : Queue (cells G) work queued
-  pub is-inside : (i : ℕ) → i < queued → inside G (placed work i) ≡ true
-  pub receiver : (i : ℕ) → i < queued → receiverOf (cells G) work (placed work i) ≡ numbered (next G (placed work i))
+  pub is-inside : (i : ℕ) → i < queued → inside G (queuedAt work i) ≡ true
+  pub receiver : (i : ℕ) → i < queued → receiverOf (cells G) work (queuedAt work i) ≡ numbered (next G (queuedAt work i))
 
 abbrev pub outletCount : Grid → ℕ
 outletCount G = count (cells G) (isOutlet G)
@@ -53,7 +53,7 @@ outletCount G = count (cells G) (isOutlet G)
 pub record OutletsFirst (G : Grid) (work : List ℕ) : Type 0 where
   pub reached : (c : ℕ) → isOutlet G c ≡ true → 0 < rankOf (cells G) work c
   pub first : (c : ℕ) → isOutlet G c ≡ true → rankOf (cells G) work c ≤ outletCount G
-  pub rising : (i j : ℕ) → i < j → j < outletCount G → placed work i < placed work j
+  pub rising : (i j : ℕ) → i < j → j < outletCount G → queuedAt work i < queuedAt work j
 
 -- a search is finished: the cells reached are those whose water comes to an outlet
 pub record Searched (G : Grid) (work : List ℕ) (queued : ℕ) : Type 0 where
@@ -75,4 +75,4 @@ pub record Drained (G : Grid) (work : List ℕ) (queued : ℕ) : Type 0 where
 pub record SingleOutlet (G : Grid) (work : List ℕ) : Type 0 where
   pub is-outlet : isOutlet G (outlet G) ≡ true
   pub only : (c : ℕ) → isOutlet G c ≡ true → c ≡ outlet G
-  pub first : placed work 0 ≡ outlet G
+  pub first : queuedAt work 0 ≡ outlet G

@@ -45,8 +45,8 @@ pub record Cleared (n : ℕ) (work : List ℕ) : Type 0 where
   pub zero : (j : ℕ) → j < 8 * n → getD work j 0 ≡ 0
 
 -- the cell at a place of the queue
-abbrev pub placed : List ℕ → ℕ → ℕ
-placed work i = getD work i 0
+abbrev pub queuedAt : List ℕ → ℕ → ℕ
+queuedAt work i = getD work i 0
 
 abbrev pub rankOf : ℕ → List ℕ → ℕ → ℕ
 rankOf n work c = getD work (ranksPart * n + c) 0

@@ -5,14 +5,15 @@ use sheet::End;
 ghost use mathlib.Core.Path.{_≡_};
 ghost use Prim.Native.Nat.{_+_, _*_, _/_, _%_, _<_, _≤_};
 ghost use lib.ListN.{length};
-ghost use Rattle.sheet.specs.Sheet.{grid, OnSheet, Sized, isOutlet};
+ghost use Rattle.sheet.specs.Sheet.{grid, isOutlet};
+ghost use Rattle.directions.specs.Sizes.{mostCells, OnSheet, Sized};
 ghost use Rattle.upstream.specs.Work.{sizesPart, Cleared, KeptFrom, pushed};
 ghost use Rattle.upstream.specs.Search.{Coded, Searched};
 ghost use Rattle.upstream.specs.Growth.{Ready, DonorsPushed, AllPushed, Seeded, Spread};
 
 // Queues a cell. Its receiver is the number, from 1, of the cell that its water goes to; 0 for an outlet.
 fn push(work: &mut [u32], n: usize, end: usize, cell: usize, receiver: usize) -> usize
-    requires { ⌜ (sizesPart * n ≤ length (now work)) × (n ≤ 65536) × (end < n) × (cell < n) × (receiver ≤ n) ⌝ }
+    requires { ⌜ (sizesPart * n ≤ length (now work)) × (n ≤ mostCells) × (end < n) × (cell < n) × (receiver ≤ n) ⌝ }
     ensures { λ r. ⌜ (r ≡ end + 1) × (now (work .exit) ≡ pushed n (now (work .entry)) end cell receiver) ⌝ }
 {
     work[end] = cell as u32;
@@ -87,7 +88,7 @@ fn push_donor(
     ensures { λ r. ⌜ DonorsPushed (grid rows cols (now (dirs .entry))) (now (work .entry)) end (now (work .exit)) r row col k (k + 1) ⌝ }
 {
     let n = rows * cols;
-    let End::At(donor) = directions::donor_at(dirs, rows, cols, row, col, k) else {
+    let End::At(donor) = directions::neighbour_against(dirs, rows, cols, row, col, k) else {
         return end;
     };
     if work[parts::RANKS * n + donor] == 0 {

@@ -3,7 +3,8 @@ use mathlib.Core.Path.{_≡_, sym, _∙_}
 use Prim.Native.Nat.{_+_, _*_}
 use native.Mathlib.Omega.{arith}
 use Rattle.sheet.specs.Sheet.{grid, next}
-use Rattle.sheet.proofs.Cells.{on-lt, on-fits, inside-no, inside-yes, is-outlet, outlet-outside, outlet-to}
+use Rattle.sheet.proofs.Cells.{inside-no, inside-yes, is-outlet, outlet-outside, outlet-to}
+use Rattle.directions.proofs.Sizes.{on-lt, on-fits}
 use borrow.Author.Needs.{needs}
 use Rattle.directions.proofs.is_outlet.Statement.{statement}
 use Rattle.directions.proofs.is_outlet.Tie as tie

@@ -1,6 +1,6 @@
 -- `moved` meets its contract: each fact on the sum's bits is one on the sum.
 use borrow.Author.Needs.{needs}
-use Rattle.sheet.proofs.Signed.{sum-fits, index-fits, moved-negative, moved-in, moved-out}
+use Rattle.directions.proofs.Signed.{sum-fits, index-fits, moved-negative, moved-in, moved-out}
 use Rattle.directions.proofs.moved.Statement.{statement}
 use Rattle.directions.proofs.moved.Tie as tie
 

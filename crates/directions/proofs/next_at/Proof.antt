@@ -6,8 +6,9 @@ use native.Mathlib.Omega.{arith}
 use borrow.Author.Needs.{needs}
 use Rattle.sheet.specs.Direction.{stepOf, stepEnd}
 use Rattle.sheet.specs.Sheet.{Grid, grid, dirAt, endOf, inside}
-use Rattle.sheet.proofs.Steps.{step-short}
-use Rattle.sheet.proofs.Cells.{on-lt, on-fits, end-lt, end-of, inside-no, inside-yes, next-outside, next-off, next-out, next-to}
+use Rattle.directions.proofs.Steps.{step-short}
+use Rattle.sheet.proofs.Cells.{end-lt, end-of, inside-no, inside-yes, next-outside, next-off, next-out, next-to}
+use Rattle.directions.proofs.Sizes.{on-lt, on-fits}
 use Rattle.directions.proofs.next_at.Statement.{statement}
 use Rattle.directions.proofs.next_at.Tie as tie
 

@@ -4,7 +4,7 @@ use Prim.Native.Nat.{_<_, _+_, _*_}
 use native.Mathlib.Omega.{arith}
 use borrow.Author.Needs.{needs}
 use Rattle.sheet.specs.Direction.{movedBy}
-use Rattle.sheet.proofs.Signed.{read-step}
+use Rattle.directions.proofs.Signed.{read-step}
 use Rattle.sheet.proofs.Cells.{cells-most, cell-lt, moved-lt, end-off-row, end-off-col, end-at}
 use Rattle.directions.proofs.step_end.Statement.{statement}
 use Rattle.directions.proofs.step_end.Tie as tie

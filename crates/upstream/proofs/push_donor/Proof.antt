@@ -3,9 +3,10 @@ use mathlib.Core.Path.{_≡_, sym, _∙_}
 use Prim.Native.Nat.{_+_, _*_, _<_, _≤_}
 use native.Mathlib.Omega.{arith}
 use Rattle.sheet.specs.declared.End.the-variants.{At}
-use Rattle.sheet.specs.Sheet.{grid, donorAgainst}
+use Rattle.sheet.specs.Sheet.{grid}
+use Rattle.directions.specs.Steps.{neighbourAgainst}
 use Rattle.sheet.proofs.Cells.{cells-most, cell-lt}
-use Rattle.sheet.proofs.Donors.{donor-lt}
+use Rattle.directions.proofs.Neighbours.{neighbour-lt}
 use Rattle.upstream.proofs.Queues.{end-on}
 use Rattle.upstream.proofs.Spreading.{donors-off, donors-old, donors-new}
 use borrow.Author.Needs.{needs}
@@ -15,8 +16,8 @@ use Rattle.upstream.proofs.push_donor.Tie as tie
 mul-n : tie.Need-mul-n
 mul-n c = search needs
 
-donor-at-requires : tie.Need-donor-at-requires
-donor-at-requires c κs = let p = c .before .before .pre in (p .0 .sized, p .0 .on, p .1)
+neighbour-against-requires : tie.Need-neighbour-against-requires
+neighbour-against-requires c κs = let p = c .before .before .pre in (p .0 .sized, p .0 .on, p .1)
 
 enum-known-donor : tie.Need-enum-known-donor
 enum-known-donor c = search needs
@@ -25,14 +26,14 @@ enum-told : tie.Need-enum-told
 enum-told c = search needs
 
 returns : tie.Need-returns
-returns c = donors-off (c .before .before .before .before .before .pre .0) _ (sym (c .before .before .donor-at .ensures) ∙ c .enum-told .given .1)
+returns c = donors-off (c .before .before .before .before .before .pre .0) _ (sym (c .before .before .neighbour-against .ensures) ∙ c .enum-told .given .1)
 
 -- the donor, which lies on the sheet
-found : (c : tie.After-known-told) → let a = c .before .before .before .before .before .before .args in donorAgainst (grid (a .rows) (a .cols) (a .dirs .now)) (a .row) (a .col) (a .k) ≡ At (c .before .donor .given .0 .0)
-found c = sym (c .before .before .before .donor-at .ensures) ∙ c .before .donor .given .1
+found : (c : tie.After-known-told) → let a = c .before .before .before .before .before .before .args in neighbourAgainst (grid (a .rows) (a .cols) (a .dirs .now)) (a .row) (a .col) (a .k) ≡ At (c .before .donor .given .0 .0)
+found c = sym (c .before .before .before .neighbour-against .ensures) ∙ c .before .donor .given .1
 
 donor-on : (c : tie.After-known-told) → let a = c .before .before .before .before .before .before .args in c .before .donor .given .0 .0 < a .rows * a .cols
-donor-on c = let a = c .before .before .before .before .before .before .args in donor-lt (grid (a .rows) (a .cols) (a .dirs .now)) (a .row) (a .col) (a .k) (found c)
+donor-on c = let a = c .before .before .before .before .before .before .args in neighbour-lt (grid (a .rows) (a .cols) (a .dirs .now)) (a .row) (a .col) (a .k) (found c)
 
 -- the cell, which lies on the sheet
 on-sheet : (c : tie.Start) → c .args .row * c .args .cols + c .args .col < c .args .rows * c .args .cols
@@ -83,7 +84,7 @@ push-donor-spec =
     tie.close
     (tie.spec
     mul-n
-    donor-at-requires
+    neighbour-against-requires
     enum-known-donor
     enum-told
     returns

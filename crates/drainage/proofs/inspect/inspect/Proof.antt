@@ -1,10 +1,11 @@
 -- `inspect` meets its contract.
 use mathlib.Core.Path.{_≡_, refl, sym, _∙_}
 use Prim.Native.Nat.{_*_}
+use native.Mathlib.Omega.{arith}
 use Rattle.sheet.specs.declared.Found.the-variants.{At, Nothing}
-use Rattle.sheet.specs.Sheet.{Grid, grid, inside, first}
+use Rattle.sheet.specs.Sheet.{Grid, grid, cells, inside, first}
 use Rattle.sheet.specs.Refusal.{badCode, undrained}
-use Rattle.drainage.proofs.Outcomes.{ranks-part, bad-is, inside-is, undrained-is, coded-of, refused-4, refused-5, inspected-refused, inspected}
+use Rattle.drainage.proofs.Outcomes.{ranks-part, inside-is, undrained-is, coded-of, refused-4, refused-5, inspected-before, inspected}
 use borrow.Author.Needs.{needs}
 use Rattle.drainage.proofs.inspect.inspect.Statement.{statement}
 use Rattle.drainage.proofs.inspect.inspect.Tie as tie
@@ -13,20 +14,32 @@ abbrev sheetOf : tie.Start → Grid
 sheetOf c = grid (c .args .rows) (c .args .cols) (c .args .dirs .now)
 
 -- what each search found, in the definition's terms
-bad : (c : tie.After-first-fault) → c .first-fault .result ≡ first (badCode (sheetOf (c .before .before .before .before .before))) (c .before .before .before .before .before .args .rows * c .before .before .before .before .before .args .cols)
-bad c = c .first-fault .ensures ∙ bad-is _ _
+no-bad : (c : tie.After-enum-told) → let G = sheetOf (c .before .before .before .before .before) in first (badCode G) (cells G) ≡ Nothing
+no-bad c = sym (c .before .before .first-bad-code .ensures) ∙ c .enum-told .given .1
 
-no-bad : (c : tie.After-enum-told) → first (badCode (sheetOf (c .before .before .before .before .before .before .before))) (c .before .before .before .before .before .before .before .args .rows * c .before .before .before .before .before .before .before .args .cols) ≡ Nothing
-no-bad c = sym (bad (c .before .before)) ∙ c .enum-told .given .1
+in-cells : (c : tie.After-first-target) → let G = sheetOf (c .before .before .before .before .before .before .before .before) in c .first-target .result ≡ first (inside G) (cells G)
+in-cells c = c .first-target .ensures ∙ inside-is _ _
 
-in-cells : (c : tie.After-first-fault2) → c .first-fault2 .result ≡ first (inside (sheetOf (c .before .before .before .before .before .before .before .before .before .before))) (c .before .before .before .before .before .before .before .before .before .before .args .rows * c .before .before .before .before .before .before .before .before .before .before .args .cols)
-in-cells c = c .first-fault2 .ensures ∙ inside-is _ _
-
-some : (c : tie.After-enum-told2) → first (inside (sheetOf (c .before .before .before .before .before .before .before .before .before .before .before .before))) (c .before .before .before .before .before .before .before .before .before .before .before .before .args .rows * c .before .before .before .before .before .before .before .before .before .before .before .before .args .cols) ≡ At (c .enum-told2 .given .0 .0)
+some : (c : tie.After-enum-told2) → let G = sheetOf (c .before .before .before .before .before .before .before .before .before .before) in first (inside G) (cells G) ≡ At (c .enum-told2 .given .0 .0)
 some c = sym (in-cells (c .before .before)) ∙ c .enum-told2 .given .1
 
-unreached : (c : tie.After-first-fault3) → c .first-fault3 .result ≡ first (undrained (sheetOf (c .before .before .before .before .before .before .before .before .before .before .before .before .before .before .before .before .before .before .before))) (c .before .before .before .before .before .before .before .before .before .before .before .before .before .before .before .before .before .before .before .args .rows * c .before .before .before .before .before .before .before .before .before .before .before .before .before .before .before .before .before .before .before .args .cols)
-unreached c = c .first-fault3 .ensures ∙ undrained-is _ _ (c .before .before .before .before .before .search .ensures .0) (ranks-part _ _)
+unreached : (c : tie.After-first-target2) → let G = sheetOf (c .before .before .before .before .before .before .before .before .before .before .before .before .before .before .before .before .before) in c .first-target2 .result ≡ first (undrained G) (cells G)
+unreached c = c .first-target2 .ensures ∙ undrained-is _ _ (c .before .before .before .before .before .search .ensures .0) (ranks-part _ _)
+
+first-bad-code-requires : tie.Need-first-bad-code-requires
+first-bad-code-requires c κs = search needs
+
+enum-known-c : tie.Need-enum-known-c
+enum-known-c c = search needs
+
+refused-requires : tie.Need-refused-requires
+refused-requires c κs = search needs
+
+returns : tie.Need-returns
+returns c = inspected-before (c .refused .ensures) (omega arith) (refused-4 _ (sym (c .before .before .before .before .first-bad-code .ensures) ∙ c .before .before .c .given .1))
+
+enum-told : tie.Need-enum-told
+enum-told c = search needs
 
 mul-n : tie.Need-mul-n
 mul-n c = search needs
@@ -37,50 +50,20 @@ mul-ranks c = search needs
 add-end : tie.Need-add-end
 add-end c = search needs
 
-mul-first-fault : tie.Need-mul-first-fault
-mul-first-fault c = search needs
+mul-first-target : tie.Need-mul-first-target
+mul-first-target c = search needs
 
-sub-first-fault : tie.Need-sub-first-fault
-sub-first-fault c = search needs
+sub-first-target : tie.Need-sub-first-target
+sub-first-target c = search needs
 
-part-first-fault-start : tie.Need-part-first-fault-start
-part-first-fault-start c = search needs
+part-first-target-start : tie.Need-part-first-target-start
+part-first-target-start c = search needs
 
-part-first-fault-end : tie.Need-part-first-fault-end
-part-first-fault-end c = search needs
+part-first-target-end : tie.Need-part-first-target-end
+part-first-target-end c = search needs
 
-first-fault-requires : tie.Need-first-fault-requires
-first-fault-requires c κs = search needs
-
-enum-known-c : tie.Need-enum-known-c
-enum-known-c c = search needs
-
-refused-requires : tie.Need-refused-requires
-refused-requires c κs = search needs
-
-same-length : tie.Need-same-length
-same-length c = search needs
-
-returns : tie.Need-returns
-returns c = inspected-refused (c .refused .ensures) (refused-4 _ (sym (bad (c .before .before .before .before)) ∙ c .before .before .c .given .1)) refl
-
-enum-told : tie.Need-enum-told
-enum-told c = search needs
-
-mul-first-fault-2 : tie.Need-mul-first-fault-2
-mul-first-fault-2 c = search needs
-
-sub-first-fault-2 : tie.Need-sub-first-fault-2
-sub-first-fault-2 c = search needs
-
-part-first-fault-start-2 : tie.Need-part-first-fault-start-2
-part-first-fault-start-2 c = search needs
-
-part-first-fault-end-2 : tie.Need-part-first-fault-end-2
-part-first-fault-end-2 c = search needs
-
-first-fault-requires-2 : tie.Need-first-fault-requires-2
-first-fault-requires-2 c κs = search needs
+first-target-requires : tie.Need-first-target-requires
+first-target-requires c κs = search needs
 
 enum-told-2 : tie.Need-enum-told-2
 enum-told-2 c = search needs
@@ -91,29 +74,29 @@ enum-told-3 c = search needs
 refused-requires-2 : tie.Need-refused-requires-2
 refused-requires-2 c κs = search needs
 
-same-length-2 : tie.Need-same-length-2
-same-length-2 c = search needs
+same-length : tie.Need-same-length
+same-length c = search needs
 
 returns-2 : tie.Need-returns-2
-returns-2 c = inspected-refused (c .refused2 .ensures) (refused-5 _ (no-bad (c .before .before .before .before .before .before)) (sym (in-cells (c .before .before .before)) ∙ c .before .enum-told3 .given .1)) refl
+returns-2 c = inspected-before (c .refused2 .ensures) (omega arith) (refused-5 _ (no-bad (c .before .before .before .before .before .before)) (sym (in-cells (c .before .before .before)) ∙ c .before .enum-told3 .given .1))
 
 search-requires : tie.Need-search-requires
-search-requires c κs = let p = c .before .before .before .before .before .before .before .before .before .before .before .before .before .pre in (p .0, coded-of _ (no-bad (c .before .before .before .before .before .before)), p .1)
+search-requires c κs = let p = c .before .before .before .before .before .before .before .before .before .before .before .pre in (p .0, coded-of _ (no-bad (c .before .before .before .before .before .before)), p .1)
 
-mul-first-fault-3 : tie.Need-mul-first-fault-3
-mul-first-fault-3 c = search needs
+mul-first-target-2 : tie.Need-mul-first-target-2
+mul-first-target-2 c = search needs
 
-sub-first-fault-3 : tie.Need-sub-first-fault-3
-sub-first-fault-3 c = search needs
+sub-first-target-2 : tie.Need-sub-first-target-2
+sub-first-target-2 c = search needs
 
-part-first-fault-start-3 : tie.Need-part-first-fault-start-3
-part-first-fault-start-3 c = search needs
+part-first-target-start-2 : tie.Need-part-first-target-start-2
+part-first-target-start-2 c = search needs
 
-part-first-fault-end-3 : tie.Need-part-first-fault-end-3
-part-first-fault-end-3 c = search needs
+part-first-target-end-2 : tie.Need-part-first-target-end-2
+part-first-target-end-2 c = search needs
 
-first-fault-requires-3 : tie.Need-first-fault-requires-3
-first-fault-requires-3 c κs = search needs
+first-target-requires-2 : tie.Need-first-target-requires-2
+first-target-requires-2 c κs = search needs
 
 mul-second-outlet : tie.Need-mul-second-outlet
 mul-second-outlet c = search needs
@@ -133,52 +116,48 @@ second-outlet-requires c κs = search needs
 refused-by-requires : tie.Need-refused-by-requires
 refused-by-requires c κs = search needs
 
-same-length-3 : tie.Need-same-length-3
-same-length-3 c = search needs
+same-length-2 : tie.Need-same-length-2
+same-length-2 c = search needs
 
 returns-3 : tie.Need-returns-3
 returns-3 c =
-    inspected (no-bad (c .before .before .before .before .before .before .before .before .before .before .before .before .before .before .before .before)) (some (c .before .before .before .before .before .before .before .before .before .before .before)) (c .before .before .before .before .before .before .before .before .before .search .ensures .0)
-    (rw (unreached (c .before .before .before .before), c .before .second-outlet .ensures) at (c .refused-by .ensures)) (c .before .before .before .before .before .before .before .before .before .search .ensures .1)
+    let search = c .before .before .before .before .before .before .before .before .before .search in
+    inspected (no-bad (c .before .before .before .before .before .before .before .before .before .before .before .before .before .before .before .before)) (some (c .before .before .before .before .before .before .before .before .before .before .before)) (search .ensures .0)
+    (rw (unreached (c .before .before .before .before), c .before .second-outlet .ensures) at (c .refused-by .ensures)) (search .ensures .1)
 
 pub inspect-spec : {M : Type 1} → statement M
 inspect-spec =
     tie.close
     (tie.spec
+    first-bad-code-requires
+    enum-known-c
+    refused-requires
+    returns
+    enum-told
     mul-n
     mul-ranks
     add-end
-    mul-first-fault
-    sub-first-fault
-    part-first-fault-start
-    part-first-fault-end
-    first-fault-requires
-    enum-known-c
-    refused-requires
-    same-length
-    returns
-    enum-told
-    mul-first-fault-2
-    sub-first-fault-2
-    part-first-fault-start-2
-    part-first-fault-end-2
-    first-fault-requires-2
+    mul-first-target
+    sub-first-target
+    part-first-target-start
+    part-first-target-end
+    first-target-requires
     enum-told-2
     enum-told-3
     refused-requires-2
-    same-length-2
+    same-length
     returns-2
     search-requires
-    mul-first-fault-3
-    sub-first-fault-3
-    part-first-fault-start-3
-    part-first-fault-end-3
-    first-fault-requires-3
+    mul-first-target-2
+    sub-first-target-2
+    part-first-target-start-2
+    part-first-target-end-2
+    first-target-requires-2
     mul-second-outlet
     sub-second-outlet
     part-second-outlet-start
     part-second-outlet-end
     second-outlet-requires
     refused-by-requires
-    same-length-3
+    same-length-2
     returns-3)

@@ -1,4 +1,4 @@
--- The donors of a cell are the cells found against the eight steps, each once.
+-- The donors of an inside cell are its neighbours against the eight steps, each once.
 use mathlib.Core.Path.{_≡_, refl, sym, _∙_, ap}
 use mathlib.Core.Bool.{Bool, true, false, cond}
 use Prim.Native.Nat.{ℕ, _+_, _*_, _/_, _%_, _<_}
@@ -7,14 +7,15 @@ use native.Mathlib.Omega.{arith}
 use lib.Dec.{eqb, ltb}
 use lib.IntN.{ℤ, pos, negsuc, negℤ, _+ℤ_, +ℤ-negℤ-cancel}
 use borrow.Author.Tests.{lt-ltb, eq-eqb, ne-eqb, eqb-true}
 use Rattle.sheet.specs.declared.Step.{Step}
 use Rattle.sheet.specs.declared.End.{End}
 use Rattle.sheet.specs.declared.End.the-variants.{Off, At}
 use Rattle.sheet.specs.declared.Next.the-variants.{To}
-use Rattle.sheet.specs.Direction.{stepAt, stepOf, isCode, below, movedBy, stepEnd}
-use Rattle.sheet.specs.Sheet.{Grid, cells, dirAt, inside, endOf, next, withCode, donorAgainst}
-use Rattle.sheet.proofs.Steps.{back, Opposite, back-opposite, opposite-back, table-step, code-found, code-positive, code-once}
+use Rattle.sheet.specs.Direction.{stepOf, isCode, below, movedBy, stepEnd}
+use Rattle.sheet.specs.Sheet.{Grid, cells, dirAt, inside, endOf, next}
+use Rattle.directions.specs.Steps.{stepAt, withCode, neighbourAgainst}
+use Rattle.directions.proofs.Steps.{back, Opposite, back-opposite, opposite-back, table-step, code-found, code-positive, code-once}
 use Rattle.sheet.proofs.Cells.{off-not-at, cell-row, cell-col, row-lt, moved-lt, end-at, end-landed, end-lt, inside-yes, inside-code, next-to, next-goes, next-from-lt}
 
 -- ---- a step back
 
@@ -55,21 +56,21 @@ pub record FoundAgainst (G : Grid) (row col k u : ℕ) : Type 0 where
   pub code : dirAt G u ≡ stepAt k .code
 
 module _ (G : Grid) (row col k : ℕ) where
-  pub donor-off : stepBack G row col k ≡ Off → Off ≡ donorAgainst G row col k
-  unfolding donorAgainst
-  donor-off e = rw e
+  pub neighbour-off : stepBack G row col k ≡ Off → Off ≡ neighbourAgainst G row col k
+  unfolding neighbourAgainst
+  neighbour-off e = rw e
 
-  pub donor-no : {t : ℕ} → stepBack G row col k ≡ At t → (dirAt G t ≡ stepAt k .code → ⊥) → Off ≡ donorAgainst G row col k
-  unfolding donorAgainst
-  donor-no e ne = rw (e, ne-eqb _ _ ne)
+  pub neighbour-no : {t : ℕ} → stepBack G row col k ≡ At t → (dirAt G t ≡ stepAt k .code → ⊥) → Off ≡ neighbourAgainst G row col k
+  unfolding neighbourAgainst
+  neighbour-no e ne = rw (e, ne-eqb _ _ ne)
 
-  pub donor-yes : {u : ℕ} → FoundAgainst G row col k u → At u ≡ donorAgainst G row col k
-  unfolding donorAgainst
-  donor-yes f = rw (f .ends, eq-eqb _ _ (f .code))
+  pub neighbour-yes : {u : ℕ} → FoundAgainst G row col k u → At u ≡ neighbourAgainst G row col k
+  unfolding neighbourAgainst
+  neighbour-yes f = rw (f .ends, eq-eqb _ _ (f .code))
 
-  pub donor-found : {u : ℕ} → donorAgainst G row col k ≡ At u → FoundAgainst G row col k u
-  unfolding donorAgainst
-  donor-found {u} e = go (stepBack G row col k) refl e
+  pub neighbour-found : {u : ℕ} → neighbourAgainst G row col k ≡ At u → FoundAgainst G row col k u
+  unfolding neighbourAgainst
+  neighbour-found {u} e = go (stepBack G row col k) refl e
     where
       own : (t : ℕ) → stepBack G row col k ≡ At t → (b : Bool) → eqb (dirAt G t) (stepAt k .code) ≡ b → cond b (At t) Off ≡ At u → FoundAgainst G row col k u
       own t n true z e = let q : t ≡ u = cc in record { ends = n ∙ ap At q; code = ap (dirAt G) (sym q) ∙ eqb-true (dirAt G t) (stepAt k .code) z }
@@ -79,30 +80,30 @@ module _ (G : Grid) (row col k : ℕ) where
       go Off n e = absurd (off-not-at e)
       go (At t) n e = own t n (eqb (dirAt G t) (stepAt k .code)) refl e
 
-  pub donor-lt : {u : ℕ} → donorAgainst G row col k ≡ At u → u < cells G
-  donor-lt e = end-lt (G .rows) (G .cols) row col (stepAt (back k)) (donor-found e .ends)
+  pub neighbour-lt : {u : ℕ} → neighbourAgainst G row col k ≡ At u → u < cells G
+  neighbour-lt e = end-lt (G .rows) (G .cols) row col (stepAt (back k)) (neighbour-found e .ends)
 
 -- no cell is found against two steps
-pub donor-once : (G : Grid) (row col : ℕ) {j k u : ℕ} → j < 8 → k < 8 → donorAgainst G row col j ≡ At u → donorAgainst G row col k ≡ At u → j ≡ k
-donor-once G row col {j} {k} h l e f = code-once j k h l (sym (donor-found G row col j e .code) ∙ donor-found G row col k f .code)
+pub neighbour-once : (G : Grid) (row col : ℕ) {j k u : ℕ} → j < 8 → k < 8 → neighbourAgainst G row col j ≡ At u → neighbourAgainst G row col k ≡ At u → j ≡ k
+neighbour-once G row col {j} {k} h l e f = code-once j k h l (sym (neighbour-found G row col j e .code) ∙ neighbour-found G row col k f .code)
 
 -- ---- the donors of a cell
 
 module _ (G : Grid) (row col : ℕ) (row-on : row < G .rows) (col-on : col < G .cols) where
   -- what is found against a step from an inside cell is a donor of it
-  pub donor-next : inside G (row * G .cols + col) ≡ true → {k u : ℕ} → k < 8 → donorAgainst G row col k ≡ At u → next G u ≡ To (row * G .cols + col)
+  pub neighbour-next : inside G (row * G .cols + col) ≡ true → {k u : ℕ} → k < 8 → neighbourAgainst G row col k ≡ At u → next G u ≡ To (row * G .cols + col)
   unfolding endOf
-  donor-next i {k} {u} h e =
-      let f = donor-found G row col k e in
+  neighbour-next i {k} {u} h e =
+      let f = neighbour-found G row col k e in
       let s : stepOf (dirAt G u) ≡ stepAt k = ap stepOf (f .code) ∙ table-step k h in
       let n : endOf G u ≡ At (row * G .cols + col) = rw s (end-back (G .rows) (G .cols) row col (opposite-back k h) row-on col-on (f .ends)) in
       let ne : dirAt G u ≡ 0 → ⊥ = λ z. let l = code-positive k h in let c = f .code in omega arith in
-      sym (next-to G u (record { from-inside = inside-yes G u (donor-lt G row col k e) ne; ends = n; to-inside = i }))
+      sym (next-to G u (record { from-inside = inside-yes G u (neighbour-lt G row col k e) ne; ends = n; to-inside = i }))
 
   -- each donor whose byte is a code is found against some step
-  pub next-donor : {u : ℕ} → isCode (dirAt G u) ≡ true → next G u ≡ To (row * G .cols + col) → (k : ℕ) × (k < 8) × (donorAgainst G row col k ≡ At u)
+  pub next-neighbour : {u : ℕ} → isCode (dirAt G u) ≡ true → next G u ≡ To (row * G .cols + col) → (k : ℕ) × (k < 8) × (neighbourAgainst G row col k ≡ At u)
   unfolding endOf
-  next-donor {u} code e =
+  next-neighbour {u} code e =
       let g = next-goes G u e in
       let f = code-found (dirAt G u) code (inside-code G u (g .from-inside)) in
       let k = f .0 in
@@ -110,4 +111,4 @@ module _ (G : Grid) (row col : ℕ) (row-on : row < G .rows) (col-on : col < G .
       let n : stepEnd (G .rows) (G .cols) (u / G .cols) (u % G .cols) (stepAt k) ≡ At (row * G .cols + col) = rw (f .2) at (g .ends) in
       let b = end-back (G .rows) (G .cols) (u / G .cols) (u % G .cols) (back-opposite k (f .1)) (row-lt some (next-from-lt G u e)) (mod-lt u some) n in
       let ends : stepBack G row col k ≡ At u = rw (cell-row row col-on, cell-col row col-on, div-add-mod' u (G .cols)) at b in
-      (k, f .1, sym (donor-yes G row col k (record { ends = ends; code = f .3 })))
+      (k, f .1, sym (neighbour-yes G row col k (record { ends = ends; code = f .3 })))

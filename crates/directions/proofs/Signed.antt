@@ -10,8 +10,9 @@ use mir.Syntax.{w32, w64}
 use mir.Val.{Fits, SFits, ofZ, toZ}
 use mir.ValLaws.{toZ-pos, toZ-ofZ}
 use borrow.Author.Tests.{ltb-true, lt-ltb, le-ltb}
 use Rattle.sheet.specs.declared.End.the-variants.{Off, At}
-use Rattle.sheet.specs.Direction.{below, movedBy, Near}
+use Rattle.sheet.specs.Direction.{below, movedBy}
+use Rattle.directions.specs.Steps.{Near}
 
 sub-small : (a b : ℕ) → a < 256 → b < 256 → mag (subℕ a b) < 256
 sub-small a b h k = go (ltb a b)

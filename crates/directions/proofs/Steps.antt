@@ -13,8 +13,9 @@ use lib.ListN.{getD, length, drop, List·getD-eq-default}
 use lib.Seq.{drop-cons}
 use lib.Signed.{mag}
 use borrow.Author.Tests.{ltb-true, eqb-true}
 use Rattle.sheet.specs.declared.Step.{Step}
-use Rattle.sheet.specs.Direction.{steps, noStep, stepAt, stepIn, stepOf, isCode, Short}
+use Rattle.sheet.specs.Direction.{steps, noStep, stepIn, stepOf, isCode}
+use Rattle.directions.specs.Steps.{stepAt, Short}
 
 -- a rule of the table from its eight entries
 at-each : (P : ℕ → Type 0) → P 0 → P 1 → P 2 → P 3 → P 4 → P 5 → P 6 → P 7 → (k : ℕ) → k < 8 → P k

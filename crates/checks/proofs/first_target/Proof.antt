@@ -1,30 +1,32 @@
--- `first_fault` meets its contract: before each turn no cell before it has the fault.
+-- `first_target` meets its contract: before each turn no cell before it is the target.
 use mathlib.Core.Path.{_≡_, refl, sym, _∙_}
 use Prim.Native.Nat.{_+_, _*_, _-_, _≤_}
 use native.Mathlib.Omega.{arith}
 use borrow.Author.Count.{below-more}
 use borrow.Author.Needs.{needs}
 use Rattle.sheet.specs.declared.Found.the-variants.{Nothing}
-use Rattle.sheet.specs.Sheet.{grid, OnSheet}
-use Rattle.sheet.specs.Refusal.{faultAt}
-use Rattle.sheet.proofs.Cells.{on-lt, on-fits, row-end}
+use Rattle.sheet.specs.Sheet.{grid}
+use Rattle.directions.specs.Sizes.{OnSheet}
+use Rattle.checks.specs.Search.{isTarget}
+use Rattle.sheet.proofs.Cells.{row-end}
+use Rattle.directions.proofs.Sizes.{on-lt, on-fits}
 use Rattle.sheet.proofs.First.{NoneBelow, first-none, first-at}
-use Rattle.checks.proofs.first_fault.Statement.{statement}
-use Rattle.checks.proofs.first_fault.Tie as tie
+use Rattle.checks.proofs.first_target.Statement.{statement}
+use Rattle.checks.proofs.first_target.Tie as tie
 
 abbrev Inv-loop : tie.InvT-loop
-Inv-loop dirs rows cols reached fault found₀ row col₀ found col =
-    (col ≤ cols) × (found ≡ Nothing) × NoneBelow (faultAt (grid rows cols dirs) reached fault) (row * cols + col)
+Inv-loop dirs rows cols reached target found₀ row col₀ found col =
+    (col ≤ cols) × (found ≡ Nothing) × NoneBelow (isTarget (grid rows cols dirs) reached target) (row * cols + col)
 
 abbrev μ-loop : tie.MeasureT-loop
-μ-loop dirs rows cols reached fault found₀ row col₀ found col = cols - col
+μ-loop dirs rows cols reached target found₀ row col₀ found col = cols - col
 
 abbrev Inv-rows : tie.InvT-rows
-Inv-rows dirs rows cols reached fault found₀ row₀ found row =
-    (row ≤ rows) × (found ≡ Nothing) × NoneBelow (faultAt (grid rows cols dirs) reached fault) (row * cols)
+Inv-rows dirs rows cols reached target found₀ row₀ found row =
+    (row ≤ rows) × (found ≡ Nothing) × NoneBelow (isTarget (grid rows cols dirs) reached target) (row * cols)
 
 abbrev μ-rows : tie.MeasureT-rows
-μ-rows dirs rows cols reached fault found₀ row₀ found row = rows - row
+μ-rows dirs rows cols reached target found₀ row₀ found row = rows - row
 
 rows-holds : tie.Need-rows-holds Inv-loop μ-loop Inv-rows μ-rows
 rows-holds c = (omega arith, refl, λ k h. absurd (omega arith))
@@ -38,8 +40,8 @@ on c =
     let p = c .before .before .before .before .before .before .pre .0 in
     record { rows-most = p .rows-most; cols-most = p .cols-most; row-on = c .before .before .rows-test .taken; col-on = c .loop-test .taken }
 
-has-fault-requires : tie.Need-has-fault-requires Inv-loop μ-loop Inv-rows μ-rows
-has-fault-requires c κs = let p = c .before .before .before .before .before .before .pre in (p .0, on c, p .1)
+is-target-requires : tie.Need-is-target-requires Inv-loop μ-loop Inv-rows μ-rows
+is-target-requires c κs = let p = c .before .before .before .before .before .before .pre in (p .0, on c, p .1)
 
 mul-t12 : tie.Need-mul-t12 Inv-loop μ-loop Inv-rows μ-rows
 mul-t12 c = omega (arith, on-fits (on (c .before .before)))
@@ -54,14 +56,14 @@ loop-less : tie.Need-loop-less Inv-loop μ-loop Inv-rows μ-rows
 loop-less c = search needs
 
 -- what the call answers
-fault-is : (c : tie.After-has-fault Inv-loop μ-loop Inv-rows μ-rows) → let a = c .before .before .before .before .before .before .before .args in
-    c .has-fault .result ≡ faultAt (grid (a .rows) (a .cols) (a .dirs .now)) (a .reached .now) (a .fault) (c .before .before .before .before .rows .row * a .cols + c .before .before .loop .col)
-fault-is c = c .has-fault .ensures
+target-is : (c : tie.After-is-target Inv-loop μ-loop Inv-rows μ-rows) → let a = c .before .before .before .before .before .before .before .args in
+    c .is-target .result ≡ isTarget (grid (a .rows) (a .cols) (a .dirs .now)) (a .reached .now) (a .target) (c .before .before .before .before .rows .row * a .cols + c .before .before .loop .col)
+target-is c = c .is-target .ensures
 
 loop-again : tie.Need-loop-again Inv-loop μ-loop Inv-rows μ-rows
 loop-again c =
     let l = c .before .before .before .loop in
-    (omega arith, l .inv .1, λ k h. below-more _ _ (l .inv .2) (sym (fault-is (c .before)) ∙ c .if1 .left) k (omega arith))
+    (omega arith, l .inv .1, λ k h. below-more _ _ (l .inv .2) (sym (target-is (c .before)) ∙ c .if1 .left) k (omega arith))
 
 add-row : tie.Need-add-row Inv-loop μ-loop Inv-rows μ-rows
 add-row c = search needs
@@ -83,10 +85,10 @@ returns c =
 returns-2 : tie.Need-returns-2 Inv-loop μ-loop Inv-rows μ-rows
 returns-2 c =
     let l = c .before .before .before .loop in
-    sym (first-at _ _ _ (record { below = on-lt (on (c .before .before)); passes = sym (fault-is (c .before)) ∙ c .if1 .taken; none-before = l .inv .2 }))
+    sym (first-at _ _ _ (record { below = on-lt (on (c .before .before)); passes = sym (target-is (c .before)) ∙ c .if1 .taken; none-before = l .inv .2 }))
 
-pub first-fault-spec : {M : Type 1} → statement M
-first-fault-spec =
+pub first-target-spec : {M : Type 1} → statement M
+first-target-spec =
     tie.close
     (tie.spec
     Inv-loop
@@ -95,7 +97,7 @@ first-fault-spec =
     μ-rows
     rows-holds
     loop-holds
-    has-fault-requires
+    is-target-requires
     mul-t12
     add-t13
     add-col

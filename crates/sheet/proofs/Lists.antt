@@ -1,0 +1,25 @@
+-- The list of the values of a function at cells, and a slice whose first places are written with one.
+use mathlib.Core.Path.{_≡_, refl, _∙_, ap}
+use mathlib.Core.List.{List}
+use Prim.Native.Nat.{ℕ, zero, suc, _+_, _<_}
+use native.Mathlib.Omega.{arith}
+use lib.ListN.{length, getD, drop, List·getD-append}
+use Rattle.sheet.specs.Label.{listFrom}
+use Rattle.sheet.specs.Refusal.{written}
+
+module _ (f : ℕ → ℕ) where
+  pub length-list : (i m : ℕ) → length (listFrom f i m) ≡ m
+  unfolding listFrom
+  length-list i zero = refl
+  length-list i (suc m) = ap suc (length-list (suc i) m)
+
+  pub list-at : (i m k : ℕ) → k < m → getD (listFrom f i m) k 0 ≡ f (i + k)
+  unfolding listFrom
+  list-at i zero k l = absurd (omega arith)
+  list-at i (suc m) zero l = ap f (omega arith)
+  list-at i (suc m) (suc k) l = list-at (suc i) m k (omega arith) ∙ ap f (omega arith)
+
+  -- what stands for a cell, whatever the slice held before
+  pub written-at : (n c : ℕ) (old : List ℕ) → c < n → getD (written (listFrom f 0 n) old) c 0 ≡ f c
+  written-at n c old l =
+      List·getD-append (listFrom f 0 n) (drop (length (listFrom f 0 n)) old) 0 c (rw (length-list 0 n) l) ∙ list-at 0 n c l ∙ ap f (omega arith)

@@ -20,3 +20,4 @@ pub mod Written
 pub mod FlowMeaning
 pub mod Theorems
 pub mod Cases
+pub mod Places

@@ -164,7 +164,8 @@ pub fn is_outlet(dirs: &[u8], rows: usize, cols: usize, row: usize, col: usize) 
     }
 }
 
-// The neighbour of a cell against the k-th step of the table: the cell one step back, if that step is its own. Of an inside cell it is a donor.
+// The neighbour of a cell against the k-th step of the table: the cell one step back, if that step is its own. Of an inside
+// cell it is a donor.
 pub fn neighbour_against(
     dirs: &[u8],
     rows: usize,

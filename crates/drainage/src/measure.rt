@@ -74,14 +74,7 @@ fn copy(from: &[u32], n: usize, to: &mut [u32])
 }
 
 // The sizes of a drained sheet, into their part of the work places. They are gathered in the places lent for areas.
-fn sizes(
-    dirs: &[u8],
-    rows: usize,
-    cols: usize,
-    work: &mut [u32],
-    queued: usize,
-    areas: &mut [u32],
-)
+fn sizes(dirs: &[u8], rows: usize, cols: usize, work: &mut [u32], queued: usize, areas: &mut [u32])
     requires { ⌜ Sized rows cols (now dirs) × Drained (grid rows cols (now dirs)) (now work) queued × (rows * cols ≤ length (now areas)) × (positionsPart * (rows * cols) ≤ length (now work)) ⌝ }
     ensures { λ _. ⌜ (now (work .exit) ≡ withSizes (rows * cols) (sizesOf (grid rows cols (now (dirs .entry)))) (now (work .entry))) × (now (areas .exit) ≡ written (sizesOf (grid rows cols (now (dirs .entry)))) (now (areas .entry))) ⌝ }
 {

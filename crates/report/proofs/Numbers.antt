@@ -1,20 +1,16 @@
 -- The numbers and places of refusals are small.
-use mathlib.Core.Path.{_≡_, refl}
+use mathlib.Core.Path.{_≡_}
 use mathlib.Core.Bool.{Bool, true, false, cond}
 use mathlib.Core.List.{List}
 use Prim.Native.Nat.{ℕ, suc, _<_, _≤_}
 use native.Mathlib.Omega.{arith}
 use lib.Dec.{eqb, leb}
 use lib.ListN.{length, getD}
-use Rattle.sheet.specs.declared.Found.{Found}
-use Rattle.sheet.specs.declared.Found.the-variants.{At, Nothing}
-use Rattle.sheet.specs.declared.Outcome.{Outcome as LabelOutcome}
-use Rattle.sheet.specs.declared.Outcome.the-variants.{Accepted as Labelled, Refused as NotLabelled}
+use Rattle.sheet.specs.declared.Outcome.the-variants.{Refused as NotLabelled}
 use Rattle.sheet.specs.Direction.{isCode}
-use Rattle.sheet.specs.Sheet.{Grid, Sheet, cells, inside, first}
-use Rattle.sheet.specs.Refusal.{Lent, badCode, undrained, outletFrom, firstAfter, secondOutlet, refusedAt, refusedIfNone, sizesFit, depthFits, slicesFit, outcomeOn, outcome}
-use Rattle.sheet.proofs.First.{at-first}
-use Rattle.sheet.proofs.Cells.{cells-most}
+use Rattle.sheet.specs.Sheet.{Sheet}
+use Rattle.sheet.specs.Refusal.{Lent, sizesFit, depthFits, outcome}
+use Rattle.claims.proofs.Places.{refusal-small}
 use Rattle.names.specs.declared.NamesLine.{NamesLine}
 use Rattle.names.specs.declared.NamesLine.the-variants.{Columns as Named, Bad as BadNames}
 use Rattle.lines.specs.declared.columns.Columns.{Columns}
@@ -31,7 +27,6 @@ use Rattle.intake.specs.declared.Intake.{Intake}
 use Rattle.intake.specs.declared.TakenOutcome.the-variants.{Refused}
 use Rattle.intake.specs.Faults.{sizesIn, cellIn, cellCount, onSheet, cellNumber, sizesFault, cellFault}
 use Rattle.intake.specs.Intake.{takenValues, After, accept, unless, onSizeNames, onSizes, onCellNames, onCells, stateFault, lineIn, lineAfter, endIn, endTaken}
-use Rattle.sheet.proofs.Within.{rows-cols-most}
 
 -- ---- the intake's
 
@@ -116,63 +111,5 @@ end-number i number e = rw e at (end-in-small (i .stage))
 
 -- ---- labelling's
 
--- a refusal with a small number, and a place among n cells
-abbrev SmallOutcome : ℕ → LabelOutcome → Type 0
-SmallOutcome n Labelled = Unit
-SmallOutcome n (NotLabelled number place) = (number ≤ 15) × (place ≤ n)
-
-abbrev Below : ℕ → Found → Type 0
-Below n (At c) = c < n
-Below n Nothing = Unit
-
-first-below : (test : ℕ → Bool) (n : ℕ) → Below n (first test n)
-first-below test n = go (first test n) refl
-  where
-    go : (f : Found) → first test n ≡ f → Below n f
-    go (At c) e = at-first test n c e .below
-    go Nothing e = tt
-
-after-below : (test : ℕ → ℕ → Bool) (n : ℕ) (f : Found) → Below n (firstAfter test n f)
-unfolding firstAfter
-after-below test n (At c) = first-below (test (suc c)) n
-after-below test n Nothing = tt
-
-refused-at : (number n : ℕ) (f : Found) (rest : LabelOutcome) → number ≤ 15 → Below n f → SmallOutcome n rest → SmallOutcome n (refusedAt number f rest)
-unfolding refusedAt
-refused-at number n (At c) rest h b s = (h, omega arith)
-refused-at number n Nothing rest h b s = s
-
-refused-if-none : (number n : ℕ) (f : Found) (rest : LabelOutcome) → number ≤ 15 → SmallOutcome n rest → SmallOutcome n (refusedIfNone number f rest)
-unfolding refusedIfNone
-refused-if-none number n (At c) rest h s = s
-refused-if-none number n Nothing rest h s = (h, omega arith)
-
-outcome-on-small : (G : Grid) → SmallOutcome (cells G) (outcomeOn G)
-unfolding outcomeOn secondOutlet
-outcome-on-small G =
-    refused-at 4 (cells G) (first (badCode G) (cells G)) _ (omega arith) (first-below (badCode G) (cells G))
-    (refused-if-none 5 (cells G) (first (inside G) (cells G)) _ (omega arith)
-    (refused-at 6 (cells G) (first (undrained G) (cells G)) _ (omega arith) (first-below (undrained G) (cells G))
-    (refused-at 7 (cells G) (secondOutlet G) Labelled (omega arith) (after-below (outletFrom G) (cells G) (first (outletFrom G 0) (cells G))) tt)))
-
-small-widened : (n m : ℕ) (o : LabelOutcome) → n ≤ m → SmallOutcome n o → SmallOutcome m o
-small-widened n m Labelled h s = tt
-small-widened n m (NotLabelled number place) h s = (s .0, omega (arith, s .1))
-
-cond-outcome : (b : Bool) (x y : LabelOutcome) → (b ≡ true → SmallOutcome 65536 x) → SmallOutcome 65536 y → SmallOutcome 65536 (cond b x y)
-cond-outcome true x y hx hy = hx refl
-cond-outcome false x y hx hy = hy
-
-outcome-small : (S : Sheet) (L : Lent) → SmallOutcome 65536 (outcome S L)
-unfolding outcome
-outcome-small S L =
-    cond-outcome (sizesFit (S .grid .rows) (S .grid .cols)) _ _
-    (λ sizes.
-    let most = rows-cols-most (S .grid .rows) (S .grid .cols) sizes in
-    cond-outcome (depthFits (S .depth)) _ _
-    (λ _. cond-outcome (slicesFit (S .grid) L) _ _ (λ _. small-widened (cells (S .grid)) 65536 (outcomeOn (S .grid)) (cells-most (most .0) (most .1)) (outcome-on-small (S .grid))) (omega arith, omega arith))
-    (omega arith, omega arith))
-    (omega arith, omega arith)
-
 pub label-number : (S : Sheet) (L : Lent) (number place : ℕ) → outcome S L ≡ NotLabelled number place → (number ≤ 15) × (place ≤ 65536)
-label-number S L number place e = rw e at (outcome-small S L)
+label-number S L number place e = let s = rw e at (refusal-small S L) in (omega (arith, s .0), omega (arith, s .1))

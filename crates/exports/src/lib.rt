@@ -2,14 +2,14 @@
 use sheet::Outcome;
 ghost use mathlib.Core.Path.{_≡_};
 ghost use Prim.Native.Nat.{_<_};
-ghost use Rattle.sheet.specs.Refusal.{refusalNumber, refusalPlace, outcome, lentAfter};
+ghost use Rattle.sheet.specs.Refusal.{outcomeValues, outcome, lentAfter};
 ghost use Rattle.sheet.specs.Flow.{flow, answerNumber};
 ghost use Rattle.labelling.specs.Labelling.{sheet, lent};
 ghost use Rattle.exports.specs.Exports.{outcomeCode};
 
 // The refusal's number + 256 × its place; 0 if accepted.
 fn outcome_code(outcome: Outcome) -> u64
-    requires { ⌜ refusalPlace outcome < 65536 ⌝ }
+    requires { ⌜ outcomeValues outcome .place < 65536 ⌝ }
     ensures { λ r. ⌜ r ≡ outcomeCode outcome ⌝ }
 {
     match outcome {

@@ -13,7 +13,7 @@ use Rattle.sheet.specs.declared.Outcome.the-variants.{Accepted, Refused}
 use Rattle.sheet.specs.Sheet.{Sheet, cells}
 use Rattle.directions.specs.Sizes.{Sized}
 use Rattle.sheet.specs.Label.{areasOf, labelsOf}
-use Rattle.sheet.specs.Refusal.{Lent, both, written, sizesFit, depthFits, slicesFit, outcomeOn, outcome, ifAccepted, lentAfter}
+use Rattle.sheet.specs.Refusal.{Lent, both, written, sizesFit, depthFits, slicesFit, outcomeOn, outcome, outcomeValues, ifAccepted, lentAfter}
 use Rattle.sheet.proofs.Cells.{cells-most}
 use Rattle.sheet.proofs.Within.{both-true, rows-cols-most, cols-some, depth-most}
 use Rattle.labelling.specs.Labelling.{Fitting}
@@ -33,10 +33,10 @@ bounded rows cols e =
 module _ (S : Sheet) (L : Lent) where
   -- what a direct call promises
   abbrev Answered : Outcome → Lent → Type 0
-  Answered r L′ = (r ≡ outcome S L) × (L′ ≡ lentAfter S L)
+  Answered r L′ = (r ≡ outcome S L) × ((outcomeValues r ≡ outcomeValues (outcome S L)) × (L′ ≡ lentAfter S L))
 
   answered : {r : Outcome} {L′ : Lent} → r ≡ outcome S L → L′ ≡ lentAfter S L → Answered r L′
-  answered e l = (e, l)
+  answered e l = (e, (ap outcomeValues e, l))
 
   abbrev fits : Bool
   fits = both (sizesFit (S .grid .rows) (S .grid .cols)) (both (depthFits (S .depth)) (slicesFit (S .grid) L))

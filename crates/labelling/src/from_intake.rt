@@ -4,6 +4,7 @@ use intake::Intake;
 use intake::Stage;
 use sheet::Outcome;
 ghost use mathlib.Core.Path.{_≡_};
+ghost use Rattle.sheet.specs.Refusal.{outcomeValues};
 ghost use Rattle.labelling.specs.Labelling.{lent};
 ghost use Rattle.labelling.specs.FromIntake.{intakeOutcome, intakeLent};
 
@@ -16,6 +17,7 @@ pub fn label_intake(
     work: &mut [u32],
 ) -> Outcome
     ensures outcome { λ r. ⌜ r ≡ intakeOutcome intake (now (dirs .entry)) (lent (now (areas .entry)) (now (labels .entry)) (now (work .entry))) ⌝ }
+    ensures values { λ r. ⌜ outcomeValues r ≡ outcomeValues (intakeOutcome intake (now (dirs .entry)) (lent (now (areas .entry)) (now (labels .entry)) (now (work .entry)))) ⌝ }
     ensures lent { λ _. ⌜ lent (now (areas .exit)) (now (labels .exit)) (now (work .exit)) ≡ intakeLent intake (now (dirs .entry)) (lent (now (areas .entry)) (now (labels .entry)) (now (work .entry))) ⌝ }
 {
     let stage = intake.stage;

@@ -10,7 +10,7 @@ ghost use lib.Dec.{leb};
 ghost use lib.ListN.{length, replicate};
 ghost use Rattle.sheet.specs.Sheet.{grid, cells};
 ghost use Rattle.sheet.specs.Label.{areasOf, labelsOf};
-ghost use Rattle.sheet.specs.Refusal.{written, ifAccepted, both, outcomeOn, outcome, lentAfter};
+ghost use Rattle.sheet.specs.Refusal.{written, ifAccepted, both, outcomeOn, outcome, outcomeValues, lentAfter};
 ghost use Rattle.directions.specs.Sizes.{mostCells};
 ghost use Rattle.labelling.specs.Labelling.{sheet, lent, Fitting, Inspected, LabelledInOrder};
 ghost use Rattle.order.specs.Places.{Arranged};
@@ -170,6 +170,7 @@ pub fn label(
     work: &mut [u32],
 ) -> Outcome
     ensures outcome { λ r. ⌜ r ≡ outcome (sheet rows cols depth (now (dirs .entry))) (lent (now (areas .entry)) (now (labels .entry)) (now (work .entry))) ⌝ }
+    ensures values { λ r. ⌜ outcomeValues r ≡ outcomeValues (outcome (sheet rows cols depth (now (dirs .entry))) (lent (now (areas .entry)) (now (labels .entry)) (now (work .entry)))) ⌝ }
     ensures lent { λ _. ⌜ lent (now (areas .exit)) (now (labels .exit)) (now (work .exit)) ≡ lentAfter (sheet rows cols depth (now (dirs .entry))) (lent (now (areas .entry)) (now (labels .entry)) (now (work .entry))) ⌝ }
 {
     let sizes_fit = checks::sizes_fit(rows, cols);

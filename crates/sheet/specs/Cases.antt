@@ -8,7 +8,7 @@ use Rattle.sheet.specs.Sheet.{Grid, Sheet, grid}
 use Rattle.sheet.specs.Area.{area}
 use Rattle.sheet.specs.River.{network, stem, mouth, Run, river}
 use Rattle.sheet.specs.Label.{labelOf, outlet}
-use Rattle.sheet.specs.Refusal.{Lent, outcome, lentAfter, refusalNumber, refusalPlace}
+use Rattle.sheet.specs.Refusal.{Lent, outcome, OutcomeValues, outcomeValues, lentAfter}
 use Rattle.sheet.specs.Flow.{flow, answerNumber}
 
 pub record Case : Type 0 where
@@ -42,7 +42,7 @@ lentFor n = record { areas = replicate n 7; labels = replicate n 7; work = repli
 
 -- number and place of the outcome; both are 0 where it is accepted
 abbrev outcomeIs : Sheet → Lent → List ℕ
-outcomeIs S L = let o = outcome S L in refusalNumber o ∷ refusalPlace o ∷ []
+outcomeIs S L = let v : OutcomeValues = outcomeValues (outcome S L) in v .number ∷ v .place ∷ []
 
 -- the cases marked *
 unfoldable pub cases : List Case

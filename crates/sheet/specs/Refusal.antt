@@ -90,13 +90,14 @@ outcome S L =
     let rest : Outcome = outcomeOn (S .grid) in
     cond (sizesFit (S .grid .rows) (S .grid .cols)) (cond (depthFits (S .depth)) (cond (slicesFit (S .grid) L) rest (Refused 3 0)) (Refused 2 0)) (Refused 1 0)
 
-abbrev pub refusalNumber : Outcome → ℕ
-refusalNumber Accepted = 0
-refusalNumber (Refused number place) = number
+-- document 01's number and place of an outcome; both are 0 where it is accepted
+pub record OutcomeValues : Type 0 where
+  pub number : ℕ
+  pub place : ℕ
 
-abbrev pub refusalPlace : Outcome → ℕ
-refusalPlace Accepted = 0
-refusalPlace (Refused number place) = place
+abbrev pub outcomeValues : Outcome → OutcomeValues
+outcomeValues Accepted = record { number = 0; place = 0 }
+outcomeValues (Refused number place) = record { number = number; place = place }
 
 -- the first places of a slice written with new values; the others keep theirs
 abbrev pub written : List ℕ → List ℕ → List ℕ

@@ -28,7 +28,7 @@ same-length-3 c = search needs
 returns : tie.Need-returns
 returns c =
     let e = c .before .before .before .before .before .before .before .label .ensures in
-    (c .outcome-code .ensures ∙ ap outcomeCode (e .0), e .1)
+    (c .outcome-code .ensures ∙ ap outcomeCode (e .0), e .1 .1)
 
 pub pf-label-spec : {M : Type 1} → statement M
 pf-label-spec =

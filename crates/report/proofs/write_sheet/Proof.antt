@@ -36,7 +36,7 @@ same-length-4 : tie.Need-same-length-4
 same-length-4 c = search needs
 
 returns : tie.Need-returns
-returns c = sheet-accepted _ _ _ _ (c .before .before .before .before .before .before .before .before .before .before .before .before .before .before .label-intake .ensures .1) _ (c .before .before .before .before .before .before .before .before .before .before .before .before .before .before .before .before .before .before .ended-sizes .ensures) (sym (c .before .before .before .before .before .before .before .before .before .before .before .before .before .before .label-intake .ensures .0) ∙ c .before .before .before .before .before .before .enum-told .given .1) (c .before .before .write-listing .ensures .0)
+returns c = sheet-accepted _ _ _ _ (c .before .before .before .before .before .before .before .before .before .before .before .before .before .before .label-intake .ensures .1 .1) _ (c .before .before .before .before .before .before .before .before .before .before .before .before .before .before .before .before .before .before .ended-sizes .ensures) (sym (c .before .before .before .before .before .before .before .before .before .before .before .before .before .before .label-intake .ensures .0) ∙ c .before .before .before .before .before .before .enum-told .given .1) (c .before .before .write-listing .ensures .0)
 
 same-length-5 : tie.Need-same-length-5
 same-length-5 c = search needs
@@ -51,7 +51,7 @@ same-length-8 : tie.Need-same-length-8
 same-length-8 c = search needs
 
 returns-2 : tie.Need-returns-2
-returns-2 c = sheet-refused _ _ _ _ (c .before .before .before .before .before .before .before .before .before .before .before .before .before .label-intake .ensures .1) _ _ (sym (c .before .before .before .before .before .before .before .before .before .before .before .before .before .label-intake .ensures .0) ∙ c .before .before .before .before .before .outcome .given .1) (c .before .before .write-refusal .ensures .0)
+returns-2 c = sheet-refused _ _ _ _ (c .before .before .before .before .before .before .before .before .before .before .before .before .before .label-intake .ensures .1 .1) _ _ (sym (c .before .before .before .before .before .before .before .before .before .before .before .before .before .label-intake .ensures .0) ∙ c .before .before .before .before .before .outcome .given .1) (c .before .before .write-refusal .ensures .0)
 
 pub write-sheet-spec : {M : Type 1} → statement M
 write-sheet-spec =

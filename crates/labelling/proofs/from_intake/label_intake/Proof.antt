@@ -28,19 +28,19 @@ label-requires c κs = search needs
 
 returns : tie.Need-returns
 unfolding intakeOutcome intakeLent
-returns c = rw (c .enum-told .given .1) (refl, refl)
+returns c = rw (c .enum-told .given .1) (refl, (refl, refl))
 
 returns-2 : tie.Need-returns-2
 unfolding intakeOutcome intakeLent
-returns-2 c = rw (c .enum-told2 .given .1) (refl, refl)
+returns-2 c = rw (c .enum-told2 .given .1) (refl, (refl, refl))
 
 returns-3 : tie.Need-returns-3
 unfolding intakeOutcome intakeLent
-returns-3 c = rw (c .enum-told3 .given .1) (refl, refl)
+returns-3 c = rw (c .enum-told3 .given .1) (refl, (refl, refl))
 
 returns-4 : tie.Need-returns-4
 unfolding intakeOutcome intakeLent
-returns-4 c = rw (c .enum-told4 .given .1) (refl, refl)
+returns-4 c = rw (c .enum-told4 .given .1) (refl, (refl, refl))
 
 same-length : tie.Need-same-length
 same-length c = search needs

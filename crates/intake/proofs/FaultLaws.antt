@@ -7,13 +7,13 @@ use native.Mathlib.Omega.{arith}
 use lib.Dec.{leb, ltb, eqb}
 use borrow.Author.Tests.{leb-true, ltb-true, eqb-true}
 use Rattle.sheet.specs.declared.Step.{Step}
-use Rattle.sheet.specs.Direction.{steps, stepIn, stepOf, isCode}
+use Rattle.sheet.specs.Direction.{steps, stepIn, stepOf, isCode, cellNumber}
 use Rattle.sheet.specs.Refusal.{both, within, sizesFit, depthFits}
 use Rattle.sheet.proofs.Cells.{cells-most, cell-lt}
 use Rattle.sheet.proofs.Within.{both-true, within-both}
 use Rattle.intake.specs.declared.Sizes.{Sizes}
 use Rattle.intake.specs.declared.Cell.{Cell}
-use Rattle.intake.specs.Faults.{cellCount, sizesFault, onSheet, cellNumber, cellFault}
+use Rattle.intake.specs.Faults.{cellCount, sizesFault, onSheet, cellFault}
 
 -- a fault that is not given: its test is passed, and so are the later ones
 passed : (t : Bool) (rest number : ℕ) → 0 < number → cond t rest number ≡ 0 → (t ≡ true) × (rest ≡ 0)
@@ -83,14 +83,14 @@ code-none dir h = go (isCode dir) refl
 
 -- a cell whose direction byte is lent, with a small number
 pub record Placed (z : Sizes) (x : Cell) (lent : ℕ) : Type 0 where
-  pub byte-lent : cellNumber z x < lent
-  pub number-small : cellNumber z x < 65536
+  pub byte-lent : cellNumber (z .cols) (x .row) (x .col) < lent
+  pub number-small : cellNumber (z .cols) (x .row) (x .col) < 65536
 
 pub on-sheet-placed : (z : Sizes) (x : Cell) (lent : ℕ) → Fits z lent → onSheet z x ≡ true → Placed z x lent
 unfolding onSheet
 on-sheet-placed z x lent f e =
     let on = both-true (ltb (x .row) (z .rows)) (ltb (x .col) (z .cols)) e in
-    let number : cellNumber z x < cellCount z = cell-lt (ltb-true (x .row) (z .rows) (on .0)) (ltb-true (x .col) (z .cols) (on .1)) in
+    let number : cellNumber (z .cols) (x .row) (x .col) < cellCount z = cell-lt (ltb-true (x .row) (z .rows) (on .0)) (ltb-true (x .col) (z .cols) (on .1)) in
     let count : cellCount z ≤ 65536 = cells-most (f .rows-most) (f .cols-most) in
     record { byte-lent = omega (arith, f .lent-enough); number-small = omega arith }
 

@@ -1,7 +1,7 @@
 -- What refuses sizes and a cell line: tests in document 01's order, with its numbers; 0 is no fault.
 use mathlib.Core.Bool.{Bool, cond}
 use mathlib.Core.List.{List, [], _∷_}
-use Prim.Native.Nat.{ℕ, _+_, _*_}
+use Prim.Native.Nat.{ℕ, _*_}
 use lib.Dec.{leb, ltb, eqb}
 use lib.ListN.{getD}
 use Rattle.lines.specs.declared.columns.Columns.{Columns}
@@ -9,7 +9,7 @@ use Rattle.lines.specs.declared.columns.Column.the-variants.{Rows, Cols, Depth,
 use Rattle.lines.specs.declared.values.Values.{Values}
 use Rattle.lines.specs.Columns.{sameColumn}
 use Rattle.lines.specs.Values.{valueOf}
-use Rattle.sheet.specs.Direction.{isCode}
+use Rattle.sheet.specs.Direction.{isCode, cellNumber}
 use Rattle.sheet.specs.Refusal.{both, sizesFit, depthFits}
 use Rattle.intake.specs.declared.Sizes.{Sizes}
 use Rattle.intake.specs.declared.Cell.{Cell}
@@ -56,16 +56,12 @@ sizesFault z lent = firstFailing (sizesTests z lent)
 unfoldable pub onSheet : Sizes → Cell → Bool
 onSheet z x = both (ltb (x .row) (z .rows)) (ltb (x .col) (z .cols))
 
--- cell number = row × columns + column
-abbrev pub cellNumber : Sizes → Cell → ℕ
-cellNumber z x = x .row * z .cols + x .col
-
 -- the tests of a cell line
 abbrev pub cellTests : Sizes → Cell → List ℕ → List Test
 cellTests z x dirs =
     test 9 (onSheet z x)
     ∷ test 4 (isCode (x .dir))
-    ∷ test 10 (eqb (getD dirs (cellNumber z x) 0) 0)
+    ∷ test 10 (eqb (getD dirs (cellNumber (z .cols) (x .row) (x .col)) 0) 0)
     ∷ []
 
 unfoldable pub cellFault : Sizes → Cell → List ℕ → ℕ

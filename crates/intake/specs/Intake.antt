@@ -13,6 +13,7 @@ use Rattle.lines.specs.declared.values.ValuesLine.the-variants.{Values as Value
 use Rattle.names.specs.Columns.{sizeColumns, cellColumns}
 use Rattle.names.specs.Names.{namesLine}
 use Rattle.lines.specs.Values.{valuesLine}
+use Rattle.sheet.specs.Direction.{cellNumber}
 use Rattle.intake.specs.declared.Sizes.{Sizes}
 use Rattle.intake.specs.declared.Cell.{Cell}
 use Rattle.intake.specs.declared.Stage.{Stage}
@@ -21,7 +22,7 @@ use Rattle.intake.specs.declared.Intake.{Intake}
 use Rattle.intake.specs.declared.TakenOutcome.{TakenOutcome}
 use Rattle.intake.specs.declared.TakenOutcome.the-variants.{Accepted, Refused}
 use Rattle.intake.specs.declared.Taken.{Taken}
-use Rattle.intake.specs.Faults.{sizesIn, cellIn, cellCount, cellNumber, sizesFault, cellFault}
+use Rattle.intake.specs.Faults.{sizesIn, cellIn, cellCount, sizesFault, cellFault}
 
 -- document 01's number and place of an outcome: both 0 where it is accepted; all intake refusals give place 0
 pub record TakenValues : Type 0 where
@@ -64,7 +65,7 @@ sizesWritten z dirs = replicate (cellCount z) 0 ++ drop (cellCount z) dirs
 
 -- an accepted cell line sets that cell's byte and no other
 unfoldable pub cellWritten : Sizes → Cell → List ℕ → List ℕ
-cellWritten z x dirs = set dirs (cellNumber z x) (x .dir)
+cellWritten z x dirs = set dirs (cellNumber (z .cols) (x .row) (x .col)) (x .dir)
 
 -- Each stage gives 8 for a line that breaks the file's rules for it. One with a byte 10 breaks those of every stage that takes lines
 -- (proofs/BadLines.antt); an ended intake gives 13 for it, as for any line.

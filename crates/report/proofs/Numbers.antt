@@ -7,7 +7,7 @@ use native.Mathlib.Omega.{arith}
 use lib.Dec.{eqb, leb}
 use lib.ListN.{length, getD}
 use Rattle.sheet.specs.declared.Outcome.the-variants.{Refused as NotLabelled}
-use Rattle.sheet.specs.Direction.{isCode}
+use Rattle.sheet.specs.Direction.{isCode, cellNumber}
 use Rattle.sheet.specs.Sheet.{Sheet}
 use Rattle.sheet.specs.Refusal.{Lent, sizesFit, depthFits, outcome}
 use Rattle.claims.proofs.Places.{refusal-small}
@@ -25,7 +25,7 @@ use Rattle.intake.specs.declared.Stage.{Stage}
 use Rattle.intake.specs.declared.Stage.the-variants.{WaitingForSizeNames, WaitingForSizes, WaitingForCellNames, TakingCells, Ended}
 use Rattle.intake.specs.declared.Intake.{Intake}
 use Rattle.intake.specs.declared.TakenOutcome.the-variants.{Refused}
-use Rattle.intake.specs.Faults.{sizesIn, cellIn, cellCount, onSheet, cellNumber, sizesFault, cellFault}
+use Rattle.intake.specs.Faults.{sizesIn, cellIn, cellCount, onSheet, sizesFault, cellFault}
 use Rattle.intake.specs.Intake.{takenValues, After, accept, unless, onSizeNames, onSizes, onCellNames, onCells, stateFault, lineIn, lineAfter, endIn, endTaken}
 
 -- ---- the intake's
@@ -43,7 +43,7 @@ sizes-fault-small z lent = checks-small (sizesFit (z .rows) (z .cols)) (depthFit
 
 cell-fault-small : (z : Sizes) (x : Cell) (dirs : List ℕ) → cellFault z x dirs ≤ 15
 unfolding cellFault
-cell-fault-small z x dirs = checks-small (onSheet z x) (isCode (x .dir)) (eqb (getD dirs (cellNumber z x) 0) 0) 10 4 9 (omega arith) (omega arith) (omega arith)
+cell-fault-small z x dirs = checks-small (onSheet z x) (isCode (x .dir)) (eqb (getD dirs (cellNumber (z .cols) (x .row) (x .col)) 0) 0) 10 4 9 (omega arith) (omega arith) (omega arith)
 
 state-fault-small : (s : Stage) (lent : ℕ) → stateFault s lent ≤ 15
 unfolding stateFault

@@ -54,10 +54,14 @@ unfolding below
 movedBy at z count = below count (pos at +ℤ z)
 
 -- cell number = row × columns + column
+abbrev pub cellNumber : ℕ → ℕ → ℕ → ℕ
+cellNumber cols row col = row * cols + col
+
+-- the cell of a row and a column, where both are on the sheet
 unfoldable pub cellAt : ℕ → End → End → End
 cellAt cols Off col = Off
 cellAt cols (At row) Off = Off
-cellAt cols (At row) (At col) = At (row * cols + col)
+cellAt cols (At row) (At col) = At (cellNumber cols row col)
 
 -- the cell that a step from a row and a column ends on
 unfoldable pub stepEnd : ℕ → ℕ → ℕ → ℕ → Step → End

@@ -3,3 +3,4 @@ pub mod Steps
 pub mod Calls
 pub mod Demand
 pub mod Cases
+pub mod LabelOrder

@@ -77,7 +77,8 @@ module _ {G : Grid} {areas work now later : List ℕ} {queued : ℕ} (W : Survey
             let s = stand j (rw (part-length cellsPart (omega arith)) l) in
             let c = s .0 in
             let on = inside-lt G c (s .1 .is-inside) in
-            rw (s .1 .cell-is) (E .kept (positionsPart * n + c) (λ k h e. omega arith) (λ k h e. omega arith) ∙ s .1 .place);
+            let kept = E .kept (positionsPart * n + c) (λ k h e. omega arith) (λ k h e. omega arith) in
+            rw (s .1 .cell-is) (kept ∙ s .1 .place);
         size-is = λ j l.
             let s = stand j (rw (part-length cellsPart (omega arith)) l) in
             rw (s .1 .cell-is) (s .1 .size-is);

@@ -97,7 +97,8 @@ pub record Apart (n : ℕ) (work : List ℕ) (queued : ℕ) : Type 0 where
 -- the first i queued cells stand at their positions, and no other place is written
 pub record Entered (n : ℕ) (work work′ : List ℕ) (i : ℕ) : Type 0 where
   pub kept : (j : ℕ) → ((k : ℕ) → k < i → j ≢ cellsPart * n + positionAt n work (queuedAt work k))
-      → ((k : ℕ) → k < i → j ≢ orderedSizesPart * n + positionAt n work (queuedAt work k)) → getD work′ j 0 ≡ getD work j 0
+      → ((k : ℕ) → k < i → j ≢ orderedSizesPart * n + positionAt n work (queuedAt work k))
+      → getD work′ j 0 ≡ getD work j 0
   pub cell-is : (j : ℕ) → j < i → getD work′ (cellsPart * n + positionAt n work (queuedAt work j)) 0 ≡ queuedAt work j
   pub size-is : (j : ℕ) → j < i → getD work′ (orderedSizesPart * n + positionAt n work (queuedAt work j)) 0 ≡ sizeAt n work (queuedAt work j)
 

@@ -239,6 +239,9 @@ module _ {cell size area : List ℕ} {count split least : ℕ} {N : Network} (Y 
     pub river-in-order : InLabelOrder (N .next) (λ c. Passes (N .next) c (getD cell m 0))
         (digitsIn N (getD cell m 0) depth) cell m (m + getD size m 0)
     river-in-order = record {
+      are-inside = inside-at;
+      all-stand = λ c h. L .covering c m on h;
+      once = λ i j a b c d e. Y .apart i j (omega (arith, Y .within m on)) (omega (arith, Y .within m on)) e;
       never-fall = never-fall;
       side-by-side = side-by-side;
       first-is-outlet = λ i a b f. rw (first-is-outlet i a b f) at (drained i a b);

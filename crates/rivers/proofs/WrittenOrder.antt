@@ -21,32 +21,40 @@ use Rattle.rivers.specs.LabelOrder.{InLabelOrder}
 use Rattle.rivers.proofs.Relabelled.{relabelled-at}
 use Rattle.rivers.proofs.LabelOrder.{river-in-order}
 
--- the same labels, given in another way
-module _ {inside : ℕ → Type 0} {digits other : ℕ → List ℕ} (same : (c : ℕ) → inside c → digits c ≡ other c) where
-  shares-same : {c x : ℕ} → inside c → Shares inside digits (digits c) x → Shares inside other (other c) x
+-- the same cells and labels, given in another way
+module _ {inside within : ℕ → Type 0} {digits other : ℕ → List ℕ} (to : (c : ℕ) → inside c → within c)
+    (from : (c : ℕ) → within c → inside c) (same : (c : ℕ) → inside c → digits c ≡ other c) where
+  shares-same : {c x : ℕ} → inside c → Shares inside digits (digits c) x → Shares within other (other c) x
   shares-same {c} {x} h s =
-      record { is-inside = s .is-inside; begins = rw (← same c h, ← same x (s .is-inside)) (s .begins) }
+      let i = s .is-inside in
+      record { is-inside = to x i; begins = rw (← same c h, ← same x i) (s .begins) }
 
-  shares-back : {c x : ℕ} → inside c → Shares inside other (other c) x → Shares inside digits (digits c) x
+  shares-back : {c x : ℕ} → inside c → Shares within other (other c) x → Shares inside digits (digits c) x
   shares-back {c} {x} h s =
-      record { is-inside = s .is-inside; begins = rw (same c h, same x (s .is-inside)) (s .begins) }
+      let i = from x (s .is-inside) in
+      record { is-inside = i; begins = rw (same c h, same x i) (s .begins) }
 
-  same-in-order : {next : ℕ → Next} {cell : List ℕ} {lo hi : ℕ} → ((i : ℕ) → lo ≤ i → i < hi → inside (getD cell i 0))
-      → InLabelOrder next inside digits cell lo hi → InLabelOrder next inside other cell lo hi
-  same-in-order {cell = cell} on r = record {
+  pub same-in-order : {next : ℕ → Next} {cell : List ℕ} {lo hi : ℕ} → InLabelOrder next inside digits cell lo hi
+      → InLabelOrder next within other cell lo hi
+  same-in-order {cell = cell} r = record {
+    are-inside = λ i a b. to (getD cell i 0) (r .are-inside i a b);
+    all-stand = λ c h. r .all-stand c (from c h);
+    once = r .once;
     never-fall = λ i j a o b.
-        let first = same (getD cell i 0) (on i a (omega arith)) in
-        let last = same (getD cell j 0) (on j (omega arith) b) in
+        let first = same (getD cell i 0) (r .are-inside i a (omega arith)) in
+        let last = same (getD cell j 0) (r .are-inside j (omega arith) b) in
         rw (← first, ← last) (r .never-fall i j a o b);
     side-by-side = λ i k j a o p b e.
-        let first = same (getD cell i 0) (on i a (omega arith)) in
-        let last = same (getD cell j 0) (on j (omega arith) b) in
-        let between = same (getD cell k 0) (on k (omega arith) (omega arith)) in
+        let first = same (getD cell i 0) (r .are-inside i a (omega arith)) in
+        let last = same (getD cell j 0) (r .are-inside j (omega arith) b) in
+        let between = same (getD cell k 0) (r .are-inside k (omega arith) (omega arith)) in
         sym between ∙ r .side-by-side i k j a o p b (first ∙ e ∙ sym last) ∙ first;
     first-is-outlet = λ i a b f.
-        let h = on i a b in
+        let h = r .are-inside i a b in
         let d = r .first-is-outlet i a b
-        (λ k c e q. f k c e (sym (same (getD cell k 0) (on k c (omega arith))) ∙ q ∙ same (getD cell i 0) h)) in
+        (λ k c e q.
+        let before = same (getD cell k 0) (r .are-inside k c (omega arith)) in
+        f k c e (sym before ∙ q ∙ same (getD cell i 0) h)) in
         record {
           among = shares-same h (d .among);
           drains = λ x s. drains-map (λ y t. shares-same h t) (d .drains x (shares-back h s));
@@ -84,5 +92,5 @@ module _ {cell size area : List ℕ} {areas split least : ℕ} (old : List ℕ) 
       → InLabelOrder (n .network .next) (λ c. Passes (n .network .next) c (getD cell m 0)) (digitsAt labels)
       cell m (m + getD size m 0)
   written-in-order e =
-      rw e (same-in-order back (λ i a b. n .laid-out .passing i m a b on)
+      rw e (same-in-order (λ c h. h) (λ c h. h) back
       (river-in-order (places .for-labels) (n .lawful) (n .laid-out) depth m on))

@@ -13,9 +13,13 @@ use Rattle.claims.specs.Dictionary.{NotAfter}
 abbrev pub positionLabel : List ℕ → (ℕ → List ℕ) → ℕ → List ℕ
 positionLabel cell digits i = digits (getD cell i 0)
 
--- the labels of the cells at positions lo to hi, which are the inside cells
+-- the inside cells stand at positions lo to hi, in an order of their labels
 pub record InLabelOrder (next : ℕ → Next) (inside : ℕ → Type 0) (digits : ℕ → List ℕ) (cell : List ℕ) (lo hi : ℕ)
     : Type 0 where
+  -- the cells at these positions are the inside cells, each once
+  pub are-inside : (i : ℕ) → lo ≤ i → i < hi → inside (getD cell i 0)
+  pub all-stand : (c : ℕ) → inside c → (i : ℕ) × (lo ≤ i) × (i < hi) × (getD cell i 0 ≡ c)
+  pub once : (i j : ℕ) → lo ≤ i → i < hi → lo ≤ j → j < hi → getD cell i 0 ≡ getD cell j 0 → i ≡ j
   -- labels never fall in dictionary order
   pub never-fall : (i j : ℕ) → lo ≤ i → i ≤ j → j < hi
       → NotAfter (positionLabel cell digits i) (positionLabel cell digits j)

@@ -22,7 +22,8 @@ fn own_count(code: u8) -> u32
 // Each cell's own count: 1 for an inside cell, 0 for each other.
 fn own_counts(dirs: &[u8], n: usize, totals: &mut [u32])
     requires { ⌜ (n ≤ length (now dirs)) × (n ≤ length (now totals)) ⌝ }
-    ensures { λ _. ⌜ now (totals .exit) ≡ written (listFrom (ownValues (now (dirs .entry)) ones) 0 n) (now (totals .entry)) ⌝ }
+    ensures { λ _. ⌜ now (totals .exit)
+        ≡ written (listFrom (ownValues (now (dirs .entry)) ones) 0 n) (now (totals .entry)) ⌝ }
 {
     for c in 0..n {
         totals[c] = own_count(dirs[c]);
@@ -56,7 +57,8 @@ fn gather(work: &[u32], n: usize, queued: usize, totals: &mut [u32])
 // The areas of a drained sheet: of any sheet with this grid.
 fn areas(dirs: &[u8], rows: usize, cols: usize, work: &[u32], queued: usize, areas: &mut [u32])
     requires { ⌜ Sized rows cols (now dirs) × Drained (grid rows cols (now dirs)) (now work) queued × (rows * cols ≤ length (now areas)) ⌝ }
-    ensures { λ _. ⌜ ((S : Sheet) → S .grid ≡ grid rows cols (now (dirs .entry)) → now (areas .exit) ≡ written (areasOf S) (now (areas .entry))) ⌝ }
+    ensures { λ _. ⌜ ((S : Sheet) → S .grid ≡ grid rows cols (now (dirs .entry))
+        → now (areas .exit) ≡ written (areasOf S) (now (areas .entry))) ⌝ }
 {
     let n = rows * cols;
     own_counts(dirs, n, areas);
@@ -95,7 +97,10 @@ pub fn measure(
     lent_areas: &mut [u32],
 )
     requires { ⌜ Sized rows cols (now dirs) × Drained (grid rows cols (now dirs)) (now work) queued × (rows * cols ≤ length (now «lent_areas»)) × (positionsPart * (rows * cols) ≤ length (now work)) ⌝ }
-    ensures { λ _. ⌜ (now (work .exit) ≡ withSizes (rows * cols) (sizesOf (grid rows cols (now (dirs .entry)))) (now (work .entry))) × ((S : Sheet) → S .grid ≡ grid rows cols (now (dirs .entry)) → now («lent_areas» .exit) ≡ written (areasOf S) (now («lent_areas» .entry))) ⌝ }
+    ensures { λ _. ⌜ (now (work .exit)
+        ≡ withSizes (rows * cols) (sizesOf (grid rows cols (now (dirs .entry)))) (now (work .entry)))
+        × ((S : Sheet) → S .grid ≡ grid rows cols (now (dirs .entry))
+        → now («lent_areas» .exit) ≡ written (areasOf S) (now («lent_areas» .entry))) ⌝ }
 {
     sizes(dirs, rows, cols, work, queued, lent_areas);
     areas(dirs, rows, cols, work, queued, lent_areas);

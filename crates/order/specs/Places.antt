@@ -69,14 +69,17 @@ pub record Standing (G : Grid) (areas work : List ℕ) (cell : ℕ) : Type 0 whe
 
 -- the donors of a cell have got their positions, and no other place is written
 pub record DonorsPlaced (G : Grid) (areas work work′ : List ℕ) (cell : ℕ) : Type 0 where
-  pub follow : Consecutive (size G) (positionAt (cells G) work′) (positionAt (cells G) work cell + 1) (donorsIn G areas cell)
-  pub kept : (j : ℕ) → ((u : ℕ) → List·Memᴰ u (donorsIn G areas cell) → j ≢ positionsPart * cells G + u) → getD work′ j 0 ≡ getD work j 0
+  pub follow : Consecutive (size G) (positionAt (cells G) work′) (positionAt (cells G) work cell + 1)
+      (donorsIn G areas cell)
+  pub kept : (j : ℕ) → ((u : ℕ) → List·Memᴰ u (donorsIn G areas cell) → j ≢ positionsPart * cells G + u)
+      → getD work′ j 0 ≡ getD work j 0
 
 -- the donors of the first i cells of the queue have their positions, and so has the outlet; no other place is written
 pub record Placed (G : Grid) (areas work work′ : List ℕ) (queued i : ℕ) : Type 0 where
   pub kept : (j : ℕ) → ((c : ℕ) → inside G c ≡ true → j ≢ positionsPart * cells G + c) → getD work′ j 0 ≡ getD work j 0
   pub first : positionAt (cells G) work′ (outlet G) ≡ 0
-  pub follow : (j : ℕ) → j < i → Consecutive (size G) (positionAt (cells G) work′) (positionAt (cells G) work′ (queuedAt work j) + 1) (donorsIn G areas (queuedAt work j))
+  pub follow : (j : ℕ) → j < i → Consecutive (size G) (positionAt (cells G) work′)
+      (positionAt (cells G) work′ (queuedAt work j) + 1) (donorsIn G areas (queuedAt work j))
   pub within : (j : ℕ) → j < i → positionAt (cells G) work′ (queuedAt work j) + size G (queuedAt work j) ≤ queued
 
 -- ---- cells and sizes by position
@@ -109,7 +112,8 @@ pub record Arranged (G : Grid) (areas work : List ℕ) (queued : ℕ) : Type 0 w
   pub some : 0 < queued
   pub long : length (cellsIn (cells G) work queued) ≡ queued
   pub layout : Layout (cellsIn (cells G) work queued) (sizesIn (cells G) work queued) (cells G)
-  pub layout-of : (least split : ℕ) → LayoutOf (networkIn G areas least split) (cellsIn (cells G) work queued) (sizesIn (cells G) work queued) areas split least
+  pub layout-of : (least split : ℕ) → LayoutOf (networkIn G areas least split) (cellsIn (cells G) work queued)
+      (sizesIn (cells G) work queued) areas split least
   pub outlet-first : getD (cellsIn (cells G) work queued) 0 0 ≡ outlet G
   pub whole : getD (sizesIn (cells G) work queued) 0 0 ≡ queued
 

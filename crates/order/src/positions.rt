@@ -36,7 +36,8 @@ fn place_upstream(
 )
     requires { ⌜ Measured (grid rows cols (now dirs)) (now areas) ⌝ }
     requires { ⌜ Standing (grid rows cols (now dirs)) (now areas) (now work) cell ⌝ }
-    ensures { λ _. ⌜ DonorsPlaced (grid rows cols (now (dirs .entry))) (now (areas .entry)) (now (work .entry)) (now (work .exit)) cell ⌝ }
+    ensures { λ _. ⌜ DonorsPlaced (grid rows cols (now (dirs .entry))) (now (areas .entry))
+        (now (work .entry)) (now (work .exit)) cell ⌝ }
 {
     let n = rows * cols;
     if work[parts::SIZES * n + cell] == 1 {
@@ -60,7 +61,8 @@ fn place_outlet(n: usize, work: &mut [u32])
 // Gives every queued cell its position. A cell's receiver stands before it in the queue.
 fn place_all(dirs: &[u8], rows: usize, cols: usize, areas: &[u32], queued: usize, work: &mut [u32])
     requires { ⌜ Surveyed (grid rows cols (now dirs)) (now areas) (now work) queued ⌝ }
-    ensures { λ _. ⌜ Placed (grid rows cols (now (dirs .entry))) (now (areas .entry)) (now (work .entry)) (now (work .exit)) queued queued ⌝ }
+    ensures { λ _. ⌜ Placed (grid rows cols (now (dirs .entry))) (now (areas .entry))
+        (now (work .entry)) (now (work .exit)) queued queued ⌝ }
 {
     place_outlet(rows * cols, work);
     for i in 0..queued {

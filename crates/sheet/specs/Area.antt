@@ -24,7 +24,8 @@ drainsInto G c q = cond (inside G q) (passes (next G) (cells G) q c) false
 unfoldable pub weight : Sheet → ℕ → ℕ
 weight S c = 1
 
--- "area" of an inside cell: the sum of the weights of the inside cells, itself included, whose water passes it; outside cells have area 0
+-- "area" of an inside cell: the sum of the weights of the inside cells, itself included, whose water passes it;
+-- outside cells have area 0
 unfoldable pub area : Sheet → ℕ → ℕ
 unfolding inside sumOver drainsInto weight
 area S c = cond (inside (S .grid) c) (sumOver (cells (S .grid)) (drainsInto (S .grid) c) (weight S)) 0

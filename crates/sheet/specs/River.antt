@@ -27,7 +27,13 @@ split S = 4
 -- the drainage network of a grid by the areas of its cells
 unfoldable pub networkBy : Grid → (ℕ → ℕ) → ℕ → ℕ → Network
 unfolding next
-networkBy G area least split = record { cells = cells G; next = next G; area = area; counted = λ v. leb least (area v); split = split }
+networkBy G area least split = record {
+  cells = cells G;
+  next = next G;
+  area = area;
+  counted = λ v. leb least (area v);
+  split = split;
+}
 
 -- the drainage network of a sheet; areas are those of the whole basin
 unfoldable pub network : Sheet → Network
@@ -50,7 +56,9 @@ endsOn (To r) c = eqb r c
 unfoldable pub donorsBelow : (ℕ → Next) → (ℕ → ℕ → Bool) → ℕ → ℕ → List ℕ
 unfolding insert endsOn
 donorsBelow next heavier zero c = []
-donorsBelow next heavier (suc n) c = let r = donorsBelow next heavier n c in cond (endsOn (next n) c) (insert heavier n r) r
+donorsBelow next heavier (suc n) c =
+    let r = donorsBelow next heavier n c in
+    cond (endsOn (next n) c) (insert heavier n r) r
 
 -- "donor" of a cell: an inside cell whose step ends on it; from lightest to heaviest
 unfoldable pub donors : Network → ℕ → List ℕ

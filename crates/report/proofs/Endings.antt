@@ -1,45 +1,49 @@
--- The report of every file is one of the four endings.
+-- The verdict on every file is one of the four endings.
 use mathlib.Core.Path.{_≡_, refl, ap, _∙_}
 use mathlib.Core.List.{List, [], _∷_, _++_}
 use Prim.Native.Nat.{ℕ, suc, _+_}
 use native.Mathlib.Omega.{arith}
 use lib.ListN.{length, getD}
 use Rattle.sheet.specs.declared.Outcome.{Outcome as LabelOutcome}
-use Rattle.sheet.specs.declared.Outcome.the-variants.{Accepted as Labelled, Refused as NotLabelled}
-use Rattle.sheet.specs.Sheet.{Sheet, Grid, cells}
-use Rattle.sheet.specs.Area.{area}
-use Rattle.sheet.specs.Label.{areasOf, labelOf, labelsOf}
-use Rattle.sheet.specs.Refusal.{Lent, outcome, lentAfter}
+use Rattle.sheet.specs.declared.Outcome.the-variants.{Accepted as Passed, Refused as NotLabelled}
+use Rattle.sheet.specs.Sheet.{Grid}
+use Rattle.sheet.specs.Refusal.{Lent, outcome}
 use Rattle.intake.specs.declared.Sizes.{Sizes}
 use Rattle.intake.specs.declared.Stage.{Stage}
 use Rattle.intake.specs.declared.Stage.the-variants.{WaitingForSizeNames, WaitingForSizes, WaitingForCellNames, TakingCells, Ended as AtEnd}
 use Rattle.intake.specs.declared.Intake.{Intake}
 use Rattle.intake.specs.declared.TakenOutcome.{TakenOutcome}
 use Rattle.intake.specs.declared.TakenOutcome.the-variants.{Accepted, Refused as RefusedBy}
-use Rattle.intake.specs.Intake.{lineAfter, endIn, endTaken, newIntake, accepted}
-use Rattle.sheet.proofs.Lists.{length-list}
+use Rattle.intake.specs.Intake.{lineAfter, endIn, endTaken, newIntake, accepted, endedSizes}
 use Rattle.labelling.specs.Labelling.{sheet}
-use Rattle.labelling.specs.FromIntake.{intakeOutcome, intakeLent}
 use Rattle.listing.specs.Listing.{listingText, refusalText}
-use Rattle.listing.proofs.Lengths.{listing-written}
 use Rattle.reading.specs.declared.Read.{Read}
 use Rattle.reading.specs.declared.Read.the-variants.{Refused, Ended}
 use Rattle.reading.specs.Lines.{linesOf, FileRead, endAfter, readFrom, readFile}
-use Rattle.report.specs.Report.{endedSizes, sheetText, reportText, report}
-use Rattle.report.specs.Conditions.{Takes, takes-none, takes-line, Ending, line-refused, end-refused, labelling-refused, listed}
+use Rattle.report.specs.Report.{sheetVerdict, sizesVerdict, verdictOf, fileVerdict}
+use Rattle.report.specs.Conditions.{Takes, takes-none, takes-line, FileEnded, Ending, line-refused, end-refused, sheet-refused, labelled}
+use Rattle.report.proofs.Numbers.{takes-on, line-number, end-number, file-number}
 
 -- ---- how the reading of lines ends
 
 pub data ReadEnding (i : Intake) (n : ℕ) (dirs : List ℕ) (lines : List (List ℕ)) (f : FileRead) : Type 0 where
-  at-line : (before after : List (List ℕ)) (line : List ℕ) (j : Intake) (d : List ℕ) (number : ℕ) → lines ≡ before ++ line ∷ after → Takes i dirs before j d → lineAfter j line d .taken .outcome ≡ RefusedBy number → f .read ≡ Refused number (n + suc (length before)) → ReadEnding i n dirs lines f
-  at-end : (j : Intake) (d : List ℕ) (number : ℕ) → Takes i dirs lines j d → endTaken j .outcome ≡ RefusedBy number → f .read ≡ Refused number (n + suc (length lines)) → ReadEnding i n dirs lines f
-  ended : (j : Intake) (d : List ℕ) → Takes i dirs lines j d → endTaken j .outcome ≡ Accepted → f ≡ record { read = Ended (endTaken j .intake); dirs = d } → ReadEnding i n dirs lines f
+  at-line : (before after : List (List ℕ)) (line : List ℕ) (j : Intake) (d : List ℕ) (number : ℕ)
+      → lines ≡ before ++ line ∷ after → Takes i dirs before j d
+      → lineAfter j line d .taken .outcome ≡ RefusedBy number
+      → f .read ≡ Refused number (n + suc (length before)) → ReadEnding i n dirs lines f
+  at-end : (j : Intake) (d : List ℕ) (number : ℕ) → Takes i dirs lines j d → endTaken j .outcome ≡ RefusedBy number
+      → f .read ≡ Refused number (n + suc (length lines)) → ReadEnding i n dirs lines f
+  ended : (j : Intake) (d : List ℕ) → Takes i dirs lines j d → endTaken j .outcome ≡ Accepted
+      → f ≡ record { read = Ended (endTaken j .intake); dirs = d } → ReadEnding i n dirs lines f
 
 later : (number n k : ℕ) → _≡_ {A = Read} (Refused number (suc n + k)) (Refused number (n + suc k))
 later number n k = ap (Refused number) (omega arith)
 
 -- one accepted line before
-one-more : (i : Intake) (n : ℕ) (dirs line : List ℕ) (lines : List (List ℕ)) (f : FileRead) → lineAfter i line dirs .taken .outcome ≡ Accepted → ReadEnding (lineAfter i line dirs .taken .intake) (suc n) (lineAfter i line dirs .dirs) lines f → ReadEnding i n dirs (line ∷ lines) f
+one-more : (i : Intake) (n : ℕ) (dirs line : List ℕ) (lines : List (List ℕ)) (f : FileRead)
+    → lineAfter i line dirs .taken .outcome ≡ Accepted
+    → ReadEnding (lineAfter i line dirs .taken .intake) (suc n) (lineAfter i line dirs .dirs) lines f
+    → ReadEnding i n dirs (line ∷ lines) f
 one-more i n dirs line lines f e (at-line before after bad j d number parts t r is) =
     at-line (line ∷ before) after bad j d number (ap (λ (x : List (List ℕ)). line ∷ x) parts) (takes-line line e t) r (is ∙ later number n (suc (length before)))
 one-more i n dirs line lines f e (at-end j d number t r is) = at-end j d number (takes-line line e t) r (is ∙ later number n (suc (length lines)))
@@ -50,7 +54,10 @@ unfolding readFrom endAfter
 at-end-ending i n dirs Accepted e = ended i dirs takes-none e (rw e)
 at-end-ending i n dirs (RefusedBy number) e = at-end i dirs number takes-none e (rw e (ap (Refused number) (omega arith)))
 
-at-line-ending : (i : Intake) (n : ℕ) (dirs line : List ℕ) (lines : List (List ℕ)) (o : TakenOutcome) → lineAfter i line dirs .taken .outcome ≡ o → ReadEnding (lineAfter i line dirs .taken .intake) (suc n) (lineAfter i line dirs .dirs) lines (readFrom (lineAfter i line dirs .taken .intake) (suc n) (lineAfter i line dirs .dirs) lines) → ReadEnding i n dirs (line ∷ lines) (readFrom i n dirs (line ∷ lines))
+at-line-ending : (i : Intake) (n : ℕ) (dirs line : List ℕ) (lines : List (List ℕ)) (o : TakenOutcome)
+    → lineAfter i line dirs .taken .outcome ≡ o
+    → ReadEnding (lineAfter i line dirs .taken .intake) (suc n) (lineAfter i line dirs .dirs) lines (readFrom (lineAfter i line dirs .taken .intake) (suc n) (lineAfter i line dirs .dirs) lines)
+    → ReadEnding i n dirs (line ∷ lines) (readFrom i n dirs (line ∷ lines))
 unfolding readFrom
 at-line-ending i n dirs line lines Accepted e rest = rw e (one-more i n dirs line lines _ e rest)
 at-line-ending i n dirs line lines (RefusedBy number) e rest =
@@ -62,7 +69,7 @@ read-ending (line ∷ lines) i n dirs =
     at-line-ending i n dirs line lines (lineAfter i line dirs .taken .outcome) refl
     (read-ending lines (lineAfter i line dirs .taken .intake) (suc n) (lineAfter i line dirs .dirs))
 
--- ---- the report
+-- ---- the verdict
 
 end-accepted : (s : Stage) → endIn s .outcome ≡ Accepted → (z : Sizes) × (endIn s ≡ accepted (AtEnd z))
 unfolding endIn
@@ -72,37 +79,52 @@ end-accepted (WaitingForCellNames z) e = let y : _≡_ {A = ℕ} 0 1 = cc in abs
 end-accepted (TakingCells z c) e = (z, refl)
 end-accepted (AtEnd z) e = let y : _≡_ {A = ℕ} 0 1 = cc in absurd (omega arith)
 
--- an accepted sheet is listed with the areas and labels of the definition
-listed-text : (S : Sheet) (L : Lent) → outcome S L ≡ Labelled → listingText (S .grid) (lentAfter S L .areas) (lentAfter S L .labels) ≡ listingText (S .grid) (areasOf S) (labelsOf S)
-unfolding lentAfter areasOf labelsOf
-listed-text S L e =
-    rw e (listing-written (S .grid) (areasOf S) (labelsOf S) (L .areas) (L .labels) (length-list (area S) 0 (cells (S .grid))) (length-list (labelOf S) 0 (cells (S .grid))))
+module _ (dirs : List ℕ) (L : Lent) (bytes : List ℕ) where
+  sheet-ending : {z : Sizes} (file : FileEnded dirs bytes z) (o : LabelOutcome)
+      → outcome (sheet (z .rows) (z .cols) (z .depth) (file .lines .held)) L ≡ o → Ending dirs L bytes (sheetVerdict z o)
+  unfolding sheetVerdict
+  sheet-ending {z} file Passed e = labelled (record { file = file; accepted = e })
+  sheet-ending {z} file (NotLabelled number place) e =
+      sheet-refused (record { sizes = z; file = file; refused = e; number-is = file-number file L number place e .0 })
 
-module _ (dirs : List ℕ) (L : Lent) (bytes : List ℕ) (i : Intake) (d : List ℕ) (takes : Takes newIntake dirs (linesOf bytes) i d) where
-  sheet-ending : (z : Sizes) → endTaken i ≡ accepted (AtEnd z) → (o : LabelOutcome) → outcome (sheet (z .rows) (z .cols) (z .depth) d) L ≡ o → Ending dirs L bytes (reportText (Ended (record { stage = AtEnd z })) d L)
-  unfolding reportText sheetText intakeOutcome intakeLent endedSizes
-  sheet-ending z e Labelled o =
-      let S : Sheet = sheet (z .rows) (z .cols) (z .depth) d in
-      listed i d z takes e o (ap (λ (x : LabelOutcome). sheetText x z d (lentAfter S L)) o ∙ listed-text S L o)
-  sheet-ending z e (NotLabelled number place) o = labelling-refused i d z number place takes e o (rw o)
+  module _ (i : Intake) (d : List ℕ) (takes : Takes newIntake dirs (linesOf bytes) i d) where
+    ended-ending : endTaken i .outcome ≡ Accepted → Ending dirs L bytes (verdictOf (Ended (endTaken i .intake)) d L)
+    unfolding endTaken verdictOf
+    ended-ending e =
+        let a = end-accepted (i .stage) e in
+        let z : Sizes = a .0 in
+        let file : FileEnded dirs bytes z = record { lines = record { intake = i; held = d; takes = takes }; ended = a .1 } in
+        rw (a .1) (sheet-ending file (outcome (sheet (z .rows) (z .cols) (z .depth) d) L) refl)
 
-  ended-ending : endTaken i .outcome ≡ Accepted → Ending dirs L bytes (reportText (Ended (endTaken i .intake)) d L)
-  unfolding endTaken
-  ended-ending e =
-      let a = end-accepted (i .stage) e in
-      rw (a .1) (sheet-ending (a .0) (a .1) (outcome (sheet (a .0 .rows) (a .0 .cols) (a .0 .depth) d) L) refl)
+  from-reading : (f : FileRead) → ReadEnding newIntake 0 dirs (linesOf bytes) f → Ending dirs L bytes (verdictOf (f .read) (f .dirs) L)
+  unfolding verdictOf
+  from-reading f (at-line before after line j d number parts t r is) =
+      rw is
+      (line-refused {place = 0 + suc (length before)} (record {
+        before = before;
+        line = line;
+        after = after;
+        intake = j;
+        held = d;
+        lines = parts;
+        takes = t;
+        refused = r;
+        number-is = line-number j line d number (takes-on t tt) r;
+        place-is = omega arith;
+      }))
+  from-reading f (at-end j d number t r is) =
+      rw is
+      (end-refused {place = 0 + suc (length (linesOf bytes))} (record {
+        lines = record { intake = j; held = d; takes = t };
+        refused = r;
+        number-is = end-number j number (takes-on t tt) r;
+        place-is = omega arith;
+      }))
+  from-reading f (ended j d t r is) = rw is (ended-ending j d t r)
 
-from-reading : (dirs : List ℕ) (L : Lent) (bytes : List ℕ) (f : FileRead) → ReadEnding newIntake 0 dirs (linesOf bytes) f → Ending dirs L bytes (reportText (f .read) (f .dirs) L)
-unfolding reportText
-from-reading dirs L bytes f (at-line before after line j d number parts t r is) =
-    line-refused before after line j d number parts t r (rw is (ap (refusalText number) (omega arith)))
-from-reading dirs L bytes f (at-end j d number t r is) = end-refused j d number t r (rw is (ap (refusalText number) (omega arith)))
-from-reading dirs L bytes f (ended j d t r is) = rw is (ended-ending dirs L bytes j d t r)
-
--- every file's report
-pub report-ending : (dirs : List ℕ) (L : Lent) (bytes : List ℕ) → Ending dirs L bytes (report dirs L bytes)
-unfolding report readFile
-report-ending dirs L bytes = from-reading dirs L bytes (readFrom newIntake 0 dirs (linesOf bytes)) (read-ending (linesOf bytes) newIntake 0 dirs)
+  pub file-ending : Ending dirs L bytes (fileVerdict dirs L bytes)
+  unfolding fileVerdict readFile
+  file-ending = from-reading (readFrom newIntake 0 dirs (linesOf bytes)) (read-ending (linesOf bytes) newIntake 0 dirs)
 
 -- a listing is no refusal: the second byte tells
 pub listing-no-refusal : (G : Grid) (areas labels : List ℕ) (number place : ℕ) → listingText G areas labels ≡ refusalText number place → ⊥

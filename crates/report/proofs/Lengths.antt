@@ -7,7 +7,7 @@ use native.Mathlib.Nat.{pow-le-pow-right, mul-le-mul-right}
 use native.Mathlib.Omega.{arith}
 use lib.Dec.{eqb}
 use lib.ListN.{length, length-append}
-use Rattle.sheet.specs.declared.Outcome.the-variants.{Accepted as Labelled}
+use Rattle.sheet.specs.declared.Outcome.the-variants.{Accepted}
 use Rattle.sheet.specs.Sheet.{Sheet, cells, inside}
 use Rattle.sheet.specs.Area.{area}
 use Rattle.sheet.specs.Label.{areasOf, labelOf, labelDigits, labelsOf}
@@ -21,7 +21,6 @@ use Rattle.claims.proofs.GridLaws.{area-most-cells}
 use Rattle.claims.proofs.Sheets.{accepted-passed}
 use Rattle.sheet.proofs.Lists.{length-list, written-at}
 use Rattle.claims.proofs.Written.{one-to-nine, at-most-depth}
-use Rattle.labelling.specs.Labelling.{sheet}
 use Rattle.lines.specs.Fields.{longer}
 use Rattle.listing.specs.Listing.{listingText, refusalText}
 use Rattle.listing.specs.Writing.{textInto, accepted}
@@ -29,11 +28,15 @@ use Rattle.sheet.proofs.Within.{rows-cols-most, depth-most}
 use Rattle.listing.proofs.Answers.{text-into}
 use Rattle.listing.proofs.Lengths.{refusal-most, listing-written, listing-most-18-digits}
 use Rattle.reading.specs.Lines.{linesOf}
-use Rattle.report.specs.Report.{report}
-use Rattle.report.specs.Conditions.{Takes, takes-none, takes-line, Ending, line-refused, end-refused, labelling-refused, listed}
-use Rattle.report.proofs.Numbers.{line-number, end-number, label-number}
-use Rattle.report.proofs.ReportLaws.{dirs-long}
-use Rattle.report.proofs.Endings.{report-ending}
+use Rattle.reading.specs.Feed.{largestCount}
+use Rattle.report.specs.declared.Verdict.{Verdict}
+use Rattle.report.specs.declared.Verdict.the-variants.{Refused, Labelled}
+use Rattle.report.specs.Report.{fileVerdict, report}
+use Rattle.report.specs.Conditions.{oneOf, lineNumbers, endNumbers, sheetNumbers, Takes, takes-none, takes-line, Ending, line-refused, end-refused, sheet-refused, labelled}
+use Rattle.report.specs.Demand.{fileSheet, programCells, programBytes}
+use Rattle.report.proofs.Numbers.{AllOf, one-of, file-number, file-fits}
+use Rattle.report.proofs.Endings.{file-ending}
+use Rattle.report.proofs.Files.{file-refused, file-listed, file-accepted}
 
 -- ---- lines
 
@@ -57,7 +60,7 @@ takes-length (takes-line {i} {j} {dirs} line e t) = takes-length t ∙ line-leng
 
 -- ---- the listing of an accepted sheet
 
-module _ (S : Sheet) (L : Lent) (accepted : outcome S L ≡ Labelled) where
+module _ (S : Sheet) (L : Lent) (accepted : outcome S L ≡ Accepted) where
   area-small : cells (S .grid) ≤ 65536 → (c : ℕ) → area S c ≤ 65536
   unfolding area
   area-small most c = go (inside (S .grid) c) refl
@@ -88,28 +91,44 @@ module _ (S : Sheet) (L : Lent) (accepted : outcome S L ≡ Labelled) where
 
 -- ---- the report
 
-module _ (dirs : List ℕ) (L : Lent) (bytes : List ℕ) (few : length bytes < 18446744073709551615) (most : ℕ) (refusal : 39 ≤ most) (listing : 19 + length dirs * 33 ≤ most) where
-  refusal-fits : (number place : ℕ) → number ≤ 15 → place < 2 ^ 64 → length (refusalText number place) ≤ most
-  refusal-fits number place h g = omega (arith, refusal-most number place (omega arith) g)
+small : (numbers : List ℕ) → AllOf (λ n. n ≤ 15) numbers → (number : ℕ) → oneOf numbers number ≡ true → number ≤ 15
+small = one-of (λ n. n ≤ 15)
 
-  ending-most : (text : List ℕ) → Ending dirs L bytes text → length text ≤ most
-  ending-most text (line-refused before after line i d number parts t r is) =
-      rw is
-      (refusal-fits number (suc (length before)) (line-number i line d number r)
-      (omega (arith, lines-most bytes, ap length parts ∙ length-append before (line ∷ after))))
-  ending-most text (end-refused i d number t r is) = rw is (refusal-fits number (suc (length (linesOf bytes))) (end-number i number r) (omega (arith, lines-most bytes)))
-  ending-most text (labelling-refused i d z number place t e o is) =
-      let small = label-number (sheet (z .rows) (z .cols) (z .depth) d) L number place o in
-      rw is (refusal-fits number place (small .0) (omega (arith, small .1)))
-  ending-most text (listed i d z t e o is) =
-      let S : Sheet = sheet (z .rows) (z .cols) (z .depth) d in
-      let room : cells (S .grid) ≤ length dirs = omega (arith, dirs-long S L o, takes-length t) in
-      rw is (omega (arith, listed-most S L o, mul-le-mul-right 33 room))
+module _ (dirs : List ℕ) (L : Lent) (bytes : List ℕ) (few : length bytes < largestCount) where
+  -- a refusal's number and place are small, and a labelled sheet has a direction byte lent for each cell
+  abbrev Small : Verdict → Type 0
+  Small (Refused number place) = (number ≤ 15) × (place < 2 ^ 64)
+  Small (Labelled z) = z .rows * z .cols ≤ length dirs
 
-  pub report-most : length (report dirs L bytes) ≤ most
-  report-most = ending-most (report dirs L bytes) (report-ending dirs L bytes)
+  ending-small : {v : Verdict} → Ending dirs L bytes v → Small v
+  ending-small (line-refused {number} {place} r) = (
+    small lineNumbers (omega arith, (omega arith, (omega arith, (omega arith, (omega arith, (omega arith, (omega arith, tt))))))) number (r .number-is),
+    omega (arith, r .place-is, lines-most bytes, ap length (r .lines) ∙ length-append (r .before) (r .line ∷ r .after)),
+  )
+  ending-small (end-refused {number} {place} r) = (
+    small endNumbers (omega arith, tt) number (r .number-is),
+    omega (arith, r .place-is, lines-most bytes),
+  )
+  ending-small (sheet-refused {number} {place} r) = (
+    small sheetNumbers (omega arith, (omega arith, (omega arith, (omega arith, (omega arith, tt))))) number (r .number-is),
+    omega (arith, file-number (r .file) L number place (r .refused) .1),
+  )
+  ending-small (labelled {z} r) = omega (arith, file-fits (r .file) .lent-enough, takes-length (r .file .lines .takes))
+
+  module _ (most : ℕ) (refusal : 39 ≤ most) (listing : 19 + length dirs * 33 ≤ most) where
+    verdict-most : (v : Verdict) → fileVerdict dirs L bytes ≡ v → Small v → length (report dirs L bytes) ≤ most
+    verdict-most (Refused number place) e s =
+        rw (file-refused dirs L bytes number place e) (omega (arith, refusal-most number place (omega (arith, s .0)) (s .1)))
+    verdict-most (Labelled z) e s =
+        rw (file-listed dirs L bytes z e)
+        (omega (arith, listed-most (fileSheet dirs bytes z) L (file-accepted dirs L bytes z e), mul-le-mul-right 33 s))
+
+    pub report-most : length (report dirs L bytes) ≤ most
+    report-most = verdict-most (fileVerdict dirs L bytes) refl (ending-small (file-ending dirs L bytes))
 
 -- the program lends 2,048 direction bytes and a buffer of 19 + 2,048 × 33 bytes: no report is longer
-pub program-report : (dirs : List ℕ) (L : Lent) (bytes buffer : List ℕ) → length bytes < 18446744073709551615 → length dirs ≡ 2048 → length buffer ≡ 67603 → textInto (report dirs L bytes) buffer ≡ accepted (report dirs L bytes) buffer
+pub program-report : (dirs : List ℕ) (L : Lent) (bytes buffer : List ℕ) → length bytes < largestCount
+    → length dirs ≡ programCells → length buffer ≡ programBytes
+    → textInto (report dirs L bytes) buffer ≡ accepted (report dirs L bytes) buffer
 program-report dirs L bytes buffer few lent room =
     text-into (report dirs L bytes) buffer (rw room (report-most dirs L bytes few 67603 (omega arith) (omega arith)))

@@ -1,5 +1,7 @@
 pub mod Cases
-pub mod ReportLaws
-pub mod Endings
 pub mod Numbers
+pub mod Endings
+pub mod ReportLaws
+pub mod Files
 pub mod Lengths
+pub mod Demand

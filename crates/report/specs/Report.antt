@@ -1,49 +1,88 @@
--- The report of a file: what the program prints for it.
+-- The report of a file: a verdict on it, and the text that tells it. It is what the program prints.
+use mathlib.Core.Option.{Option, none, some}
 use mathlib.Core.List.{List}
 use Prim.Native.Nat.{ℕ}
 use Rattle.sheet.specs.declared.Outcome.{Outcome}
-use Rattle.sheet.specs.declared.Outcome.the-variants.{Accepted as Labelled, Refused as NotLabelled}
+use Rattle.sheet.specs.declared.Outcome.the-variants.{Accepted, Refused as NotLabelled}
 use Rattle.sheet.specs.Sheet.{grid}
-use Rattle.sheet.specs.Refusal.{Lent}
+use Rattle.sheet.specs.Refusal.{Lent, outcome}
 use Rattle.intake.specs.declared.Sizes.{Sizes}
-use Rattle.intake.specs.declared.Stage.{Stage}
-use Rattle.intake.specs.declared.Stage.the-variants.{WaitingForSizeNames, WaitingForSizes, WaitingForCellNames, TakingCells, Ended as AtEnd}
-use Rattle.labelling.specs.FromIntake.{intakeOutcome, intakeLent}
+use Rattle.intake.specs.Intake.{endedSizes}
+use Rattle.labelling.specs.Labelling.{sheet}
+use Rattle.labelling.specs.FromIntake.{intakeLent}
 use Rattle.listing.specs.declared.Listing.{Listing}
 use Rattle.listing.specs.Listing.{listingText, refusalText}
-use Rattle.listing.specs.Writing.{textInto}
+use Rattle.listing.specs.Writing.{Listed, textInto, listingInto, refusalInto}
 use Rattle.reading.specs.declared.Read.{Read}
-use Rattle.reading.specs.declared.Read.the-variants.{Refused, Ended}
-use Rattle.reading.specs.Lines.{readFile}
+use Rattle.reading.specs.declared.Read.the-variants.{Refused as NotRead, Ended}
+use Rattle.reading.specs.Lines.{FileRead, readFile}
+use Rattle.report.specs.declared.Verdict.{Verdict}
+use Rattle.report.specs.declared.Verdict.the-variants.{Refused, Labelled}
 
--- the sizes of an ended intake; labelling refuses every other one, so that it is not listed
-unfoldable pub endedSizes : Stage → Sizes
-endedSizes WaitingForSizeNames = record { rows = 0; cols = 0; depth = 0 }
-endedSizes (WaitingForSizes c) = record { rows = 0; cols = 0; depth = 0 }
-endedSizes (WaitingForCellNames z) = record { rows = 0; cols = 0; depth = 0 }
-endedSizes (TakingCells z c) = record { rows = 0; cols = 0; depth = 0 }
-endedSizes (AtEnd z) = z
+-- ---- the verdict
 
--- the listing where labelling accepted the sheet; else the refusal, with "the place that labelling gave"
-unfoldable pub sheetText : Outcome → Sizes → List ℕ → Lent → List ℕ
-sheetText Labelled z dirs L = listingText (grid (z .rows) (z .cols) dirs) (L .areas) (L .labels)
-sheetText (NotLabelled number place) z dirs L = refusalText number place
+-- document 01's number and place of a verdict, both 0 where it is no refusal, and the sizes of the labelled sheet, else 0
+pub record VerdictValues : Type 0 where
+  pub number : ℕ
+  pub place : ℕ
+  pub rows : ℕ
+  pub cols : ℕ
+  pub depth : ℕ
 
--- the text of a file that was read, where this is lent to labelling
-unfoldable pub reportText : Read → List ℕ → Lent → List ℕ
+abbrev pub verdictValues : Verdict → VerdictValues
+verdictValues (Refused number place) = record { number = number; place = place; rows = 0; cols = 0; depth = 0 }
+verdictValues (Labelled z) = record { number = 0; place = 0; rows = z .rows; cols = z .cols; depth = z .depth }
+
+-- labelled, or refused with "the place that labelling gave"
+unfoldable pub sheetVerdict : Sizes → Outcome → Verdict
+sheetVerdict z Accepted = Labelled z
+sheetVerdict z (NotLabelled number place) = Refused number place
+
+-- 15 without sizes, which an intake has once it has ended; else by labelling a sheet of these sizes
+unfoldable pub sizesVerdict : Option Sizes → List ℕ → Lent → Verdict
+unfolding outcome sheetVerdict
+sizesVerdict none dirs L = Refused 15 0
+sizesVerdict (some z) dirs L = sheetVerdict z (outcome (sheet (z .rows) (z .cols) (z .depth) dirs) L)
+
+-- the verdict on a file that was read, where this is lent to labelling
+unfoldable pub verdictOf : Read → List ℕ → Lent → Verdict
+unfolding sizesVerdict endedSizes
+verdictOf (NotRead number place) dirs L = Refused number place
+verdictOf (Ended i) dirs L = sizesVerdict (endedSizes (i .stage)) dirs L
+
+-- what is lent to labelling, afterwards: with the areas and labels of a labelled sheet
+unfoldable pub readLent : Read → List ℕ → Lent → Lent
+readLent (NotRead number place) dirs L = L
+readLent (Ended i) dirs L = intakeLent i dirs L
+
+-- ---- its text
+
+-- the listing of a labelled sheet, or the two lines after a refusal
+unfoldable pub reportText : Verdict → List ℕ → Lent → List ℕ
 reportText (Refused number place) dirs L = refusalText number place
-reportText (Ended i) dirs L = sheetText (intakeOutcome i dirs L) (endedSizes (i .stage)) dirs (intakeLent i dirs L)
+reportText (Labelled z) dirs L = listingText (grid (z .rows) (z .cols) dirs) (L .areas) (L .labels)
 
--- what is lent to labelling, afterwards
-unfoldable pub reportLent : Read → List ℕ → Lent → Lent
-reportLent (Refused number place) dirs L = L
-reportLent (Ended i) dirs L = intakeLent i dirs L
+-- the text of any verdict in a lent buffer
+unfoldable pub verdictInto : Verdict → List ℕ → List ℕ → List ℕ → List ℕ → Listed
+verdictInto (Refused number place) dirs areas labels buffer = refusalInto number place buffer
+verdictInto (Labelled z) dirs areas labels buffer = listingInto (grid (z .rows) (z .cols) dirs) areas labels buffer
 
--- the report of a file with these bytes
+-- ---- a file
+
+-- the verdict on a file with these bytes, what is lent afterwards, and its report
+unfoldable pub fileVerdict : List ℕ → Lent → List ℕ → Verdict
+fileVerdict dirs L bytes = let f : FileRead = readFile dirs bytes in verdictOf (f .read) (f .dirs) L
+
+unfoldable pub fileLent : List ℕ → Lent → List ℕ → Lent
+fileLent dirs L bytes = let f : FileRead = readFile dirs bytes in readLent (f .read) (f .dirs) L
+
 unfoldable pub report : List ℕ → Lent → List ℕ → List ℕ
-report dirs L bytes = reportText (readFile dirs bytes .read) (readFile dirs bytes .dirs) L
+unfolding fileVerdict fileLent
+report dirs L bytes = reportText (fileVerdict dirs L bytes) (readFile dirs bytes .dirs) (fileLent dirs L bytes)
 
--- the answer of the call that writes a report, the buffer, and what was lent to labelling; a buffer that is too short is refused by 3
+-- ---- the call that writes a report
+
+-- its answer, the buffer, and what was lent to labelling; a buffer that is too short is refused by 3
 pub record Reported : Type 0 where
   pub answer : Listing
   pub buffer : List ℕ
@@ -53,4 +92,6 @@ abbrev pub reportedAs : List ℕ → List ℕ → Lent → Reported
 reportedAs text buffer L = record { answer = textInto text buffer .answer; buffer = textInto text buffer .buffer; lent = L }
 
 unfoldable pub reportInto : Read → List ℕ → Lent → List ℕ → Reported
-reportInto read dirs L buffer = reportedAs (reportText read dirs L) buffer (reportLent read dirs L)
+reportInto read dirs L buffer =
+    let after : Lent = readLent read dirs L in
+    reportedAs (reportText (verdictOf read dirs L) dirs after) buffer after

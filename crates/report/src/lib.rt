@@ -1,54 +1,107 @@
-// The report of a file that was read: the listing of its sheet, or the two lines after a refusal.
+// The report of a file that was read: a verdict on it, and the text that tells it.
+ghost use mathlib.Core.Option.{some};
 ghost use mathlib.Core.Path.{_≡_};
+ghost use Rattle.intake.specs.Intake.{endedSizes};
 ghost use Rattle.labelling.specs.Labelling.{lent};
-ghost use Rattle.reading.specs.declared.Read.{Read};
-ghost use Rattle.report.specs.Report.{endedSizes, reportInto};
+ghost use Rattle.labelling.specs.FromIntake.{lentWith};
+ghost use Rattle.listing.specs.Writing.{listingValues};
+ghost use Rattle.report.specs.Report.{verdictValues, sizesVerdict, verdictOf, readLent, verdictInto, reportInto};
 use intake::Intake;
 use intake::Sizes;
 use intake::Stage;
-use labelling::from_intake::label_intake;
+use labelling::label;
 use listing::Listing;
 use listing::write_listing;
 use listing::write_refusal;
 use reading::Read;
 use sheet::Outcome;
 
-const NO_SIZES: Sizes = Sizes {
-    rows: 0,
-    cols: 0,
-    depth: 0,
-};
-
-// The sizes of an ended intake.
-fn ended_sizes(stage: Stage) -> Sizes
-    ensures { λ r. ⌜ r ≡ endedSizes stage ⌝ }
-{
-    match stage {
-        Stage::WaitingForSizeNames => NO_SIZES,
-        Stage::WaitingForSizes(_) => NO_SIZES,
-        Stage::WaitingForCellNames(_) => NO_SIZES,
-        Stage::TakingCells(_, _) => NO_SIZES,
-        Stage::Ended(sizes) => sizes,
-    }
+// Refused, with document 01's number and place, or labelled: a sheet of these sizes, with its areas and labels in what was lent.
+pub enum Verdict {
+    Refused(u8, usize),
+    Labelled(Sizes),
 }
 
-// Labels the sheet of an intake and writes its listing, or the refusal.
-fn write_sheet(
-    intake: Intake,
+// Labels a sheet.
+fn sheet_verdict(
+    sizes: Sizes,
     dirs: &[u8],
     areas: &mut [u32],
     labels: &mut [u64],
     work: &mut [u32],
+) -> Verdict
+    ensures verdict { λ r. ⌜ r ≡ sizesVerdict (some sizes) (now (dirs .entry)) (lent (now (areas .entry)) (now (labels .entry)) (now (work .entry))) ⌝ }
+    ensures lent { λ _. ⌜ lent (now (areas .exit)) (now (labels .exit)) (now (work .exit)) ≡ lentWith (some sizes) (now (dirs .entry)) (lent (now (areas .entry)) (now (labels .entry)) (now (work .entry))) ⌝ }
+{
+    let outcome = label(
+        sizes.rows,
+        sizes.cols,
+        sizes.depth,
+        dirs,
+        areas,
+        labels,
+        work,
+    );
+    match outcome {
+        Outcome::Accepted => Verdict::Labelled(sizes),
+        Outcome::Refused(number, place) => Verdict::Refused(number, place),
+    }
+}
+
+// Labels the sheet of an intake; 15 if it has not ended.
+fn stage_verdict(
+    stage: Stage,
+    dirs: &[u8],
+    areas: &mut [u32],
+    labels: &mut [u64],
+    work: &mut [u32],
+) -> Verdict
+    ensures verdict { λ r. ⌜ r ≡ sizesVerdict (endedSizes stage) (now (dirs .entry)) (lent (now (areas .entry)) (now (labels .entry)) (now (work .entry))) ⌝ }
+    ensures lent { λ _. ⌜ lent (now (areas .exit)) (now (labels .exit)) (now (work .exit)) ≡ lentWith (endedSizes stage) (now (dirs .entry)) (lent (now (areas .entry)) (now (labels .entry)) (now (work .entry))) ⌝ }
+{
+    match stage {
+        Stage::WaitingForSizeNames => Verdict::Refused(15, 0),
+        Stage::WaitingForSizes(_) => Verdict::Refused(15, 0),
+        Stage::WaitingForCellNames(_) => Verdict::Refused(15, 0),
+        Stage::TakingCells(_, _) => Verdict::Refused(15, 0),
+        Stage::Ended(sizes) => sheet_verdict(sizes, dirs, areas, labels, work),
+    }
+}
+
+// The verdict on a file that was read; its sheet is labelled.
+pub fn verdict_of(
+    read: Read,
+    dirs: &[u8],
+    areas: &mut [u32],
+    labels: &mut [u64],
+    work: &mut [u32],
+) -> Verdict
+    ensures verdict { λ r. ⌜ r ≡ verdictOf read (now (dirs .entry)) (lent (now (areas .entry)) (now (labels .entry)) (now (work .entry))) ⌝ }
+    ensures values { λ r. ⌜ verdictValues r ≡ verdictValues (verdictOf read (now (dirs .entry)) (lent (now (areas .entry)) (now (labels .entry)) (now (work .entry)))) ⌝ }
+    ensures lent { λ _. ⌜ lent (now (areas .exit)) (now (labels .exit)) (now (work .exit)) ≡ readLent read (now (dirs .entry)) (lent (now (areas .entry)) (now (labels .entry)) (now (work .entry))) ⌝ }
+{
+    match read {
+        Read::Refused(number, place) => Verdict::Refused(number, place),
+        Read::Ended(intake) => {
+            let stage = intake.stage;
+            stage_verdict(stage, dirs, areas, labels, work)
+        }
+    }
+}
+
+// Writes the text of a verdict to the start of a buffer.
+fn write_verdict(
+    verdict: Verdict,
+    dirs: &[u8],
+    areas: &[u32],
+    labels: &[u64],
     out: &mut [u8],
 ) -> Listing
-    ensures { λ r. ⌜ record { answer = r; buffer = now (out .exit); lent = lent (now (areas .exit)) (now (labels .exit)) (now (work .exit)) } ≡ reportInto (Read.Ended intake) (now (dirs .entry)) (lent (now (areas .entry)) (now (labels .entry)) (now (work .entry))) (now (out .entry)) ⌝ }
+    ensures { λ r. ⌜ record { answer = r; buffer = now (out .exit) } ≡ verdictInto verdict (now (dirs .entry)) (now (areas .entry)) (now (labels .entry)) (now (out .entry)) ⌝ }
 {
-    let stage = intake.stage;
-    let sizes = ended_sizes(stage);
-    let outcome = label_intake(intake, dirs, areas, labels, work);
-    match outcome {
-        Outcome::Accepted => write_listing(sizes.rows, sizes.cols, dirs, areas, labels, out),
-        Outcome::Refused(number, place) => write_refusal(number, place, out),
+    match verdict {
+        Verdict::Refused(number, place) => write_refusal(number, place, out),
+        Verdict::Labelled(sizes) => write_listing(sizes.rows, sizes.cols, dirs, areas, labels, out),
     }
 }
 
@@ -61,10 +114,9 @@ pub fn write_report(
     work: &mut [u32],
     out: &mut [u8],
 ) -> Listing
-    ensures { λ r. ⌜ record { answer = r; buffer = now (out .exit); lent = lent (now (areas .exit)) (now (labels .exit)) (now (work .exit)) } ≡ reportInto read (now (dirs .entry)) (lent (now (areas .entry)) (now (labels .entry)) (now (work .entry))) (now (out .entry)) ⌝ }
+    ensures report { λ r. ⌜ record { answer = r; buffer = now (out .exit); lent = lent (now (areas .exit)) (now (labels .exit)) (now (work .exit)) } ≡ reportInto read (now (dirs .entry)) (lent (now (areas .entry)) (now (labels .entry)) (now (work .entry))) (now (out .entry)) ⌝ }
+    ensures values { λ r. ⌜ listingValues r ≡ listingValues (reportInto read (now (dirs .entry)) (lent (now (areas .entry)) (now (labels .entry)) (now (work .entry))) (now (out .entry)) .answer) ⌝ }
 {
-    match read {
-        Read::Refused(number, place) => write_refusal(number, place, out),
-        Read::Ended(intake) => write_sheet(intake, dirs, areas, labels, work, out),
-    }
+    let verdict = verdict_of(read, dirs, areas, labels, work);
+    write_verdict(verdict, dirs, areas, labels, out)
 }

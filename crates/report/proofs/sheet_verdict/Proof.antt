@@ -1,0 +1,58 @@
+-- `sheet_verdict` meets its contract: by what labelling answered.
+use mathlib.Core.Path.{sym}
+use Rattle.labelling.specs.FromIntake.{lentWith}
+use Rattle.report.specs.Report.{sizesVerdict}
+use borrow.Author.Needs.{needs}
+use Rattle.report.proofs.sheet_verdict.Statement.{statement}
+use Rattle.report.proofs.sheet_verdict.Tie as tie
+
+label-requires : tie.Need-label-requires
+label-requires c κs = search needs
+
+enum-told : tie.Need-enum-told
+enum-told c = search needs
+
+enum-known-outcome : tie.Need-enum-known-outcome
+enum-known-outcome c = search needs
+
+same-length : tie.Need-same-length
+same-length c = search needs
+
+same-length-2 : tie.Need-same-length-2
+same-length-2 c = search needs
+
+same-length-3 : tie.Need-same-length-3
+same-length-3 c = search needs
+
+returns : tie.Need-returns
+unfolding sizesVerdict lentWith
+returns c = (simp (sym (c .before .before .before .before .before .before .before .before .label .ensures .0), c .enum-told .given .1), c .before .before .before .before .before .before .before .before .label .ensures .1 .1)
+
+same-length-4 : tie.Need-same-length-4
+same-length-4 c = search needs
+
+same-length-5 : tie.Need-same-length-5
+same-length-5 c = search needs
+
+same-length-6 : tie.Need-same-length-6
+same-length-6 c = search needs
+
+returns-2 : tie.Need-returns-2
+unfolding sizesVerdict lentWith
+returns-2 c = (simp (sym (c .before .before .before .before .before .before .before .before .before .label .ensures .0), c .before .outcome .given .1), c .before .before .before .before .before .before .before .before .before .label .ensures .1 .1)
+
+pub sheet-verdict-spec : {M : Type 1} → statement M
+sheet-verdict-spec =
+    tie.close
+    (tie.spec
+    label-requires
+    enum-told
+    enum-known-outcome
+    same-length
+    same-length-2
+    same-length-3
+    returns
+    same-length-4
+    same-length-5
+    same-length-6
+    returns-2)

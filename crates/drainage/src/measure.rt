@@ -70,8 +70,8 @@ fn copy(from: &[u32], n: usize, to: &mut [u32])
     requires { ⌜ (n ≤ length (now from)) × (n ≤ length (now to)) ⌝ }
     ensures { λ _. ⌜ now (to .exit) ≡ take n (now (from .entry)) ++ drop n (now (to .entry)) ⌝ }
 {
-    for c in 0..n {
-        to[c] = from[c];
+    for i in 0..n {
+        to[i] = from[i];
     }
 }
 

@@ -11,16 +11,16 @@ use Rattle.drainage.proofs.measure.copy.Statement.{statement}
 use Rattle.drainage.proofs.measure.copy.Tie as tie
 
 abbrev Inv-loop : tie.InvT-loop
-Inv-loop from n to₀ c₀ to c = (c ≤ n) × (to ≡ filled (valueAt from) c to₀)
+Inv-loop from n to₀ i₀ to i = (i ≤ n) × (to ≡ filled (valueAt from) i to₀)
 
 abbrev μ-loop : tie.MeasureT-loop
-μ-loop from n to₀ c₀ to c = n - c
+μ-loop from n to₀ i₀ to i = n - i
 
 loop-holds : tie.Need-loop-holds Inv-loop μ-loop
 loop-holds c = (omega arith, filled-none _ _)
 
 long : (c : tie.At-loop Inv-loop μ-loop) → length (c .loop .to) ≡ length (c .before .args .to .now)
-long c = ap length (c .loop .inv .1) ∙ filled-long (valueAt (c .before .args .from .now)) (c .loop .c) (c .before .args .to .now) (omega arith)
+long c = ap length (c .loop .inv .1) ∙ filled-long (valueAt (c .before .args .from .now)) (c .loop .i) (c .before .args .to .now) (omega arith)
 
 mul-to : tie.Need-mul-to Inv-loop μ-loop
 mul-to c = omega arith
@@ -34,8 +34,8 @@ mul-to-2 c = omega (arith, long (c .before .before))
 slice-write-to : tie.Need-slice-write-to Inv-loop μ-loop
 slice-write-to c = omega (arith, long (c .before .before))
 
-add-c : tie.Need-add-c Inv-loop μ-loop
-add-c c = search needs
+add-i : tie.Need-add-i Inv-loop μ-loop
+add-i c = search needs
 
 loop-less : tie.Need-loop-less Inv-loop μ-loop
 loop-less c = search needs
@@ -43,8 +43,8 @@ loop-less c = search needs
 loop-again : tie.Need-loop-again Inv-loop μ-loop
 loop-again c =
     let l = c .before .before .loop in
-    let v = getD (c .before .before .before .args .from .now) (l .c) 0 in
-    (omega arith, ap (λ (t : List ℕ). set t (l .c) v) (l .inv .1) ∙ filled-more _ (l .c) _ v (omega arith) refl)
+    let v = getD (c .before .before .before .args .from .now) (l .i) 0 in
+    (omega arith, ap (λ (t : List ℕ). set t (l .i) v) (l .inv .1) ∙ filled-more _ (l .i) _ v (omega arith) refl)
 
 same-length : tie.Need-same-length Inv-loop μ-loop
 same-length c = long (c .before)
@@ -52,7 +52,7 @@ same-length c = long (c .before)
 returns : tie.Need-returns Inv-loop μ-loop
 returns c =
     let a = c .before .before .args in
-    let e : c .before .loop .c ≡ a .n = omega arith in
+    let e : c .before .loop .i ≡ a .n = omega arith in
     (rw e at (c .before .loop .inv .1)) ∙ ap (λ (l : List ℕ). l ++ drop (a .n) (a .to .now)) (list-take (a .n) (a .from .now) (c .before .before .pre .0))
 
 pub copy-spec : {M : Type 1} → statement M
@@ -66,7 +66,7 @@ copy-spec =
     shared-slice-read-to
     mul-to-2
     slice-write-to
-    add-c
+    add-i
     loop-less
     loop-again
     same-length

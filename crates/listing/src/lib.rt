@@ -11,6 +11,7 @@ use checks::sizes_fit;
 use decimal::COMMA;
 use decimal::LINE_FEED;
 use decimal::Written;
+use decimal::decimal_length;
 
 // The answer of a call that writes a text: the count of its bytes, or document 01's number of a refusal.
 pub enum Listing {
@@ -18,31 +19,20 @@ pub enum Listing {
     Refused(u8),
 }
 
-// The count of the digits of a number.
-fn digit_count(n: u64) -> usize
-    ensures { λ r. ⌜ r ≡ length (decimalText n) ⌝ }
-{
-    let mut digits = [0u8; 20];
-    let Written::End(end) = decimal::write_decimal(n, &mut digits, 0) else {
-        return 0;
-    };
-    end
-}
-
 // The bytes of a label.
 fn label_length(label: u64) -> usize
     ensures { λ r. ⌜ r ≡ length (labelText label) ⌝ }
 {
-    digit_count(label)
+    decimal_length(label)
 }
 
 // The bytes of the line of a cell.
 fn cell_length(row: usize, col: usize, area: u32, label: u64) -> usize
     ensures { λ r. ⌜ r ≡ length (cellLine row col area label) ⌝ }
 {
-    let row_digits = digit_count(row as u64);
-    let col_digits = digit_count(col as u64);
-    let area_digits = digit_count(area as u64);
+    let row_digits = decimal_length(row as u64);
+    let col_digits = decimal_length(col as u64);
+    let area_digits = decimal_length(area as u64);
     let label_bytes = label_length(label);
     row_digits + col_digits + area_digits + label_bytes + 4
 }
@@ -180,8 +170,8 @@ pub fn write_refusal(number: u8, place: usize, out: &mut [u8]) -> Listing
     ensures values { λ r. ⌜ listingValues r ≡ listingValues (refusalInto number place (now (out .entry)) .answer) ⌝ }
 {
     let heading = b"refused,place\n";
-    let number_digits = digit_count(number as u64);
-    let place_digits = digit_count(place as u64);
+    let number_digits = decimal_length(number as u64);
+    let place_digits = decimal_length(place as u64);
     if out.len() < heading.len() + number_digits + place_digits + 2 {
         return Listing::Refused(3);
     }

@@ -7,20 +7,20 @@ use borrow.Author.Needs.{needs}
 use Rattle.listing.proofs.cell_length.Statement.{statement}
 use Rattle.listing.proofs.cell_length.Tie as tie
 
-digit-count-requires : tie.Need-digit-count-requires
-digit-count-requires c κs = search needs
+decimal-length-requires : tie.Need-decimal-length-requires
+decimal-length-requires c κs = search needs
 
-digit-count-requires-2 : tie.Need-digit-count-requires-2
-digit-count-requires-2 c κs = search needs
+decimal-length-requires-2 : tie.Need-decimal-length-requires-2
+decimal-length-requires-2 c κs = search needs
 
-digit-count-requires-3 : tie.Need-digit-count-requires-3
-digit-count-requires-3 c κs = search needs
+decimal-length-requires-3 : tie.Need-decimal-length-requires-3
+decimal-length-requires-3 c κs = search needs
 
 label-length-requires : tie.Need-label-length-requires
 label-length-requires c κs = search needs
 
 -- all the digits of a line are at most 80
-few : (c : tie.After-label-length) → c .before .before .before .digit-count .result + c .before .before .digit-count2 .result + c .before .digit-count3 .result + c .label-length .result ≤ 80
+few : (c : tie.After-label-length) → c .before .before .before .decimal-length .result + c .before .before .decimal-length2 .result + c .before .decimal-length3 .result + c .label-length .result ≤ 80
 few c =
     let s = c .before .before .before .before in
     omega (arith, text-64-bit (s .args .row) (s .fits .row .fits), text-64-bit (s .args .col) (s .fits .col .fits), text-32-bit (s .args .area) (s .fits .area .fits), label-64-bit (s .args .label) (s .fits .label .fits))
@@ -46,9 +46,9 @@ pub cell-length-spec : {M : Type 1} → statement M
 cell-length-spec =
     tie.close
     (tie.spec
-    digit-count-requires
-    digit-count-requires-2
-    digit-count-requires-3
+    decimal-length-requires
+    decimal-length-requires-2
+    decimal-length-requires-3
     label-length-requires
     add-result
     add-result-2

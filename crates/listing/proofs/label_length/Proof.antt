@@ -4,12 +4,12 @@ use Rattle.listing.specs.Listing.{labelText}
 use Rattle.listing.proofs.label_length.Statement.{statement}
 use Rattle.listing.proofs.label_length.Tie as tie
 
-digit-count-requires : tie.Need-digit-count-requires
-digit-count-requires c κs = search needs
+decimal-length-requires : tie.Need-decimal-length-requires
+decimal-length-requires c κs = search needs
 
 returns : tie.Need-returns
 unfolding labelText
-returns c = c .digit-count .ensures
+returns c = c .decimal-length .ensures
 
 pub label-length-spec : {M : Type 1} → statement M
-label-length-spec = tie.close (tie.spec digit-count-requires returns)
+label-length-spec = tie.close (tie.spec decimal-length-requires returns)

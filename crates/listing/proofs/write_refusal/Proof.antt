@@ -23,21 +23,21 @@ abbrev text : tie.Start → List ℕ
 text s = refusalText (s .args .number) (s .args .place)
 
 -- the bytes that were counted are those of the text, which are few
-counted : (c : tie.After-digit-count2) → 14 + c .before .digit-count .result + c .digit-count2 .result + 2 ≡ length (text (c .before .before .before .before))
-counted c = let a = c .before .before .before .before .args in omega (arith, c .before .digit-count .ensures, c .digit-count2 .ensures, refusal-length (a .number) (a .place))
+counted : (c : tie.After-decimal-length2) → 14 + c .before .decimal-length .result + c .decimal-length2 .result + 2 ≡ length (text (c .before .before .before .before))
+counted c = let a = c .before .before .before .before .args in omega (arith, c .before .decimal-length .ensures, c .decimal-length2 .ensures, refusal-length (a .number) (a .place))
 
-few : (c : tie.After-digit-count2) → length (text (c .before .before .before .before)) ≤ 39
+few : (c : tie.After-decimal-length2) → length (text (c .before .before .before .before)) ≤ 39
 few c = let s = c .before .before .before .before in refusal-most (s .args .number) (s .args .place) (s .fits .number .fits) (s .fits .place .fits)
 
 -- each part of the text has room
 room : (c : tie.Else1) → length (text (c .before .before .before .before .before)) ≤ length (c .before .before .before .before .before .args .out .now)
 room c = omega (arith, counted (c .before))
 
-digit-count-requires : tie.Need-digit-count-requires
-digit-count-requires c κs = search needs
+decimal-length-requires : tie.Need-decimal-length-requires
+decimal-length-requires c κs = search needs
 
-digit-count-requires-2 : tie.Need-digit-count-requires-2
-digit-count-requires-2 c κs = search needs
+decimal-length-requires-2 : tie.Need-decimal-length-requires-2
+decimal-length-requires-2 c κs = search needs
 
 add-if1 : tie.Need-add-if1
 add-if1 c = omega (arith, counted c, few c)
@@ -91,8 +91,8 @@ pub write-refusal-spec : {M : Type 1} → statement M
 write-refusal-spec =
     tie.close
     (tie.spec
-    digit-count-requires
-    digit-count-requires-2
+    decimal-length-requires
+    decimal-length-requires-2
     add-if1
     add-if1-2
     add-if1-3

@@ -2,12 +2,11 @@
 use mathlib.Core.Path.{sym}
 use lib.Seq.{length-take-le}
 use borrow.Author.Needs.{needs}
-use Rattle.pfafstetter.proofs.print.Statement.{statement}
-use Rattle.pfafstetter.proofs.print.Tie as tie
-use Rattle.pfafstetter.proofs.print.Reads as reads
-use Rattle.pfafstetter.proofs.print.Lts as lts
+use Rattle.programs.proofs.print.Statement.{statement}
+use Rattle.programs.proofs.print.Tie as tie
+use Rattle.programs.proofs.print.Reads as reads
+use Rattle.programs.proofs.print.Lts as lts
 use Rattle.io.proofs.write_all.Reads as write-all-reads
-use Rattle.pfafstetter.proofs.complain.Reads as complain-reads
 
 slice-aggregate-write-all : tie.Need-slice-aggregate-write-all
 slice-aggregate-write-all c = sym (length-take-le (c .before .before .before .args .n) (c .before .before .before .args .out .now) (c .before .if1 .taken))
@@ -18,22 +17,8 @@ write-all-requires c κs = search needs
 returns : tie.Need-returns
 returns c = search needs
 
-slice-aggregate-complain : tie.Need-slice-aggregate-complain
-slice-aggregate-complain c = search needs
-
-complain-requires : tie.Need-complain-requires
-complain-requires c κs = search needs
-
 returns-2 : tie.Need-returns-2
 returns-2 c = search needs
 
 pub print-spec : {M : Type 1} → statement M
-print-spec =
-    tie.close
-    (tie.spec
-    slice-aggregate-write-all
-    write-all-requires
-    returns
-    slice-aggregate-complain
-    complain-requires
-    returns-2)
+print-spec = tie.close (tie.spec slice-aggregate-write-all write-all-requires returns returns-2)

@@ -2,11 +2,11 @@
 use mathlib.Core.Path.{_≡_}
 use lib.ListN.{length}
 use borrow.Author.Needs.{needs}
-use Rattle.pfafstetter.proofs.read_all.Statement.{statement}
-use Rattle.pfafstetter.proofs.read_all.Tie as tie
-use Rattle.pfafstetter.proofs.read_all.Reads as reads
-use Rattle.pfafstetter.proofs.read_all.Lts as lts
-use Rattle.pfafstetter.proofs.read_once.Reads as read-once-reads
+use Rattle.programs.proofs.read_all.Statement.{statement}
+use Rattle.programs.proofs.read_all.Tie as tie
+use Rattle.programs.proofs.read_all.Reads as reads
+use Rattle.programs.proofs.read_all.Lts as lts
+use Rattle.programs.proofs.read_once.Reads as read-once-reads
 use Rattle.reading.proofs.Reader.new.Reads as new-reads
 
 abbrev Inv-loop : tie.InvT-loop

@@ -1,0 +1,21 @@
+/* Labels sample A, prints its cells, and asks whether water from the label 92 passes the label 91. */
+#include <inttypes.h>
+#include <stdio.h>
+#include "pfafstetter.h"
+
+int main(void) {
+  enum { ROWS = 3, COLS = 4, N = ROWS * COLS };
+  uint8_t dirs[N] = {0, 4, 16, 8, 16, 16, 16, 16, 64, 64, 32, 64};
+  uint32_t areas[N], work[8 * N];
+  uint64_t labels[N];
+  uint64_t answer = pf_label(ROWS, COLS, 3, dirs, N, areas, N, labels, N, work, 8 * N);
+  if (answer != 0) {
+    printf("refused by %d at place %" PRIu64 "\n", (int)(answer % 256), answer / 256);
+    return 1;
+  }
+  for (int c = 0; c < N; c++)
+    if (dirs[c] != 0)
+      printf("%d,%d,%" PRIu32 ",%" PRIu64 "\n", c / COLS, c % COLS, areas[c], labels[c]);
+  printf("water from 92 passes 91: %s\n", pf_flow(3, 91, 92) == 1 ? "yes" : "no, or not known");
+  return 0;
+}

@@ -1,5 +1,4 @@
-/* Labels sample A, prints its cells, and asks whether water from the label 92 passes the label 91. */
-#include <inttypes.h>
+/* Labels sample A, prints its inside cells, and asks whether water from the label 92 passes the label 91. */
 #include <stdio.h>
 #include "pfafstetter.h"
 
@@ -9,13 +8,11 @@ int main(void) {
   uint32_t areas[N], work[8 * N];
   uint64_t labels[N];
   uint64_t answer = pf_label(ROWS, COLS, 3, dirs, N, areas, N, labels, N, work, 8 * N);
-  if (answer != 0) {
-    printf("refused by %d at place %" PRIu64 "\n", (int)(answer % 256), answer / 256);
-    return 1;
-  }
-  for (int c = 0; c < N; c++)
+  if (answer != 0)
+    printf("refused by %u, place %u\n", (unsigned)(answer % 256), (unsigned)(answer / 256));
+  for (int c = 0; answer == 0 && c < N; c++)
     if (dirs[c] != 0)
-      printf("%d,%d,%" PRIu32 ",%" PRIu64 "\n", c / COLS, c % COLS, areas[c], labels[c]);
+      printf("%d,%d,%u,%llu\n", c / COLS, c % COLS, (unsigned)areas[c], (unsigned long long)labels[c]);
   printf("water from 92 passes 91: %s\n", pf_flow(3, 91, 92) == 1 ? "yes" : "no, or not known");
   return 0;
 }

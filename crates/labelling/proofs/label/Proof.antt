@@ -20,12 +20,25 @@ use Rattle.labelling.proofs.slices_fit.Reads as slices-fit-reads
 use Rattle.checks.proofs.depth_fits.Reads as depth-fits-reads
 use Rattle.checks.proofs.sizes_fit.Reads as sizes-fit-reads
 
+-- Points of the function, each from a later one.
+abbrev start : tie.After-sizes-fit → tie.Start
+start c = c .before .before .before .before .before
+
+abbrev after-sizes-fit : tie.Then2 → tie.After-sizes-fit
+after-sizes-fit c = c .before .before .before
+
+abbrev then2 : tie.Then3 → tie.Then2
+then2 c = c .before .before
+
+abbrev then3 : tie.After-label-fitting → tie.Then3
+then3 c = c .before .before .before .before
+
 -- after checks 1 and 2
 abbrev S : tie.Then2 → Sheet
-S c = let a = c .before .before .before .before .before .before .before .before .args in sheet (a .rows) (a .cols) (a .depth) (a .dirs .now)
+S c = let a = (start (after-sizes-fit c)) .args in sheet (a .rows) (a .cols) (a .depth) (a .dirs .now)
 
 abbrev L : tie.Then2 → Lent
-L c = let a = c .before .before .before .before .before .before .before .before .args in lent (a .areas .now) (a .labels .now) (a .work .now)
+L c = let a = (start (after-sizes-fit c)) .args in lent (a .areas .now) (a .labels .now) (a .work .now)
 
 sizes-passed : (c : tie.Then2) → sizesFit (S c .grid .rows) (S c .grid .cols) ≡ true
 sizes-passed c = let x = c .before .if1 .taken in let y = c .if2 .taken in let e = c .before .before .before .sizes-fit .ensures in cc
@@ -60,7 +73,7 @@ slice-relend-prefix-label-fitting : tie.Need-slice-relend-prefix-label-fitting
 slice-relend-prefix-label-fitting c = enough (c .before .before)
 
 slice-aggregate-label-fitting : tie.Need-slice-aggregate-label-fitting
-slice-aggregate-label-fitting c = let a = c .before .before .before .before .before .before .before .before .before .before .before .before .before .args in sym (length-take-le (8 * (a .rows * a .cols)) (a .work .now) (enough (c .before .before .before)))
+slice-aggregate-label-fitting c = let a = (start (after-sizes-fit (then2 (c .before .before .before)))) .args in sym (length-take-le (8 * (a .rows * a .cols)) (a .work .now) (enough (c .before .before .before)))
 
 label-fitting-requires : tie.Need-label-fitting-requires
 label-fitting-requires c κs = let d = c .before .before .before .before .before in fitting (S d) (L d) (sizes-passed d) (depth-passed d) (slices-passed (c .before .before .before))
@@ -76,9 +89,9 @@ same-length-3 c = search needs
 
 returns : tie.Need-returns
 returns c =
-    let d = c .before .before .before .before .before .before .before .before .before .before .before .before in
+    let d = (then2 (then3 (c .before .before .before .before .before .before))) in
     let f = c .before .before .before .before .before .before .label-fitting .ensures in
-    labelled (S d) (L d) (sizes-passed d) (depth-passed d) (slices-passed (c .before .before .before .before .before .before .before .before .before .before)) (f .0) (f .1 .0) (f .1 .1 .0)
+    labelled (S d) (L d) (sizes-passed d) (depth-passed d) (slices-passed ((then3 (c .before .before .before .before .before .before)))) (f .0) (f .1 .0) (f .1 .1 .0)
     (ap (λ (w : List ℕ). w ++ drop (8 * (S d .grid .rows * S d .grid .cols)) (L d .work)) (f .1 .1 .1))
 
 -- refusals 1, 2 and 3
@@ -89,7 +102,7 @@ returns-4 c =
 
 returns-3 : tie.Need-returns-3
 returns-3 c =
-    let a = c .before .before .before .before .before .before .before .before .args in
+    let a = (start (c .before .before .before)) .args in
     let x = c .before .if1 .taken in
     let y = c .if2 .left in
     let s = c .before .before .before .sizes-fit .ensures in

@@ -10,6 +10,19 @@ use Rattle.labelling.proofs.label_fitting.Lts as lts
 use Rattle.labelling.proofs.clear_places.Reads as clear-places-reads
 use Rattle.labelling.proofs.label_in_order.Reads as label-in-order-reads
 
+-- Points of the function, each from a later one.
+abbrev start : tie.After-shared-slice-known → tie.Start
+start c = c .before
+
+abbrev after-shared-slice-known : tie.After-label-in-order → tie.After-shared-slice-known
+after-shared-slice-known c = c .before .before .before .before .before .before .before
+
+abbrev after-label-in-order : tie.After-areas → tie.After-label-in-order
+after-label-in-order c = c .before
+
+abbrev after-areas : tie.After-clear-places → tie.After-areas
+after-areas c = c .before .before .before .before .before .before .before
+
 label-in-order-requires : tie.Need-label-in-order-requires
 label-in-order-requires c κs = c .before .before .before .before .before .before .before .pre
 
@@ -27,8 +40,8 @@ same-length-3 c = search needs
 
 returns : tie.Need-returns
 returns c =
-    let f = c .before .before .before .before .before .before .before .before .before .before .label-in-order in
-    let long = f .kept .1 .1 .1 .1 .1 .1 .0 ∙ c .before .before .before .before .before .before .before .before .before .before .before .before .before .before .before .before .before .before .pre .work in
+    let f = (after-label-in-order (after-areas (c .before .before))) .label-in-order in
+    let long = f .kept .1 .1 .1 .1 .1 .1 .0 ∙ (start (after-shared-slice-known (after-label-in-order (after-areas (c .before .before))))) .pre .work in
     (f .ensures .outcome, (f .ensures .areas, (f .ensures .labels, c .before .before .clear-places .ensures ∙ ap (λ (k : ℕ). replicate k 0) long)))
 
 pub label-fitting-spec : {M : Type 1} → statement M

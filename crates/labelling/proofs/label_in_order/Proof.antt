@@ -11,17 +11,27 @@ use Rattle.drainage.proofs.inspect.inspect.Reads as inspect-reads
 use Rattle.labelling.proofs.clear_places.Reads as clear-places-reads
 use Rattle.labelling.proofs.write_if_accepted.Reads as write-if-accepted-reads
 
+-- Points of the function, each from a later one.
+abbrev start : tie.After-clear-places → tie.Start
+start c = c .before .before .before .before .before .before
+
+abbrev after-clear-places : tie.After-inspect → tie.After-clear-places
+after-clear-places c = c .before .before .before .before
+
+abbrev after-inspect : tie.After-write-if-accepted → tie.After-inspect
+after-inspect c = c .before .before .before .before .before .before
+
 clear-places-requires : tie.Need-clear-places-requires
 clear-places-requires c κs = search needs
 
 inspect-requires : tie.Need-inspect-requires
 inspect-requires c κs =
-    let s = c .before .before .before .before .before .before .before .before .before in
+    let s = (start (c .before .before .before)) in
     (s .pre .sized, cleared (s .args .rows * s .args .cols) (s .args .work .now) (s .pre .work) (c .before .before .before .clear-places .ensures))
 
 write-if-accepted-requires : tie.Need-write-if-accepted-requires
 write-if-accepted-requires c κs =
-    (other-work (c .before .before .before .before .before .before .before .before .before .before .before .before .before .before .before .pre) (c .before .before .before .before .before .inspect .kept .1 .1 .1 .0 ∙ c .before .before .before .before .before .before .before .before .before .clear-places .kept .0), inspected (c .before .before .before .before .before .inspect .ensures))
+    (other-work ((start (after-clear-places (c .before .before .before .before .before))) .pre) (c .before .before .before .before .before .inspect .kept .1 .1 .1 .0 ∙ (after-clear-places (c .before .before .before .before .before)) .clear-places .kept .0), inspected (c .before .before .before .before .before .inspect .ensures))
 
 same-length : tie.Need-same-length
 same-length c = search needs
@@ -35,7 +45,7 @@ same-length-3 c = search needs
 returns : tie.Need-returns
 returns c =
     let w = c .before .before .before .before .before .before .write-if-accepted .ensures in
-    record { outcome = c .before .before .before .before .before .before .before .before .before .before .before .before .inspect .ensures .outcome; areas = w .0; labels = w .1 .0; order = w .1 .1 }
+    record { outcome = (after-inspect (c .before .before .before .before .before .before)) .inspect .ensures .outcome; areas = w .0; labels = w .1 .0; order = w .1 .1 }
 
 pub label-in-order-spec : {M : Type 1} → statement M
 label-in-order-spec =

@@ -17,12 +17,28 @@ use Rattle.labelling.proofs.clear_labels.Reads as clear-labels-reads
 use Rattle.order.proofs.positions.arrange.Reads as arrange-reads
 use Rattle.rivers.proofs.units.label_basin.Reads as label-basin-reads
 
+-- Points of the function, each from a later one.
+abbrev start : tie.After-measure → tie.Start
+start c = c .before .before .before .before .before .before .before
+
+abbrev after-measure : tie.After-arrange → tie.After-measure
+after-measure c = c .before .before .before .before .before .before .before
+
+abbrev after-arrange : tie.After-clear-labels → tie.After-arrange
+after-arrange c = c .before .before .before .before
+
+abbrev after-clear-labels : tie.After-labels → tie.After-clear-labels
+after-clear-labels c = c .before
+
+abbrev after-labels : tie.After-label-basin → tie.After-labels
+after-labels c = c .before .before .before .before .before .before .before
+
 measure-requires : tie.Need-measure-requires
 measure-requires c κs = search needs
 
 arrange-requires : tie.Need-arrange-requires
 arrange-requires c κs =
-    let p = c .before .before .before .before .before .before .before .before .before .before .before .before .before .pre in
+    let p = (start (c .before .before .before .before .before .before)) .pre in
     surveyed (p .0) (p .1) (c .before .before .before .before .before .before .measure .ensures .0) (c .before .before .before .before .before .before .measure .ensures .1 _ refl) (c .before .before .before .before .before .before .measure .kept .1 .1 .1 .0)
 
 mul-n : tie.Need-mul-n
@@ -35,13 +51,13 @@ mul-cells : tie.Need-mul-cells
 mul-cells c = search needs
 
 add-cells-end : tie.Need-add-cells-end
-add-cells-end c = let p = c .before .before .before .before .before .before .before .before .before .before .before .before .before .before .before .before .before .before .before .before .pre in omega (arith, queued-most (p .1 .drained), cells-most (p .0 .sized .rows-most) (p .0 .sized .cols-most))
+add-cells-end c = let p = (start (after-measure (after-arrange (after-clear-labels (c .before))))) .pre in omega (arith, queued-most (p .1 .drained), cells-most (p .0 .sized .rows-most) (p .0 .sized .cols-most))
 
 mul-sizes : tie.Need-mul-sizes
 mul-sizes c = search needs
 
 add-sizes-end : tie.Need-add-sizes-end
-add-sizes-end c = let p = c .before .before .before .before .before .before .before .before .before .before .before .before .before .before .before .before .before .before .before .before .pre in omega (arith, queued-most (p .1 .drained), cells-most (p .0 .sized .rows-most) (p .0 .sized .cols-most))
+add-sizes-end c = let p = (start (after-measure (after-arrange (after-clear-labels (c .before))))) .pre in omega (arith, queued-most (p .1 .drained), cells-most (p .0 .sized .rows-most) (p .0 .sized .cols-most))
 
 mul-label-basin : tie.Need-mul-label-basin
 mul-label-basin c = search needs
@@ -54,11 +70,11 @@ part-label-basin-start c = search needs
 
 part-label-basin-end : tie.Need-part-label-basin-end
 part-label-basin-end c =
-    let p = c .before .before .before .before .before .before .before .before .before .before .before .before .before .before .before .before .before .before .before .before .before .pre in
-    omega (arith, queued-most (p .1 .drained), p .0 .work, c .before .before .before .before .before .before .before .before .before .before .before .before .before .before .measure .kept .1 .1 .1 .0, c .before .before .before .before .before .before .before .arrange .kept .1 .1 .1 .1 .1 .0)
+    let p = (start (after-measure (after-arrange (after-clear-labels (c .before .before))))) .pre in
+    omega (arith, queued-most (p .1 .drained), p .0 .work, (after-measure (after-arrange (after-clear-labels (c .before .before)))) .measure .kept .1 .1 .1 .0, c .before .before .before .before .before .before .before .arrange .kept .1 .1 .1 .1 .1 .0)
 
 mul-label-basin-2 : tie.Need-mul-label-basin-2
-mul-label-basin-2 c = let p = c .before .before .before .before .before .before .before .before .before .before .before .before .before .before .before .before .before .before .before .before .before .before .pre in omega (arith, cells-most (p .0 .sized .rows-most) (p .0 .sized .cols-most))
+mul-label-basin-2 c = let p = (start (after-measure (after-arrange (after-clear-labels (c .before .before .before))))) .pre in omega (arith, cells-most (p .0 .sized .rows-most) (p .0 .sized .cols-most))
 
 sub-label-basin-2 : tie.Need-sub-label-basin-2
 sub-label-basin-2 c = search needs
@@ -68,18 +84,18 @@ part-label-basin-start-2 c = search needs
 
 part-label-basin-end-2 : tie.Need-part-label-basin-end-2
 part-label-basin-end-2 c =
-    let p = c .before .before .before .before .before .before .before .before .before .before .before .before .before .before .before .before .before .before .before .before .before .before .pre in
-    omega (arith, queued-most (p .1 .drained), p .0 .work, c .before .before .before .before .before .before .before .before .before .before .before .before .before .before .before .measure .kept .1 .1 .1 .0, c .before .before .before .before .before .before .before .before .arrange .kept .1 .1 .1 .1 .1 .0)
+    let p = (start (after-measure (after-arrange (after-clear-labels (c .before .before .before))))) .pre in
+    omega (arith, queued-most (p .1 .drained), p .0 .work, (after-measure (after-arrange (after-clear-labels (c .before .before .before)))) .measure .kept .1 .1 .1 .0, (after-arrange (after-clear-labels (c .before .before .before))) .arrange .kept .1 .1 .1 .1 .1 .0)
 
 label-basin-requires : tie.Need-label-basin-requires
 unfolding least split
 label-basin-requires c κs =
-    let p = c .before .before .before .before .before .before .before .before .before .before .before .before .before .before .before .before .before .before .before .before .before .before .before .before .before .pre in
-    let a = c .before .before .before .before .before .before .before .before .before .before .before .before .before .before .before .before .before .before .before .before .before .before .before .before .before .args in
+    let p = (start (after-measure (after-arrange (after-clear-labels (c .before .before .before .before .before .before))))) .pre in
+    let a = (start (after-measure (after-arrange (after-clear-labels (c .before .before .before .before .before .before))))) .args in
     let n = a .rows * a .cols in
     let S = sheet (a .rows) (a .cols) (a .depth) (a .dirs .now) in
-    let e = network-in S (a .areas .now) (c .before .before .before .before .before .before .before .before .before .before .before .before .before .before .before .before .before .before .measure .ensures .1 S refl) in
-    let r = c .before .before .before .before .before .before .before .before .before .before .before .arrange .ensures .0 in
+    let e = network-in S (a .areas .now) ((after-measure (after-arrange (after-clear-labels (c .before .before .before .before .before .before)))) .measure .ensures .1 S refl) in
+    let r = (after-arrange (after-clear-labels (c .before .before .before .before .before .before))) .arrange .ensures .0 in
     rw (part-is (cellsPart * n) (a .queued), part-is (orderedSizesPart * n) (a .queued)) (
       p .0 .depth-most,
       (
@@ -87,7 +103,7 @@ label-basin-requires c κs =
         (
           network-of S (p .1 .accepted) e r,
           places S (p .1 .accepted) e r _ _
-              (omega (arith, p .0 .areas, c .before .before .before .before .before .before .before .before .before .before .before .before .before .before .before .before .before .before .measure .kept .1 .1 .1 .1 .1 .0)) (omega (arith, p .0 .labels, c .before .before .before .before .before .before .before .clear-labels .kept .0)),
+              (omega (arith, p .0 .areas, (after-measure (after-arrange (after-clear-labels (c .before .before .before .before .before .before)))) .measure .kept .1 .1 .1 .1 .1 .0)) (omega (arith, p .0 .labels, c .before .before .before .before .before .before .before .clear-labels .kept .0)),
         ),
       ),
     )
@@ -104,14 +120,14 @@ same-length-3 c = search needs
 returns : tie.Need-returns
 unfolding least split
 returns c =
-    let p = c .before .before .before .before .before .before .before .before .before .before .before .before .before .before .before .before .before .before .before .before .before .before .before .before .before .before .before .before .pre in
-    let a = c .before .before .before .before .before .before .before .before .before .before .before .before .before .before .before .before .before .before .before .before .before .before .before .before .before .before .before .before .args in
+    let p = (start (after-measure (after-arrange (after-clear-labels (after-labels (c .before .before)))))) .pre in
+    let a = (start (after-measure (after-arrange (after-clear-labels (after-labels (c .before .before)))))) .args in
     let n = a .rows * a .cols in
-    let r = c .before .before .before .before .before .before .before .before .before .before .before .before .before .before .arrange .ensures .0 in
+    let r = (after-arrange (after-clear-labels (after-labels (c .before .before)))) .arrange .ensures .0 in
     let S = sheet (a .rows) (a .cols) (a .depth) (a .dirs .now) in
-    let areas = c .before .before .before .before .before .before .before .before .before .before .before .before .before .before .before .before .before .before .before .before .before .measure .ensures .1 S refl in
+    let areas = (after-measure (after-arrange (after-clear-labels (after-labels (c .before .before))))) .measure .ensures .1 S refl in
     let e = rw (part-is (cellsPart * n) (a .queued), part-is (orderedSizesPart * n) (a .queued)) at (c .before .before .label-basin .ensures) in
-    (areas, (labels-written S (p .1 .accepted) (network-in S (a .areas .now) areas) r (a .labels .now) (p .0 .labels) (c .before .before .before .before .before .before .before .before .before .before .clear-labels .ensures) e, r))
+    (areas, (labels-written S (p .1 .accepted) (network-in S (a .areas .now) areas) r (a .labels .now) (p .0 .labels) ((after-clear-labels (after-labels (c .before .before))) .clear-labels .ensures) e, r))
 
 pub write-labels-spec : {M : Type 1} → statement M
 write-labels-spec =

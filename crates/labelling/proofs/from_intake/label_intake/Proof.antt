@@ -8,6 +8,10 @@ use Rattle.labelling.proofs.from_intake.label_intake.Reads as reads
 use Rattle.labelling.proofs.from_intake.label_intake.Lts as lts
 use Rattle.labelling.proofs.label.Reads as label-reads
 
+-- Points of the function, each from a later one.
+abbrev after-stage : tie.After-label → tie.After-stage
+after-stage c = c .before .before .before .before .before
+
 enum-told : tie.Need-enum-told
 enum-told c = search needs
 
@@ -53,7 +57,7 @@ same-length-3 c = search needs
 
 returns-5 : tie.Need-returns-5
 unfolding intakeOutcome intakeLent
-returns-5 c = rw (c .before .before .before .before .before .before .before .before .before .before .before .stage .given .1) (c .before .before .before .before .before .before .label .ensures)
+returns-5 c = rw ((after-stage (c .before .before .before .before .before .before)) .stage .given .1) (c .before .before .before .before .before .before .label .ensures)
 
 pub label-intake-spec : {M : Type 1} → statement M
 label-intake-spec =

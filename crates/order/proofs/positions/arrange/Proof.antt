@@ -8,6 +8,10 @@ use Rattle.order.proofs.positions.arrange.Lts as lts
 use Rattle.order.proofs.positions.enter_all.Reads as enter-all-reads
 use Rattle.order.proofs.positions.place_all.Reads as place-all-reads
 
+-- Points of the function, each from a later one.
+abbrev start : tie.After-place-all → tie.Start
+start c = c .before .before .before .before .before
+
 -- src/positions.rt:105:5
 place-all-requires : tie.Need-place-all-requires
 place-all-requires c κs = search needs
@@ -18,7 +22,7 @@ mul-enter-all c = search needs
 
 -- src/positions.rt:106:5
 enter-all-requires : tie.Need-enter-all-requires
-enter-all-requires c κs = apart (c .before .before .before .before .before .before .before .before .pre) (c .before .before .before .place-all .kept .1 .1 .1 .1 .1 .0) (c .before .before .before .place-all .ensures)
+enter-all-requires c κs = apart ((start (c .before .before .before)) .pre) (c .before .before .before .place-all .kept .1 .1 .1 .1 .1 .0) (c .before .before .before .place-all .ensures)
 
 -- src/positions.rt:94:1
 same-length : tie.Need-same-length
@@ -27,7 +31,7 @@ same-length c = search needs
 -- src/positions.rt:94:1
 returns : tie.Need-returns
 returns c =
-    let w = c .before .before .before .before .before .before .before .before .before .before .before .pre in
+    let w = (start (c .before .before .before .before .before .before)) .pre in
     let p = c .before .before .before .before .before .before .place-all in
     let e = c .before .before .enter-all in
     (arranged w (p .kept .1 .1 .1 .1 .1 .0) (p .ensures) (e .kept .1 .1 .0) (e .ensures), other-places w (p .kept .1 .1 .1 .1 .1 .0) (p .ensures) (e .kept .1 .1 .0) (e .ensures))

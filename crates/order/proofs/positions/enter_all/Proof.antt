@@ -17,6 +17,10 @@ Inv-loop n queued work₀ i₀ work i = (i ≤ queued) × (length work ≡ lengt
 abbrev μ-loop : tie.MeasureT-loop
 μ-loop n queued work₀ i₀ work i = queued - i
 
+-- Points of the function, each from a later one.
+abbrev start : tie.At-loop Inv-loop μ-loop → tie.Start Inv-loop μ-loop
+start c = c .before .before
+
 -- src/positions.rt:87:5
 loop-holds : tie.Need-loop-holds Inv-loop μ-loop
 loop-holds c = (omega arith, refl, entered-none)
@@ -53,7 +57,7 @@ loop-less c = search needs
 loop-again : tie.Need-loop-again Inv-loop μ-loop
 loop-again c =
     let l = c .before .before .before .before .before .before .loop in
-    (omega arith, c .before .before .enter .kept .1 .1 .0 ∙ l .inv .1, rw (c .before .before .enter .ensures) (entered-more (c .before .before .before .before .before .before .before .before .pre) (l .inv .1) (l .inv .2) (c .before .before .before .before .before .loop-test .taken)))
+    (omega arith, c .before .before .enter .kept .1 .1 .0 ∙ l .inv .1, rw (c .before .before .enter .ensures) (entered-more ((start (c .before .before .before .before .before .before)) .pre) (l .inv .1) (l .inv .2) (c .before .before .before .before .before .loop-test .taken)))
 
 -- src/positions.rt:83:1
 same-length : tie.Need-same-length Inv-loop μ-loop

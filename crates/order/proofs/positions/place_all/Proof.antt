@@ -26,6 +26,10 @@ Inv-loop dirs rows cols areas queued work₀ i₀ work i =
 abbrev μ-loop : tie.MeasureT-loop
 μ-loop dirs rows cols areas queued work₀ i₀ work i = queued - i
 
+-- Points of the function, each from a later one.
+abbrev start : tie.After-place-outlet Inv-loop μ-loop → tie.Start Inv-loop μ-loop
+start c = c .before .before .before .before .before
+
 most : (c : tie.Start Inv-loop μ-loop) → c .args .rows * c .args .cols ≤ 65536
 most c = cells-most (c .pre .measured .sized .rows-most) (c .pre .measured .sized .cols-most)
 
@@ -35,10 +39,10 @@ outlet-placed : (c : tie.After-place-outlet Inv-loop μ-loop)
 outlet-placed c = c .place-outlet .ensures ∙ (rw (c .before .before .before .before .before .pre .single .first))
 
 -- the first cells of the queue have been gone through
-present : (c : tie.At-loop Inv-loop μ-loop) → Placed (grid (c .before .before .before .before .before .before .before .before .args .rows) (c .before .before .before .before .before .before .before .before .args .cols) (c .before .before .before .before .before .before .before .before .args .dirs .now)) (c .before .before .before .before .before .before .before .before .args .areas .now) (c .before .before .before .before .before .before .before .before .args .work .now) (c .loop .work) (c .before .before .before .before .before .before .before .before .args .queued) (c .loop .i)
-present c = c .loop .inv .2 (c .before .before .before .before .before .before .before .before .args .work .now) (c .before .before .before .before .before .before .before .before .pre) (outlet-placed (c .before .before .before))
+present : (c : tie.At-loop Inv-loop μ-loop) → Placed (grid ((start (c .before .before .before)) .args .rows) ((start (c .before .before .before)) .args .cols) ((start (c .before .before .before)) .args .dirs .now)) ((start (c .before .before .before)) .args .areas .now) ((start (c .before .before .before)) .args .work .now) (c .loop .work) ((start (c .before .before .before)) .args .queued) (c .loop .i)
+present c = c .loop .inv .2 ((start (c .before .before .before)) .args .work .now) ((start (c .before .before .before)) .pre) (outlet-placed (c .before .before .before))
 
-length-kept : (c : tie.At-loop Inv-loop μ-loop) → length (c .loop .work) ≡ length (c .before .before .before .before .before .before .before .before .args .work .now)
+length-kept : (c : tie.At-loop Inv-loop μ-loop) → length (c .loop .work) ≡ length ((start (c .before .before .before)) .args .work .now)
 length-kept c = c .loop .inv .1 ∙ c .before .before .before .place-outlet .kept .1 .0
 
 -- src/positions.rt:73:18
@@ -57,11 +61,11 @@ loop-holds c = (omega arith, refl, λ w s e. rw e (placed-none s))
 
 -- src/positions.rt:75:20
 mul-cell : tie.Need-mul-cell Inv-loop μ-loop
-mul-cell c = omega (arith, queue-most (c .before .before .before .before .before .before .before .before .before .pre), most (c .before .before .before .before .before .before .before .before .before))
+mul-cell c = omega (arith, queue-most ((start (c .before .before .before .before)) .pre), most ((start (c .before .before .before .before))))
 
 -- src/positions.rt:75:20
 slice-read-cell : tie.Need-slice-read-cell Inv-loop μ-loop
-slice-read-cell c = omega (arith, queue-most (c .before .before .before .before .before .before .before .before .before .before .pre), length-kept (c .before .before), c .before .before .before .before .before .before .before .before .before .before .pre .room)
+slice-read-cell c = omega (arith, queue-most ((start (c .before .before .before .before .before)) .pre), length-kept (c .before .before), (start (c .before .before .before .before .before)) .pre .room)
 
 -- src/positions.rt:75:20
 cast-cell : tie.Need-cast-cell Inv-loop μ-loop
@@ -69,7 +73,7 @@ cast-cell c = omega (arith, c .slice-known3 .given (c .before .before .loop .i))
 
 -- src/positions.rt:76:9
 place-upstream-requires : tie.Need-place-upstream-requires Inv-loop μ-loop
-place-upstream-requires c κs = (c .before .before .before .before .before .before .before .before .before .before .before .pre .measured, standing (c .before .before .before .before .before .before .before .before .before .before .before .pre) (present (c .before .before .before)) (c .before .before .loop-test .taken) (length-kept (c .before .before .before)))
+place-upstream-requires c κs = ((start (c .before .before .before .before .before .before)) .pre .measured, standing ((start (c .before .before .before .before .before .before)) .pre) (present (c .before .before .before)) (c .before .before .loop-test .taken) (length-kept (c .before .before .before)))
 
 -- src/positions.rt:74:9
 add-i : tie.Need-add-i Inv-loop μ-loop
@@ -95,7 +99,7 @@ same-length c = length-kept (c .before)
 -- src/positions.rt:62:1
 returns : tie.Need-returns Inv-loop μ-loop
 returns c =
-    let e : c .before .loop .i ≡ c .before .before .before .before .before .before .before .before .before .args .queued = omega arith in
+    let e : c .before .loop .i ≡ (start (c .before .before .before .before)) .args .queued = omega arith in
     rw e at (present (c .before))
 
 pub place-all-spec : {M : Type 1} → statement M

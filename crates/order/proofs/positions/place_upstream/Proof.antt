@@ -14,6 +14,13 @@ use Rattle.order.proofs.positions.place_upstream.Lts as lts
 use Rattle.order.proofs.donors.donors_of.Reads as donors-of-reads
 use Rattle.order.proofs.positions.place_donors.Reads as place-donors-reads
 
+-- Points of the function, each from a later one.
+abbrev start : tie.Else1 → tie.Start
+start c = c .before .before .before .before .before
+
+abbrev else1 : tie.After-donors-of → tie.Else1
+else1 c = c .before .before .before
+
 on : (c : tie.Start) → c .args .cell < c .args .rows * c .args .cols
 on c = inside-lt _ _ (c .pre .1 .is-inside)
 
@@ -84,7 +91,7 @@ slice-aggregate-place-donors c =
 -- src/positions.rt:46:5
 place-donors-requires : tie.Need-place-donors-requires
 place-donors-requires c κs =
-    rw (listed-first (c .before .before .before .donors-of .ensures)) (fitting (c .before .before .before .before .before .before .before .before .before .before .before .pre .0) (c .before .before .before .before .before .before .before .before .before .before .before .pre .1))
+    rw (listed-first (c .before .before .before .donors-of .ensures)) (fitting ((start (else1 (c .before .before .before))) .pre .0) ((start (else1 (c .before .before .before))) .pre .1))
 
 -- src/positions.rt:27:1
 same-length : tie.Need-same-length
@@ -93,7 +100,7 @@ same-length c = search needs
 -- src/positions.rt:27:1
 returns-2 : tie.Need-returns-2
 returns-2 c =
-    rw (c .before .before .place-donors .ensures, listed-first (c .before .before .before .before .before .before .donors-of .ensures)) (donors-placed (c .before .before .before .before .before .before .before .before .before .before .before .before .before .before .pre .0) (c .before .before .before .before .before .before .before .before .before .before .before .before .before .before .pre .1))
+    rw (c .before .before .place-donors .ensures, listed-first (c .before .before .before .before .before .before .donors-of .ensures)) (donors-placed ((start (else1 (c .before .before .before .before .before .before))) .pre .0) ((start (else1 (c .before .before .before .before .before .before))) .pre .1))
 
 pub place-upstream-spec : {M : Type 1} → statement M
 place-upstream-spec =

@@ -14,6 +14,10 @@ Inv-loop lo hi end rule cell size area floor top₀ j₀ top j =
 abbrev μ-loop : tie.MeasureT-loop
 μ-loop lo hi end rule cell size area floor top₀ j₀ top j = hi - j
 
+-- Points of the function, each from a later one.
+abbrev start : tie.At-loop Inv-loop μ-loop → tie.Start Inv-loop μ-loop
+start c = c .before .before .before .before .before
+
 cast-floor : tie.Need-cast-floor Inv-loop μ-loop
 cast-floor c = omega arith
 
@@ -42,34 +46,34 @@ loop-less : tie.Need-loop-less Inv-loop μ-loop
 loop-less c = omega arith
 
 loop-again : tie.Need-loop-again Inv-loop μ-loop
-loop-again c = λ u. passed-stem (c .before .before .before .before .before .before .before .before .pre .1 .0) u (c .before .before .loop-test .taken) (c .if1 .taken) (c .before .before .before .loop .inv u)
+loop-again c = λ u. passed-stem ((start (c .before .before .before)) .pre .1 .0) u (c .before .before .loop-test .taken) (c .if1 .taken) (c .before .before .before .loop .inv u)
 
 key-at-requires : tie.Need-key-at-requires Inv-loop μ-loop
-key-at-requires c κs = (omega arith, c .before .before .before .before .before .before .before .before .pre .1 .0 .on (c .before .before .before .loop .j) (omega arith))
+key-at-requires c κs = (omega arith, (start (c .before .before .before)) .pre .1 .0 .on (c .before .before .before .loop .j) (omega arith))
 
 add-j-2 : tie.Need-add-j-2 Inv-loop μ-loop
-add-j-2 c = omega (arith, c .before .before .before .before .before .before .before .before .before .before .before .pre .1 .0 .within (c .before .before .before .before .before .before .loop .j) (omega arith))
+add-j-2 c = omega (arith, (start (c .before .before .before .before .before .before)) .pre .1 .0 .within (c .before .before .before .before .before .before .loop .j) (omega arith))
 
 loop-less-2 : tie.Need-loop-less-2 Inv-loop μ-loop
-loop-less-2 c = omega (arith, c .before .before .before .before .before .before .before .before .before .before .before .pre .1 .0 .some (c .before .before .before .before .before .before .loop .j) (omega arith))
+loop-less-2 c = omega (arith, (start (c .before .before .before .before .before .before)) .pre .1 .0 .some (c .before .before .before .before .before .before .loop .j) (omega arith))
 
 loop-again-2 : tie.Need-loop-again-2 Inv-loop μ-loop
-loop-again-2 c = λ u. passed-skip (c .before .before .before .before .before .before .before .before .before .before .before .pre .1 .0) u (c .before .before .before .before .before .loop-test .taken) (c .before .before .key-at .ensures) (c .before .before .before .if1 .left) (c .if2 .taken) (c .before .before .before .before .before .before .loop .inv u)
+loop-again-2 c = λ u. passed-skip ((start (c .before .before .before .before .before .before)) .pre .1 .0) u (c .before .before .before .before .before .loop-test .taken) (c .before .before .key-at .ensures) (c .before .before .before .if1 .left) (c .if2 .taken) (c .before .before .before .before .before .before .loop .inv u)
 
 with-requires : tie.Need-with-requires Inv-loop μ-loop
 with-requires c κs = search needs
 
 add-j-3 : tie.Need-add-j-3 Inv-loop μ-loop
-add-j-3 c = omega (arith, c .before .before .before .before .before .before .before .before .before .before .before .before .pre .1 .0 .within (c .before .before .before .before .before .before .before .loop .j) (omega arith))
+add-j-3 c = omega (arith, (start (c .before .before .before .before .before .before .before)) .pre .1 .0 .within (c .before .before .before .before .before .before .before .loop .j) (omega arith))
 
 loop-less-3 : tie.Need-loop-less-3 Inv-loop μ-loop
-loop-less-3 c = omega (arith, c .before .before .before .before .before .before .before .before .before .before .before .before .pre .1 .0 .some (c .before .before .before .before .before .before .before .loop .j) (omega arith))
+loop-less-3 c = omega (arith, (start (c .before .before .before .before .before .before .before)) .pre .1 .0 .some (c .before .before .before .before .before .before .before .loop .j) (omega arith))
 
 loop-again-3 : tie.Need-loop-again-3 Inv-loop μ-loop
 loop-again-3 c =
     let e = c .with .ensures in
     λ u.
-    passed-with (c .before .before .before .before .before .before .before .before .before .before .before .before .pre .1 .0) u (c .before .before .before .before .before .before .loop-test .taken) (c .before .before .before .key-at .ensures) (c .before .before .before .before .if1 .left) (c .before .if2 .left)
+    passed-with ((start (c .before .before .before .before .before .before .before)) .pre .1 .0) u (c .before .before .before .before .before .before .loop-test .taken) (c .before .before .before .key-at .ensures) (c .before .before .before .before .if1 .left) (c .before .if2 .left)
     (e .0) (e .1 .0) (e .1 .1 .0) (e .1 .1 .1 .0) (e .1 .1 .1 .1) (c .before .before .before .before .before .before .before .loop .inv u)
 
 nth-requires : tie.Need-nth-requires Inv-loop μ-loop

@@ -10,6 +10,16 @@ use Rattle.digits.specs.Digits.{digitsAnswer, digitsValues, digitsPlaces
 use Rattle.digits.proofs.write_digits.Statement.{statement}
 use Rattle.digits.proofs.write_digits.Tie as tie
 
+-- Points of the function, each from a later one.
+abbrev start : tie.After-depth-fits → tie.Start
+start c = c .before .before
+
+abbrev after-depth-fits : tie.Then1 → tie.After-depth-fits
+after-depth-fits c = c .before
+
+abbrev then1 : tie.After-is-label → tie.Then1
+then1 c = c .before
+
 depth-fits-requires : tie.Need-depth-fits-requires
 depth-fits-requires c κs = search needs
 
@@ -37,8 +47,8 @@ same-length c = search needs
 returns-2 : tie.Need-returns-2
 unfolding digitsAnswer digitsPlaces
 returns-2 c =
-    let a = c .before .before .before .before .before .before .before .before .before .before .before .args in
-    let fits = sym (c .before .before .before .before .before .before .before .before .before .depth-fits .ensures) ∙ c .before .before .before .before .before .before .before .before .if1 .taken in
+    let a = (start (after-depth-fits (then1 (c .before .before .before .before .before .before .before)))) .args in
+    let fits = sym ((after-depth-fits (then1 (c .before .before .before .before .before .before .before))) .depth-fits .ensures) ∙ (then1 (c .before .before .before .before .before .before .before)) .if1 .taken in
     let label = sym (c .before .before .before .before .before .before .before .is-label .ensures) ∙ c .before .before .before .before .before .before .if2 .taken in
     let room = le-leb (length (digitsOf (a .label))) (length (a .out .now)) (omega (arith, c .before .before .before .before .before .count-digits .ensures)) in
     let count = c .before .before .before .before .before .count-digits .ensures in (

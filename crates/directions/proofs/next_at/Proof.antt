@@ -12,6 +12,10 @@ use Rattle.directions.proofs.Sizes.{on-lt, on-fits}
 use Rattle.directions.proofs.next_at.Statement.{statement}
 use Rattle.directions.proofs.next_at.Tie as tie
 
+-- Points of the function, each from a later one.
+abbrev start : tie.Else1 → tie.Start
+start c = c .before .before .before
+
 mul-code : tie.Need-mul-code
 mul-code c = omega (arith, on-fits (c .before .pre .1))
 
@@ -53,11 +57,11 @@ end-is c = rw (c .before .step-of .ensures) at (c .step-end .ensures)
 ends : (c : tie.After-step-end) → let s = c .before .before .before .before .before in c .step-end .result ≡ endOf (sheetOf s) (cell s)
 ends c = let s = c .before .before .before .before .before in end-is c ∙ sym (end-of (sheetOf s) (s .args .row) (s .args .col) (s .pre .1 .col-on))
 
-to-lt : (c : tie.After-known-told) → let a = c .before .before .before .before .before .before .before .before .args in c .before .t .given .0 .0 < a .rows * a .cols
+to-lt : (c : tie.After-known-told) → let a = (start (c .before .before .before .before .before)) .args in c .before .t .given .0 .0 < a .rows * a .cols
 to-lt c = end-lt _ _ _ _ _ (sym (c .before .before .before .step-end .ensures) ∙ c .before .t .given .1)
 
 shared-slice-read-if2 : tie.Need-shared-slice-read-if2
-shared-slice-read-if2 c = omega (arith, to-lt (c .before), c .before .before .before .before .before .before .before .before .before .pre .0 .long)
+shared-slice-read-if2 c = omega (arith, to-lt (c .before), (start (c .before .before .before .before .before .before)) .pre .0 .long)
 
 returns-2 : tie.Need-returns-2
 returns-2 c =

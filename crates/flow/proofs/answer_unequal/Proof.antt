@@ -15,6 +15,16 @@ use Rattle.flow.proofs.answer_unequal.Tie as tie
 abbrev places : List ℕ
 places = replicate 20 0
 
+-- Points of the function, each from a later one.
+abbrev start : tie.After-count-digits → tie.Start
+start c = c .before
+
+abbrev after-count-digits : tie.After-count-digits2 → tie.After-count-digits
+after-count-digits c = c .before
+
+abbrev after-count-digits2 : tie.After-put-digits → tie.After-count-digits2
+after-count-digits2 c = c .before .before
+
 count-digits-requires : tie.Need-count-digits-requires
 count-digits-requires c κs = search needs
 
@@ -34,16 +44,16 @@ put-digits-requires-2 : tie.Need-put-digits-requires-2
 put-digits-requires-2 c κs = (c .before .before .before .before .count-digits2 .ensures, omega (arith, c .before .before .before .before .count-digits2 .ensures, digits-at-most-20 (c .before .before .before .before .before .before .args .q)))
 
 array-share-prefix-a : tie.Need-array-share-prefix-a
-array-share-prefix-a c = written-within (digitsOf (c .before .before .before .before .before .before .before .before .args .p)) _ places _ (c .before .before .before .before .before .before .before .count-digits .ensures) (c .before .before .before .before .put-digits .ensures)
+array-share-prefix-a c = written-within (digitsOf ((start (after-count-digits (after-count-digits2 (c .before .before .before .before)))) .args .p)) _ places _ (c .before .before .before .before .before .before .before .count-digits .ensures) (c .before .before .before .before .put-digits .ensures)
 
 slice-aggregate-answer-at : tie.Need-slice-aggregate-answer-at
-slice-aggregate-answer-at c = written-count (digitsOf (c .before .before .before .before .before .before .before .before .before .args .p)) _ places _ (c .before .before .before .before .before .before .before .before .count-digits .ensures) (c .before .before .before .before .before .put-digits .ensures)
+slice-aggregate-answer-at c = written-count (digitsOf ((start (after-count-digits (after-count-digits2 (c .before .before .before .before .before)))) .args .p)) _ places _ ((after-count-digits (after-count-digits2 (c .before .before .before .before .before))) .count-digits .ensures) (c .before .before .before .before .before .put-digits .ensures)
 
 array-share-prefix-b : tie.Need-array-share-prefix-b
-array-share-prefix-b c = written-within (digitsOf (c .before .before .before .before .before .before .before .before .before .args .q)) _ places _ (c .before .before .before .before .before .before .before .count-digits2 .ensures) (c .before .before .put-digits2 .ensures)
+array-share-prefix-b c = written-within (digitsOf ((start (after-count-digits (after-count-digits2 (c .before .before .before .before .before)))) .args .q)) _ places _ (c .before .before .before .before .before .before .before .count-digits2 .ensures) (c .before .before .put-digits2 .ensures)
 
 slice-aggregate-answer-at-2 : tie.Need-slice-aggregate-answer-at-2
-slice-aggregate-answer-at-2 c = written-count (digitsOf (c .before .before .before .before .before .before .before .before .before .before .args .q)) _ places _ (c .before .before .before .before .before .before .before .before .count-digits2 .ensures) (c .before .before .before .put-digits2 .ensures)
+slice-aggregate-answer-at-2 c = written-count (digitsOf ((start (after-count-digits (after-count-digits2 (c .before .before .before .before .before .before)))) .args .q)) _ places _ ((after-count-digits2 (c .before .before .before .before .before .before)) .count-digits2 .ensures) (c .before .before .before .put-digits2 .ensures)
 
 answer-at-requires : tie.Need-answer-at-requires
 answer-at-requires c κs = search needs
@@ -51,9 +61,9 @@ answer-at-requires c κs = search needs
 returns : tie.Need-returns
 unfolding answerUnequal
 returns c =
-    let start = c .before .before .before .before .before .before .before .before .before .before .before in
-    let counted-p = c .before .before .before .before .before .before .before .before .before .before .count-digits .ensures in
-    let counted-q = c .before .before .before .before .before .before .before .before .before .count-digits2 .ensures in
+    let start = (start (after-count-digits (after-count-digits2 (c .before .before .before .before .before .before .before)))) in
+    let counted-p = (after-count-digits (after-count-digits2 (c .before .before .before .before .before .before .before))) .count-digits .ensures in
+    let counted-q = (after-count-digits2 (c .before .before .before .before .before .before .before)) .count-digits2 .ensures in
     let written-p = c .before .before .before .before .before .before .before .put-digits .ensures in
     let written-q = c .before .before .before .before .put-digits2 .ensures in
     simp (c .answer-at .ensures, written-first (digitsOf (start .args .p)) _ places _ counted-p written-p, written-first (digitsOf (start .args .q)) _ places _ counted-q written-q)

@@ -23,6 +23,10 @@ abbrev μ-loop : tie.MeasureT-loop
 abbrev lines : tie.Start Inv-loop μ-loop → ℕ → List ℕ
 lines s = let a = s .args in linesBelow (grid (a .rows) (a .cols) (a .dirs .now)) (a .areas .now) (a .labels .now)
 
+-- Points of the function, each from a later one.
+abbrev start : tie.At-loop Inv-loop μ-loop → tie.Start Inv-loop μ-loop
+start c = c .before .before .before .before
+
 mul-n : tie.Need-mul-n Inv-loop μ-loop
 mul-n c = omega (arith, cells-most (c .before .before .before .pre .rows-most) (c .before .before .before .pre .cols-most))
 
@@ -55,7 +59,7 @@ shared-slice-read-cell-length : tie.Need-shared-slice-read-cell-length Inv-loop 
 shared-slice-read-cell-length c = omega arith
 
 mul-cell-length-2 : tie.Need-mul-cell-length-2 Inv-loop μ-loop
-mul-cell-length-2 c = omega (arith, cell-small (c .before .before .before .before .before .before .before .before .pre) (c .before .before .before .loop-test .taken))
+mul-cell-length-2 c = omega (arith, cell-small ((start (c .before .before .before .before)) .pre) (c .before .before .before .loop-test .taken))
 
 shared-slice-read-cell-length-2 : tie.Need-shared-slice-read-cell-length-2 Inv-loop μ-loop
 shared-slice-read-cell-length-2 c = omega arith

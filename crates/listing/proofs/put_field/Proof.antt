@@ -11,6 +11,10 @@ use borrow.Author.Needs.{needs}
 use Rattle.listing.proofs.put_field.Statement.{statement}
 use Rattle.listing.proofs.put_field.Tie as tie
 
+-- Points of the function, each from a later one.
+abbrev start : tie.After-write-decimal → tie.Start
+start c = c .before .before .before
+
 write-decimal-requires : tie.Need-write-decimal-requires
 write-decimal-requires c κs = search needs
 
@@ -48,7 +52,7 @@ returns c =
 -- the byte has room after the number
 after-room : (c : tie.After-known-told) → let w = c .before .before .before .before .before in c .before .end .given .0 .0 + 1 ≤ length (w .write-decimal .last .1 .0)
 after-room c =
-    let s = c .before .before .before .before .before .before .before .before in
+    let s = (start (c .before .before .before .before .before)) in
     omega (arith, s .pre, number c .next-is, put-length (number c) (room s))
 
 slice-write-out : tie.Need-slice-write-out
@@ -61,7 +65,7 @@ same-length-2 : tie.Need-same-length-2
 same-length-2 c = search needs
 
 returns-2 : tie.Need-returns-2
-returns-2 c = put-field _ _ (c .before .before .before .before .before .before .before .before .pre) (number c)
+returns-2 c = put-field _ _ ((start (c .before .before .before .before .before)) .pre) (number c)
 
 pub put-field-spec : {M : Type 1} → statement M
 put-field-spec =

@@ -25,6 +25,16 @@ abbrev μ-loop : tie.MeasureT-loop
 abbrev lines : tie.Start Inv-loop μ-loop → ℕ → List ℕ
 lines s = let a = s .args in linesBelow (grid (a .rows) (a .cols) (a .dirs .now)) (a .areas .now) (a .labels .now)
 
+-- Points of the function, each from a later one.
+abbrev start : tie.At-loop Inv-loop μ-loop → tie.Start Inv-loop μ-loop
+start c = c .before .before .before .before .before
+
+abbrev at-loop : tie.In-loop Inv-loop μ-loop → tie.At-loop Inv-loop μ-loop
+at-loop c = c .before
+
+abbrev in-loop : tie.Else1 Inv-loop μ-loop → tie.In-loop Inv-loop μ-loop
+in-loop c = c .before .before
+
 mul-n : tie.Need-mul-n Inv-loop μ-loop
 mul-n c = let p = c .before .before .before .before .pre .0 in omega (arith, cells-most (p .rows-most) (p .cols-most))
 
@@ -58,13 +68,13 @@ rem-put-cell : tie.Need-rem-put-cell Inv-loop μ-loop
 rem-put-cell c = omega arith
 
 mul-put-cell : tie.Need-mul-put-cell Inv-loop μ-loop
-mul-put-cell c = omega (arith, cell-small (c .before .before .before .before .before .before .before .before .pre .0) (c .before .before .loop-test .taken))
+mul-put-cell c = omega (arith, cell-small ((start (at-loop (in-loop c))) .pre .0) (c .before .before .loop-test .taken))
 
 shared-slice-read-put-cell : tie.Need-shared-slice-read-put-cell Inv-loop μ-loop
 shared-slice-read-put-cell c = omega arith
 
 mul-put-cell-2 : tie.Need-mul-put-cell-2 Inv-loop μ-loop
-mul-put-cell-2 c = omega (arith, cell-small (c .before .before .before .before .before .before .before .before .before .pre .0) (c .before .before .before .loop-test .taken))
+mul-put-cell-2 c = omega (arith, cell-small ((start (at-loop (in-loop (c .before)))) .pre .0) (c .before .before .before .loop-test .taken))
 
 shared-slice-read-put-cell-2 : tie.Need-shared-slice-read-put-cell-2 Inv-loop μ-loop
 shared-slice-read-put-cell-2 c = omega arith
@@ -82,8 +92,8 @@ loop-less-2 c = search needs
 
 loop-again-2 : tie.Need-loop-again-2 Inv-loop μ-loop
 loop-again-2 c =
-    let l = c .before .before .before .before .before .before .before .before .before in
-    let on = c .before .before .before .before .before .before .before .before .loop-test .taken in
+    let l = (at-loop (in-loop (c .before .before .before .before .before .before))) in
+    let on = (in-loop (c .before .before .before .before .before .before)) .loop-test .taken in
     (omega arith, put-inside _ _ _ (l .loop .cell) on (c .before .before .before .before .before .before .if1 .left) (room l (l .loop .cell + 1) (omega arith)) (l .loop .inv .1) (c .before .before .put-cell .ensures))
 
 same-length : tie.Need-same-length Inv-loop μ-loop

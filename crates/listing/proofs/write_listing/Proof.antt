@@ -28,31 +28,47 @@ text s = let a = s .args in listingText (grid (a .rows) (a .cols) (a .dirs .now)
 
 -- ---- what the checks show
 
+-- Points of the function, each from a later one.
+abbrev start : tie.After-shared-slice-known2 → tie.Start
+start c = c .before .before
+
+abbrev after-shared-slice-known2 : tie.After-shared-slice-known3 → tie.After-shared-slice-known2
+after-shared-slice-known2 c = c .before
+
+abbrev after-shared-slice-known3 : tie.After-heading → tie.After-shared-slice-known3
+after-shared-slice-known3 c = c .before .before .before .before .before .before .before
+
+abbrev after-heading : tie.Else5 → tie.After-heading
+after-heading c = c .before .before
+
+abbrev else5 : tie.After-put-text → tie.Else5
+else5 c = c .before .before .before
+
 sizes : (c : tie.Then1) → let a = c .before .before .before .before .before .before .args in sizesFit (a .rows) (a .cols) ≡ true
 sizes c = sym (c .before .sizes-fit .ensures) ∙ c .if1 .taken
 
 most : (c : tie.Then1) → let a = c .before .before .before .before .before .before .args in (a .rows ≤ 256) × (a .cols ≤ 256)
 most c = rows-cols-most _ _ (sizes c)
 
-checked : (c : tie.After-heading) → let a = c .before .before .before .before .before .before .before .before .before .before .args in Listable (a .rows) (a .cols) (a .dirs .now) (a .areas .now) (a .labels .now)
-checked c = let a = c .before .before .before .before .before .before .before .before .before .before .args in listable (a .rows) (a .cols) (a .dirs .now) (a .areas .now) (a .labels .now) (a .out .now) (sizes (c .before .before .before .before)) (c .before .before .before .if2 .left) (c .before .before .if3 .left) (c .before .if4 .left)
+checked : (c : tie.After-heading) → let a = (start (after-shared-slice-known2 (after-shared-slice-known3 c))) .args in Listable (a .rows) (a .cols) (a .dirs .now) (a .areas .now) (a .labels .now)
+checked c = let a = (start (after-shared-slice-known2 (after-shared-slice-known3 c))) .args in listable (a .rows) (a .cols) (a .dirs .now) (a .areas .now) (a .labels .now) (a .out .now) (sizes (c .before .before .before .before)) (c .before .before .before .if2 .left) (c .before .before .if3 .left) (c .before .if4 .left)
 
-into : (c : tie.After-heading) → let a = c .before .before .before .before .before .before .before .before .before .before .args in listingInto (grid (a .rows) (a .cols) (a .dirs .now)) (a .areas .now) (a .labels .now) (a .out .now) ≡ textInto (text (c .before .before .before .before .before .before .before .before .before .before)) (a .out .now)
-into c = let a = c .before .before .before .before .before .before .before .before .before .before .args in listing-into (a .rows) (a .cols) (a .dirs .now) (a .areas .now) (a .labels .now) (a .out .now) (sizes (c .before .before .before .before)) (c .before .before .before .if2 .left) (c .before .before .if3 .left) (c .before .if4 .left)
+into : (c : tie.After-heading) → let a = (start (after-shared-slice-known2 (after-shared-slice-known3 c))) .args in listingInto (grid (a .rows) (a .cols) (a .dirs .now)) (a .areas .now) (a .labels .now) (a .out .now) ≡ textInto (text ((start (after-shared-slice-known2 (after-shared-slice-known3 c))))) (a .out .now)
+into c = let a = (start (after-shared-slice-known2 (after-shared-slice-known3 c))) .args in listing-into (a .rows) (a .cols) (a .dirs .now) (a .areas .now) (a .labels .now) (a .out .now) (sizes (c .before .before .before .before)) (c .before .before .before .if2 .left) (c .before .before .if3 .left) (c .before .if4 .left)
 
 -- the bytes that were counted are those of the text
-counted : (c : tie.After-lines-length) → 19 + c .lines-length .result ≡ length (text (c .before .before .before .before .before .before .before .before .before .before .before))
-counted c = let a = c .before .before .before .before .before .before .before .before .before .before .before .args in omega (arith, c .lines-length .ensures, listing-length (grid (a .rows) (a .cols) (a .dirs .now)) (a .areas .now) (a .labels .now))
+counted : (c : tie.After-lines-length) → 19 + c .lines-length .result ≡ length (text ((start (after-shared-slice-known2 (after-shared-slice-known3 (c .before))))))
+counted c = let a = (start (after-shared-slice-known2 (after-shared-slice-known3 (c .before)))) .args in omega (arith, c .lines-length .ensures, listing-length (grid (a .rows) (a .cols) (a .dirs .now)) (a .areas .now) (a .labels .now))
 
 -- the heading and the lines have room
-room : (c : tie.Else5) → length (text (c .before .before .before .before .before .before .before .before .before .before .before .before)) ≤ length (c .before .before .before .before .before .before .before .before .before .before .before .before .args .out .now)
+room : (c : tie.Else5) → length (text ((start (after-shared-slice-known2 (after-shared-slice-known3 (after-heading c)))))) ≤ length ((start (after-shared-slice-known2 (after-shared-slice-known3 (after-heading c)))) .args .out .now)
 room c = omega (arith, counted (c .before))
 
-text-room : (c : tie.Else5) → 0 + length (listingHeading ++ lines (c .before .before .before .before .before .before .before .before .before .before .before .before)) ≤ length (c .before .before .before .before .before .before .before .before .before .before .before .before .args .out .now)
+text-room : (c : tie.Else5) → 0 + length (listingHeading ++ lines ((start (after-shared-slice-known2 (after-shared-slice-known3 (after-heading c)))))) ≤ length ((start (after-shared-slice-known2 (after-shared-slice-known3 (after-heading c)))) .args .out .now)
 unfolding listingText
 text-room c = omega (arith, room c)
 
-heading : (c : tie.After-put-text) → Put (c .before .before .before .before .before .before .before .before .before .before .before .before .before .before .before .args .out .now) (c .put-text .last .1 .0) 0 (c .put-text .result) listingHeading
+heading : (c : tie.After-put-text) → Put ((start (after-shared-slice-known2 (after-shared-slice-known3 (after-heading (else5 c))))) .args .out .now) (c .put-text .last .1 .0) 0 (c .put-text .result) listingHeading
 heading c = c .put-text .ensures
 
 -- ---- the needs
@@ -77,27 +93,27 @@ lines-length-requires c κs = checked c
 
 add-length : tie.Need-add-length
 add-length c =
-    let a = c .before .before .before .before .before .before .before .before .before .before .before .args in
+    let a = (start (after-shared-slice-known2 (after-shared-slice-known3 (c .before)))) .args in
     let m = most (c .before .before .before .before .before) in
-    omega (arith, c .lines-length .ensures, lines-fit (grid (a .rows) (a .cols) (a .dirs .now)) (a .areas .now) (a .labels .now) (m .0) (m .1) (λ i. c .before .before .before .before .before .before .before .before .before .shared-slice-known2 .given i .fits) (λ i. c .before .before .before .before .before .before .before .before .shared-slice-known3 .given i .fits) (a .rows * a .cols) (omega arith))
+    omega (arith, c .lines-length .ensures, lines-fit (grid (a .rows) (a .cols) (a .dirs .now)) (a .areas .now) (a .labels .now) (m .0) (m .1) (λ i. (after-shared-slice-known2 (after-shared-slice-known3 (c .before))) .shared-slice-known2 .given i .fits) (λ i. (after-shared-slice-known3 (c .before)) .shared-slice-known3 .given i .fits) (a .rows * a .cols) (omega arith))
 
 returns-4 : tie.Need-returns-4
 returns-4 c =
-    let short : length (c .before .before .before .before .before .before .before .before .before .before .before .before .args .out .now) < length (text (c .before .before .before .before .before .before .before .before .before .before .before .before)) = omega (arith, counted (c .before)) in
+    let short : length ((start (after-shared-slice-known2 (after-shared-slice-known3 (c .before .before)))) .args .out .now) < length (text ((start (after-shared-slice-known2 (after-shared-slice-known3 (c .before .before)))))) = omega (arith, counted (c .before)) in
     promises (put-none _ _ short ∙ sym (into (c .before .before)))
 
 put-text-requires : tie.Need-put-text-requires
 put-text-requires c κs = search needs
 
 put-lines-requires : tie.Need-put-lines-requires
-put-lines-requires c κs = (checked (c .before .before .before .before .before .before .before .before), put-room (heading (c .before .before .before)) (lines (c .before .before .before .before .before .before .before .before .before .before .before .before .before .before .before .before .before .before)) (text-room (c .before .before .before .before .before .before)))
+put-lines-requires c κs = (checked ((after-heading (else5 (c .before .before .before)))), put-room (heading (c .before .before .before)) (lines ((start (after-shared-slice-known2 (after-shared-slice-known3 (after-heading (else5 (c .before .before .before)))))))) (text-room (c .before .before .before .before .before .before)))
 
 same-length : tie.Need-same-length
 same-length c = search needs
 
 returns-5 : tie.Need-returns-5
 unfolding listingText
-returns-5 c = promises (put-whole _ _ (room (c .before .before .before .before .before .before .before .before .before)) (put-then (heading (c .before .before .before .before .before .before)) (c .before .before .put-lines .ensures) (text-room (c .before .before .before .before .before .before .before .before .before))) ∙ sym (into (c .before .before .before .before .before .before .before .before .before .before .before)))
+returns-5 c = promises (put-whole _ _ (room ((else5 (c .before .before .before .before .before .before)))) (put-then (heading (c .before .before .before .before .before .before)) (c .before .before .put-lines .ensures) (text-room ((else5 (c .before .before .before .before .before .before))))) ∙ sym (into ((after-heading (else5 (c .before .before .before .before .before .before))))))
 
 returns-6 : tie.Need-returns-6
 returns-6 c = promises (refused-sizes _ _ _ _ _ _ (sym (c .before .sizes-fit .ensures) ∙ c .if1 .left))

@@ -22,6 +22,16 @@ values s = field (decimalText (s .args .number)) comma ++ field (decimalText (s 
 abbrev text : tie.Start → List ℕ
 text s = refusalText (s .args .number) (s .args .place)
 
+-- Points of the function, each from a later one.
+abbrev start : tie.Else1 → tie.Start
+start c = c .before .before .before .before .before
+
+abbrev else1 : tie.After-put-text → tie.Else1
+else1 c = c .before .before .before
+
+abbrev after-put-text : tie.After-put-field → tie.After-put-text
+after-put-text c = c .before .before .before .before
+
 -- the bytes that were counted are those of the text, which are few
 counted : (c : tie.After-decimal-length2) → 14 + c .before .decimal-length .result + c .decimal-length2 .result + 2 ≡ length (text (c .before .before .before .before))
 counted c = let a = c .before .before .before .before .args in omega (arith, c .before .decimal-length .ensures, c .decimal-length2 .ensures, refusal-length (a .number) (a .place))
@@ -74,18 +84,18 @@ heading-room : (c : tie.Else1) → 0 + length (refusalHeading ++ values (c .befo
 unfolding refusalText
 heading-room c = omega (arith, room c)
 
-heading : (c : tie.After-put-text) → Put (c .before .before .before .before .before .before .before .before .args .out .now) (c .put-text .last .1 .0) 0 (c .put-text .result) refusalHeading
+heading : (c : tie.After-put-text) → Put ((start (else1 c)) .args .out .now) (c .put-text .last .1 .0) 0 (c .put-text .result) refusalHeading
 heading c = c .put-text .ensures
 
-values-room : (c : tie.After-put-text) → c .put-text .result + length (values (c .before .before .before .before .before .before .before .before)) ≤ length (c .put-text .last .1 .0)
-values-room c = put-room (heading c) (values (c .before .before .before .before .before .before .before .before)) (heading-room (c .before .before .before))
+values-room : (c : tie.After-put-text) → c .put-text .result + length (values ((start (else1 c)))) ≤ length (c .put-text .last .1 .0)
+values-room c = put-room (heading c) (values ((start (else1 c)))) (heading-room (c .before .before .before))
 
 returns-2 : tie.Need-returns-2
 unfolding refusalInto refusalText
 returns-2 c =
     promises
-    (put-whole _ _ (room (c .before .before .before .before .before .before .before .before .before .before .before .before .before))
-    (put-then (heading (c .before .before .before .before .before .before .before .before .before .before)) (put-then (c .before .before .before .before .before .before .put-field .ensures) (c .before .before .put-field2 .ensures) (values-room (c .before .before .before .before .before .before .before .before .before .before))) (heading-room (c .before .before .before .before .before .before .before .before .before .before .before .before .before))))
+    (put-whole _ _ (room ((else1 (after-put-text (c .before .before .before .before .before .before)))))
+    (put-then (heading ((after-put-text (c .before .before .before .before .before .before)))) (put-then (c .before .before .before .before .before .before .put-field .ensures) (c .before .before .put-field2 .ensures) (values-room ((after-put-text (c .before .before .before .before .before .before))))) (heading-room ((else1 (after-put-text (c .before .before .before .before .before .before)))))))
 
 pub write-refusal-spec : {M : Type 1} → statement M
 write-refusal-spec =

@@ -12,6 +12,13 @@ use Rattle.names.proofs.column_named.Tie as tie
 chain : (f name : List ℕ) (column : Column) {other given result : Column} → result ≡ columnIf f name column other → other ≡ given → result ≡ columnIf f name column given
 chain f name column e g = e ∙ ap (columnIf f name column) g
 
+-- Points of the function, each from a later one.
+abbrev after-column-if : tie.After-column-if2 → tie.After-column-if
+after-column-if c = c .before .before
+
+abbrev after-column-if2 : tie.After-column-if3 → tie.After-column-if2
+after-column-if2 c = c .before .before
+
 slice-aggregate-column-if : tie.Need-slice-aggregate-column-if
 slice-aggregate-column-if c = search needs
 
@@ -55,7 +62,7 @@ returns c =
     (chain _ _ _ (c .before .before .column-if5 .ensures)
     (chain _ _ _ (c .before .before .before .before .column-if4 .ensures)
     (chain _ _ _ (c .before .before .before .before .before .before .column-if3 .ensures)
-    (chain _ _ _ (c .before .before .before .before .before .before .before .before .column-if2 .ensures) (c .before .before .before .before .before .before .before .before .before .before .column-if .ensures)))))
+    (chain _ _ _ ((after-column-if2 (c .before .before .before .before .before .before)) .column-if2 .ensures) ((after-column-if (after-column-if2 (c .before .before .before .before .before .before))) .column-if .ensures)))))
 
 pub column-named-spec : {M : Type 1} → statement M
 column-named-spec =

@@ -7,6 +7,10 @@ use borrow.Author.Needs.{needs}
 use Rattle.report.proofs.stage_verdict.Statement.{statement}
 use Rattle.report.proofs.stage_verdict.Tie as tie
 
+-- Points of the function, each from a later one.
+abbrev after-stage : tie.After-sheet-verdict → tie.After-stage
+after-stage c = c .before .before .before .before .before
+
 enum-told : tie.Need-enum-told
 enum-told c = search needs
 
@@ -52,7 +56,7 @@ same-length-3 c = search needs
 
 returns-5 : tie.Need-returns-5
 unfolding endedSizes
-returns-5 c = rw (c .before .before .before .before .before .before .before .before .before .before .before .stage .given .1) (c .before .before .before .before .before .before .sheet-verdict .ensures)
+returns-5 c = rw ((after-stage (c .before .before .before .before .before .before)) .stage .given .1) (c .before .before .before .before .before .before .sheet-verdict .ensures)
 
 pub stage-verdict-spec : {M : Type 1} → statement M
 stage-verdict-spec =

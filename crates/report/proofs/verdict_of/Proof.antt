@@ -6,6 +6,10 @@ use borrow.Author.Needs.{needs}
 use Rattle.report.proofs.verdict_of.Statement.{statement}
 use Rattle.report.proofs.verdict_of.Tie as tie
 
+-- Points of the function, each from a later one.
+abbrev after-read2 : tie.After-stage-verdict → tie.After-read2
+after-read2 c = c .before .before .before .before .before
+
 enum-known-read : tie.Need-enum-known-read
 enum-known-read c = search needs
 
@@ -32,7 +36,7 @@ returns-2 : tie.Need-returns-2
 unfolding verdictOf readLent intakeLent
 returns-2 c =
     let e = c .before .before .before .before .before .before .stage-verdict .ensures in
-    rw (c .before .before .before .before .before .before .before .before .before .before .before .read2 .given .1) (e .0, (ap verdictValues (e .0), e .1))
+    rw ((after-read2 (c .before .before .before .before .before .before)) .read2 .given .1) (e .0, (ap verdictValues (e .0), e .1))
 
 pub verdict-of-spec : {M : Type 1} → statement M
 verdict-of-spec =

@@ -4,6 +4,13 @@ use borrow.Author.Needs.{needs}
 use Rattle.report.proofs.write_report.Statement.{statement}
 use Rattle.report.proofs.write_report.Tie as tie
 
+-- Points of the function, each from a later one.
+abbrev after-verdict-of : tie.After-labels → tie.After-verdict-of
+after-verdict-of c = c .before .before .before
+
+abbrev after-labels : tie.After-write-verdict → tie.After-labels
+after-labels c = c .before .before .before .before .before .before .before
+
 verdict-of-requires : tie.Need-verdict-of-requires
 verdict-of-requires c κs = search needs
 
@@ -24,7 +31,7 @@ same-length-4 c = search needs
 
 returns : tie.Need-returns
 returns c =
-    let v = c .before .before .before .before .before .before .before .before .before .before .before .before .verdict-of .ensures in
+    let v = (after-verdict-of (after-labels (c .before .before))) .verdict-of .ensures in
     promises _ _ _ _ (v .0) (v .1 .1) (c .before .before .write-verdict .ensures)
 
 pub write-report-spec : {M : Type 1} → statement M

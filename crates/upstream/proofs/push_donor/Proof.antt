@@ -13,6 +13,13 @@ use borrow.Author.Needs.{needs}
 use Rattle.upstream.proofs.push_donor.Statement.{statement}
 use Rattle.upstream.proofs.push_donor.Tie as tie
 
+-- Points of the function, each from a later one.
+abbrev start : tie.After-neighbour-against → tie.Start
+start c = c .before .before .before
+
+abbrev after-neighbour-against : tie.Then1 → tie.After-neighbour-against
+after-neighbour-against c = c .before .before .before .before .before
+
 mul-n : tie.Need-mul-n
 mul-n c = search needs
 
@@ -55,29 +62,29 @@ slice-read-if1 : tie.Need-slice-read-if1
 slice-read-if1 c = omega (arith, donor-on (c .before), c .before .before .before .before .before .before .before .pre .0 .upstream .queue .room)
 
 mul-push : tie.Need-mul-push
-mul-push c = omega (arith, on-sheet (c .before .before .before .before .before .before .before .before .before), cells-fit (c .before .before .before .before .before .before .before .before .before))
+mul-push c = omega (arith, on-sheet ((start (after-neighbour-against (c .before)))), cells-fit ((start (after-neighbour-against (c .before)))))
 
 add-push : tie.Need-add-push
-add-push c = omega (arith, on-sheet (c .before .before .before .before .before .before .before .before .before), cells-fit (c .before .before .before .before .before .before .before .before .before))
+add-push c = omega (arith, on-sheet ((start (after-neighbour-against (c .before)))), cells-fit ((start (after-neighbour-against (c .before)))))
 
 add-push-2 : tie.Need-add-push-2
-add-push-2 c = omega (arith, on-sheet (c .before .before .before .before .before .before .before .before .before), cells-fit (c .before .before .before .before .before .before .before .before .before))
+add-push-2 c = omega (arith, on-sheet ((start (after-neighbour-against (c .before)))), cells-fit ((start (after-neighbour-against (c .before)))))
 
 push-requires : tie.Need-push-requires
 push-requires c κs =
-    let q = c .before .before .before .before .before .before .before .before .before .pre .0 .upstream .queue in
+    let q = (start (after-neighbour-against (c .before))) .pre .0 .upstream .queue in
     let on = donor-on (c .before .before .before) in
-    (q .room, cells-fit (c .before .before .before .before .before .before .before .before .before), end-on q _ on (c .before .if1 .taken), on, omega (arith, on-sheet (c .before .before .before .before .before .before .before .before .before)))
+    (q .room, cells-fit ((start (after-neighbour-against (c .before)))), end-on q _ on (c .before .if1 .taken), on, omega (arith, on-sheet ((start (after-neighbour-against (c .before))))))
 
 same-length : tie.Need-same-length
 same-length c = search needs
 
 returns-2 : tie.Need-returns-2
 returns-2 c =
-    rw (c .before .before .push .ensures .0, c .before .before .push .ensures .1) (donors-new (c .before .before .before .before .before .before .before .before .before .before .before .before .pre .0) _ (found (c .before .before .before .before .before .before)) (c .before .before .before .before .before .before .before .before .before .before .before .before .pre .1) (c .before .before .before .before .if1 .taken))
+    rw (c .before .before .push .ensures .0, c .before .before .push .ensures .1) (donors-new ((start (after-neighbour-against (c .before .before .before .before))) .pre .0) _ (found (c .before .before .before .before .before .before)) ((start (after-neighbour-against (c .before .before .before .before))) .pre .1) (c .before .before .before .before .if1 .taken))
 
 returns-3 : tie.Need-returns-3
-returns-3 c = donors-old (c .before .before .before .before .before .before .before .before .pre .0) _ (found (c .before .before)) (omega (arith, c .if1 .left))
+returns-3 c = donors-old ((start (c .before .before .before .before .before)) .pre .0) _ (found (c .before .before)) (omega (arith, c .if1 .left))
 
 pub push-donor-spec : {M : Type 1} → statement M
 push-donor-spec =

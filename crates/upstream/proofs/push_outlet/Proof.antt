@@ -14,6 +14,10 @@ use Rattle.upstream.proofs.push_outlet.Tie as tie
 abbrev cell : tie.Start → ℕ
 cell c = c .args .row * c .args .cols + c .args .col
 
+-- Points of the function, each from a later one.
+abbrev start : tie.After-is-outlet → tie.Start
+start c = c .before .before .before
+
 on-sheet : (c : tie.Start) → cell c < c .args .rows * c .args .cols
 on-sheet c = cell-lt (c .pre .1 .row-on) (c .pre .1 .col-on)
 
@@ -46,8 +50,8 @@ same-length c = search needs
 
 returns : tie.Need-returns
 returns c =
-    let s = c .before .before .before .before .before .before .before .before .pre .2 in
-    let on = on-sheet (c .before .before .before .before .before .before .before .before) in
+    let s = (start (c .before .before .before .before .before)) .pre .2 in
+    let on = on-sheet ((start (c .before .before .before .before .before))) in
     rw (c .before .before .push .ensures .0, c .before .before .push .ensures .1) (seeded-push _ s on (is (c .before .before .before .before)), seed-grown _ s on (is (c .before .before .before .before)) .kept)
 
 returns-2 : tie.Need-returns-2

@@ -18,6 +18,10 @@ Inv-loop dirs rows cols work₀ end row last₀ col₀ work last col =
 abbrev μ-loop : tie.MeasureT-loop
 μ-loop dirs rows cols work₀ end row last₀ col₀ work last col = cols - col
 
+-- Points of the function, each from a later one.
+abbrev start : tie.At-loop Inv-loop μ-loop → tie.Start Inv-loop μ-loop
+start c = c .before .before .before
+
 loop-holds : tie.Need-loop-holds Inv-loop μ-loop
 loop-holds c =
     let a = c .before .before .args in
@@ -37,7 +41,7 @@ loop-less c = search needs
 
 loop-again : tie.Need-loop-again Inv-loop μ-loop
 loop-again c =
-    let a = c .before .before .before .before .before .before .before .before .args in
+    let a = (start (c .before .before .before .before .before)) .args in
     let l = c .before .before .before .before .before .loop in
     let e : a .row * a .cols + (l .col + 1) ≡ a .row * a .cols + l .col + 1 = omega arith in
     (omega arith, c .before .before .push-outlet .kept .1 .1 .1 .0 ∙ l .inv .1, rw e (c .before .before .push-outlet .ensures .0), c .before .before .push-outlet .ensures .1 ∙ l .inv .3)

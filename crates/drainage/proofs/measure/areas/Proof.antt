@@ -9,6 +9,10 @@ use borrow.Author.Needs.{needs}
 use Rattle.drainage.proofs.measure.areas.Statement.{statement}
 use Rattle.drainage.proofs.measure.areas.Tie as tie
 
+-- Points of the function, each from a later one.
+abbrev start : tie.After-own-counts → tie.Start
+start c = c .before .before .before .before .before
+
 mul-n : tie.Need-mul-n
 mul-n c = search needs
 
@@ -21,14 +25,14 @@ own c = c .own-counts .ensures ∙ sym (filled-written _ _ _)
 
 gather-requires : tie.Need-gather-requires
 gather-requires c κs =
-    let p = c .before .before .before .before .before .before .before .before .pre in
+    let p = (start (c .before .before .before)) .pre in
     rw (own (c .before .before .before)) (own-gathers (p .1) _ (cells-most (p .0 .rows-most) (p .0 .cols-most)) (p .2))
 
 same-length : tie.Need-same-length
 same-length c = search needs
 
 returns : tie.Need-returns
-returns c S e = (rw (own (c .before .before .before .before .before .before)) at (c .before .before .gather .ensures)) ∙ areas-written (c .before .before .before .before .before .before .before .before .before .before .before .pre .1) _ S e
+returns c S e = (rw (own (c .before .before .before .before .before .before)) at (c .before .before .gather .ensures)) ∙ areas-written ((start (c .before .before .before .before .before .before)) .pre .1) _ S e
 
 pub areas-spec : {M : Type 1} → statement M
 areas-spec = tie.close (tie.spec mul-n own-counts-requires gather-requires same-length returns)

@@ -13,6 +13,10 @@ Inv-loop work n queued totals₀ i₀ totals i = (i ≤ queued) × Gathered n wo
 abbrev μ-loop : tie.MeasureT-loop
 μ-loop work n queued totals₀ i₀ totals i = i
 
+-- Points of the function, each from a later one.
+abbrev start : tie.At-loop Inv-loop μ-loop → tie.Start Inv-loop μ-loop
+start c = c .before .before .before
+
 loop-holds : tie.Need-loop-holds Inv-loop μ-loop
 loop-holds c = (omega arith, gathered-start (c .before .before .pre))
 
@@ -45,7 +49,7 @@ loop-less : tie.Need-loop-less Inv-loop μ-loop
 loop-less c = omega arith
 
 loop-again : tie.Need-loop-again Inv-loop μ-loop
-loop-again c = (omega arith, rw (c .before .before .add-to-receiver .ensures) (gathered-more (c .before .before .before .before .before .before .before .before .before .pre) (on (c .before .before .before .before .before)) (gathered (c .before .before .before .before .before))))
+loop-again c = (omega arith, rw (c .before .before .add-to-receiver .ensures) (gathered-more ((start (c .before .before .before .before .before .before)) .pre) (on (c .before .before .before .before .before)) (gathered (c .before .before .before .before .before))))
 
 same-length : tie.Need-same-length Inv-loop μ-loop
 same-length c = c .before .loop .inv .1 .long

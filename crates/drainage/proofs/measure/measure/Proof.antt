@@ -10,12 +10,19 @@ use borrow.Author.Needs.{needs}
 use Rattle.drainage.proofs.measure.measure.Statement.{statement}
 use Rattle.drainage.proofs.measure.measure.Tie as tie
 
+-- Points of the function, each from a later one.
+abbrev start : tie.After-sizes → tie.Start
+start c = c .before .before .before .before .before .before
+
+abbrev after-sizes : tie.After-areas → tie.After-sizes
+after-sizes c = c .before .before .before .before .before .before .before
+
 sizes-requires : tie.Need-sizes-requires
 sizes-requires c κs = search needs
 
 areas-requires : tie.Need-areas-requires
 areas-requires c κs =
-    let p = c .before .before .before .before .before .before .before .before .before .before .before .before .pre in
+    let p = (start (c .before .before .before .before .before .before)) .pre in
     let e = c .before .before .before .before .before .before .sizes .ensures in
     (p .0, rw (e .0) (drained-same (with-sizes-same _ _ _ (p .1 .searched .upstream .queue .room)) (p .1)), omega (arith, p .2, c .before .before .before .before .before .before .sizes .kept .1 .1 .1 .1 .1 .0))
 
@@ -27,9 +34,9 @@ same-length-2 c = search needs
 
 returns : tie.Need-returns
 returns c =
-    let a = c .before .before .before .before .before .before .before .before .before .before .before .before .before .before .before .args in
+    let a = (start (after-sizes (c .before .before))) .args in
     let G = grid (a .rows) (a .cols) (a .dirs .now) in
-    let e = c .before .before .before .before .before .before .before .before .before .sizes .ensures in
+    let e = (after-sizes (c .before .before)) .sizes .ensures in
     (e .0, λ S s. (rw (e .1) at (c .before .before .areas .ensures S s)) ∙ written-over (areasOf S) (sizesOf G) (a .lent-areas .now) (sizes-long G ∙ ap cells (sym s) ∙ sym (areas-long S)))
 
 pub measure-spec : {M : Type 1} → statement M

@@ -14,6 +14,13 @@ use borrow.Author.Needs.{needs}
 use Rattle.drainage.proofs.measure.sizes.Statement.{statement}
 use Rattle.drainage.proofs.measure.sizes.Tie as tie
 
+-- Points of the function, each from a later one.
+abbrev start : tie.After-own-counts → tie.Start
+start c = c .before .before .before .before .before
+
+abbrev after-own-counts : tie.After-gather → tie.After-own-counts
+after-own-counts c = c .before .before .before .before .before
+
 mul-n : tie.Need-mul-n
 mul-n c = search needs
 
@@ -26,12 +33,12 @@ own c = c .own-counts .ensures ∙ sym (filled-written _ _ _)
 
 gather-requires : tie.Need-gather-requires
 gather-requires c κs =
-    let p = c .before .before .before .before .before .before .before .before .before .pre in
+    let p = (start (c .before .before .before .before)) .pre in
     rw (own (c .before .before .before .before)) (own-gathers (p .1) _ (cells-most (p .0 .rows-most) (p .0 .cols-most)) (p .2))
 
 -- the sizes
-gathered : (c : tie.After-gather) → let a = c .before .before .before .before .before .before .before .before .before .before .args in c .gather .last .1 .1 .1 .0 ≡ written (sizesOf (grid (a .rows) (a .cols) (a .dirs .now))) (a .areas .now)
-gathered c = (rw (own (c .before .before .before .before .before)) at (c .gather .ensures)) ∙ sizes-written (c .before .before .before .before .before .before .before .before .before .before .pre .1) _
+gathered : (c : tie.After-gather) → let a = (start (after-own-counts c)) .args in c .gather .last .1 .1 .1 .0 ≡ written (sizesOf (grid (a .rows) (a .cols) (a .dirs .now))) (a .areas .now)
+gathered c = (rw (own (c .before .before .before .before .before)) at (c .gather .ensures)) ∙ sizes-written ((start (after-own-counts c)) .pre .1) _
 
 mul-from : tie.Need-mul-from
 mul-from c = search needs
@@ -59,11 +66,11 @@ same-length-2 c = search needs
 
 returns : tie.Need-returns
 returns c =
-    let a = c .before .before .before .before .before .before .before .before .before .before .before .before .before .before .before .before .before .args in
+    let a = (start (after-own-counts (c .before .before .before .before .before .before .before))) .args in
     let G = grid (a .rows) (a .cols) (a .dirs .now) in
     let n = a .rows * a .cols in (
       ap (putMid (sizesPart * n) (length (a .work .now) - sizesPart * n) (a .work .now)) (c .before .before .copy .ensures)
-          ∙ sizes-put n (a .work .now) (sizesOf G) _ (a .areas .now) (c .before .before .before .before .before .before .before .before .before .before .before .before .before .before .before .before .before .pre .1 .searched .upstream .queue .room) (sizes-long G) (gathered (c .before .before .before .before .before .before .before)),
+          ∙ sizes-put n (a .work .now) (sizesOf G) _ (a .areas .now) ((start (after-own-counts (c .before .before .before .before .before .before .before))) .pre .1 .searched .upstream .queue .room) (sizes-long G) (gathered (c .before .before .before .before .before .before .before)),
       gathered (c .before .before .before .before .before .before .before),
     )
 

@@ -5,6 +5,10 @@ use borrow.Author.Needs.{needs}
 use Rattle.intake.proofs.cell_lines.take_cell.Statement.{statement}
 use Rattle.intake.proofs.cell_lines.take_cell.Tie as tie
 
+-- Points of the function, each from a later one.
+abbrev after-cell-in : tie.After-cell-fault → tie.After-cell-in
+after-cell-in c = c .before .before
+
 cell-in-requires : tie.Need-cell-in-requires
 cell-in-requires c κs = search needs
 
@@ -22,7 +26,7 @@ same-length c = search needs
 
 returns : tie.Need-returns
 returns c =
-    let in-line = c .before .before .before .before .before .before .before .before .cell-in .ensures in
+    let in-line = (after-cell-in (c .before .before .before .before .before .before)) .cell-in .ensures in
     let none = sym (c .before .before .before .before .before .before .cell-fault .ensures) ∙ c .before .before .before .before .before .if1 .taken in
     simp (c .answer .ensures, c .before .before .before .write-cell .ensures) (sym (cell-accepted _ _ _ _ in-line none))
 

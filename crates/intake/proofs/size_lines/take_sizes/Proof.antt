@@ -9,6 +9,10 @@ use borrow.Author.Needs.{needs}
 use Rattle.intake.proofs.size_lines.take_sizes.Statement.{statement}
 use Rattle.intake.proofs.size_lines.take_sizes.Tie as tie
 
+-- Points of the function, each from a later one.
+abbrev after-sizes-in : tie.After-sizes-fault → tie.After-sizes-in
+after-sizes-in c = c .before
+
 sizes-in-requires : tie.Need-sizes-in-requires
 sizes-in-requires c κs = search needs
 
@@ -32,7 +36,7 @@ same-length c = search needs
 returns : tie.Need-returns
 unfolding sizesWritten
 returns c =
-    let in-line = c .before .before .before .before .before .before .before .before .sizes-in .ensures in
+    let in-line = (after-sizes-in (c .before .before .before .before .before .before .before)) .sizes-in .ensures in
     let none = sym (c .before .before .before .before .before .before .before .sizes-fault .ensures) ∙ c .before .before .before .before .before .before .if1 .taken in
     simp (c .answer .ensures, c .before .before .before .clear .ensures) (sym (sizes-accepted _ _ _ in-line none))
 

@@ -1,4 +1,5 @@
--- `lines::fields::field_end` meets its contract.
+-- `lines::fields::field_end` meets its contract. The invariant: the field that begins at `at` ends where the bytes from
+-- `end` on end it. The measure: the bytes that are left.
 use Prim.Native.Nat.{_≤_, _-_}
 use mathlib.Core.Path.{_≡_, refl, sym, _∙_}
 use native.Mathlib.Omega.{arith}

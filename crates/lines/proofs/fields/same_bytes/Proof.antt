@@ -1,4 +1,5 @@
--- `lines::fields::same_bytes` meets its contract.
+-- `lines::fields::same_bytes` meets its contract. The invariant: the bytes from i on are the same exactly if the whole
+-- ones are. The measure: the bytes that are left.
 use Prim.Native.Nat.{_≤_, _-_}
 use mathlib.Core.Path.{_≡_, refl, sym, _∙_}
 use native.Mathlib.Omega.{arith}

@@ -12,23 +12,18 @@ use Rattle.order.proofs.positions.place_all.Reads as place-all-reads
 abbrev start : tie.After-place-all → tie.Start
 start c = c .before .before .before .before .before
 
--- src/positions.rt:105:5
 place-all-requires : tie.Need-place-all-requires
 place-all-requires c κs = search needs
 
--- src/positions.rt:106:15
 mul-enter-all : tie.Need-mul-enter-all
 mul-enter-all c = search needs
 
--- src/positions.rt:106:5
 enter-all-requires : tie.Need-enter-all-requires
 enter-all-requires c κs = apart ((start (c .before .before .before)) .pre) (c .before .before .before .place-all .kept .1 .1 .1 .1 .1 .0) (c .before .before .before .place-all .ensures)
 
--- src/positions.rt:94:1
 same-length : tie.Need-same-length
 same-length c = search needs
 
--- src/positions.rt:94:1
 returns : tie.Need-returns
 returns c =
     let w = (start (c .before .before .before .before .before .before)) .pre in

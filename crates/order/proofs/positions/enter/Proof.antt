@@ -8,83 +8,63 @@ use Rattle.order.proofs.positions.enter.Tie as tie
 use Rattle.order.proofs.positions.enter.Reads as reads
 use Rattle.order.proofs.positions.enter.Lts as lts
 
--- src/positions.rt:76:19
 mul-at : tie.Need-mul-at
 mul-at c = search needs
 
--- src/positions.rt:76:19
 add-at : tie.Need-add-at
 add-at c = search needs
 
--- src/positions.rt:76:14
 mul-at-2 : tie.Need-mul-at-2
 mul-at-2 c = search needs
 
--- src/positions.rt:76:14
 slice-read-at : tie.Need-slice-read-at
 slice-read-at c = search needs
 
--- src/positions.rt:76:14
 cast-at : tie.Need-cast-at
 cast-at c = search needs
 
--- src/positions.rt:77:21
 mul-size : tie.Need-mul-size
 mul-size c = search needs
 
--- src/positions.rt:77:21
 add-size : tie.Need-add-size
 add-size c = search needs
 
--- src/positions.rt:77:16
 mul-size-2 : tie.Need-mul-size-2
 mul-size-2 c = search needs
 
--- src/positions.rt:77:16
 slice-read-size : tie.Need-slice-read-size
 slice-read-size c = search needs
 
--- src/positions.rt:78:24
 cast-work : tie.Need-cast-work
 cast-work c = search needs
 
--- src/positions.rt:78:10
 mul-work : tie.Need-mul-work
 mul-work c = search needs
 
--- src/positions.rt:78:10
 add-work : tie.Need-add-work
 add-work c = search needs
 
--- src/positions.rt:78:5
 mul-work-2 : tie.Need-mul-work-2
 mul-work-2 c = search needs
 
--- src/positions.rt:78:5
 slice-write-work : tie.Need-slice-write-work
 slice-write-work c = search needs
 
--- src/positions.rt:79:10
 mul-work-3 : tie.Need-mul-work-3
 mul-work-3 c = search needs
 
--- src/positions.rt:79:10
 add-work-2 : tie.Need-add-work-2
 add-work-2 c = search needs
 
--- src/positions.rt:79:5
 mul-work-4 : tie.Need-mul-work-4
 mul-work-4 c = search needs
 
--- src/positions.rt:79:5
 slice-write-work-2 : tie.Need-slice-write-work-2
 slice-write-work-2 c = simp length-set (omega arith)
 
--- src/positions.rt:72:1
 same-length : tie.Need-same-length
 same-length c = search needs
 
--- src/positions.rt:72:1
 returns : tie.Need-returns
 unfolding entered
 returns c = refl

@@ -1,3 +1,5 @@
+-- `enter_all` meets its contract. The invariant: the first i queued cells stand at their positions. The measure: the
+-- cells that are left.
 use mathlib.Core.Path.{_≡_, refl, _∙_}
 use Prim.Native.Nat.{ℕ, _-_, _≤_}
 use native.Mathlib.Omega.{arith}
@@ -21,23 +23,18 @@ abbrev μ-loop : tie.MeasureT-loop
 abbrev start : tie.At-loop Inv-loop μ-loop → tie.Start Inv-loop μ-loop
 start c = c .before .before
 
--- src/positions.rt:87:5
 loop-holds : tie.Need-loop-holds Inv-loop μ-loop
 loop-holds c = (omega arith, refl, entered-none)
 
--- src/positions.rt:88:20
 mul-cell : tie.Need-mul-cell Inv-loop μ-loop
 mul-cell c = omega (arith, c .before .before .before .pre .most, c .before .before .before .pre .small)
 
--- src/positions.rt:88:20
 slice-read-cell : tie.Need-slice-read-cell Inv-loop μ-loop
 slice-read-cell c = omega (arith, c .before .before .before .before .pre .most, c .before .before .before .before .pre .room)
 
--- src/positions.rt:88:20
 cast-cell : tie.Need-cast-cell Inv-loop μ-loop
 cast-cell c = omega (arith, c .slice-known2 .given (c .before .before .loop .i))
 
--- src/positions.rt:89:9
 enter-requires : tie.Need-enter-requires Inv-loop μ-loop
 enter-requires c κs =
     let p = c .before .before .before .before .before .pre in
@@ -45,25 +42,20 @@ enter-requires c κs =
     let h = c .before .before .loop-test .taken in
     (p .small, omega (arith, p .room, l .inv .1), omega (arith, cell-kept p (l .inv .1) (l .inv .2) h, p .on (l .i) h), omega (arith, at-kept p (l .inv .1) (l .inv .2) h, p .below (l .i) h))
 
--- src/positions.rt:87:9
 add-i : tie.Need-add-i Inv-loop μ-loop
 add-i c = search needs
 
--- src/positions.rt:87:5
 loop-less : tie.Need-loop-less Inv-loop μ-loop
 loop-less c = search needs
 
--- src/positions.rt:87:5
 loop-again : tie.Need-loop-again Inv-loop μ-loop
 loop-again c =
     let l = c .before .before .before .before .before .before .loop in
     (omega arith, c .before .before .enter .kept .1 .1 .0 ∙ l .inv .1, rw (c .before .before .enter .ensures) (entered-more ((start (c .before .before .before .before .before .before)) .pre) (l .inv .1) (l .inv .2) (c .before .before .before .before .before .loop-test .taken)))
 
--- src/positions.rt:83:1
 same-length : tie.Need-same-length Inv-loop μ-loop
 same-length c = c .before .loop .inv .1
 
--- src/positions.rt:83:1
 returns : tie.Need-returns Inv-loop μ-loop
 returns c =
     let l = c .before .loop in

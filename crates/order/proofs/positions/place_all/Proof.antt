@@ -1,3 +1,5 @@
+-- `place_all` meets its contract. The invariant: the donors of the first i cells of the queue have their positions, and
+-- so has the outlet. The measure: the cells of the queue that are left.
 use mathlib.Core.Path.{_≡_, refl, sym, _∙_, ap, subst}
 use mathlib.Core.List.{List}
 use Prim.Native.Nat.{ℕ, _-_, _≤_, _<_, _*_, _+_}
@@ -45,45 +47,35 @@ present c = c .loop .inv .2 ((start (c .before .before .before)) .args .work .no
 length-kept : (c : tie.At-loop Inv-loop μ-loop) → length (c .loop .work) ≡ length ((start (c .before .before .before)) .args .work .now)
 length-kept c = c .loop .inv .1 ∙ c .before .before .before .place-outlet .kept .1 .0
 
--- src/positions.rt:73:18
 mul-place-outlet : tie.Need-mul-place-outlet Inv-loop μ-loop
 mul-place-outlet c = omega (arith, most (c .before .before .before))
 
--- src/positions.rt:73:5
 place-outlet-requires : tie.Need-place-outlet-requires Inv-loop μ-loop
 place-outlet-requires c κs =
     let p = c .before .before .before .before .pre in
     (most (c .before .before .before .before), p .room, rw (p .single .first) (inside-lt _ _ (whole p 0 0 .outlet-inside)))
 
--- src/positions.rt:74:5
 loop-holds : tie.Need-loop-holds Inv-loop μ-loop
 loop-holds c = (omega arith, refl, λ w s e. rw e (placed-none s))
 
--- src/positions.rt:75:20
 mul-cell : tie.Need-mul-cell Inv-loop μ-loop
 mul-cell c = omega (arith, queue-most ((start (c .before .before .before .before)) .pre), most ((start (c .before .before .before .before))))
 
--- src/positions.rt:75:20
 slice-read-cell : tie.Need-slice-read-cell Inv-loop μ-loop
 slice-read-cell c = omega (arith, queue-most ((start (c .before .before .before .before .before)) .pre), length-kept (c .before .before), (start (c .before .before .before .before .before)) .pre .room)
 
--- src/positions.rt:75:20
 cast-cell : tie.Need-cast-cell Inv-loop μ-loop
 cast-cell c = omega (arith, c .slice-known3 .given (c .before .before .loop .i))
 
--- src/positions.rt:76:9
 place-upstream-requires : tie.Need-place-upstream-requires Inv-loop μ-loop
 place-upstream-requires c κs = ((start (c .before .before .before .before .before .before)) .pre .measured, standing ((start (c .before .before .before .before .before .before)) .pre) (present (c .before .before .before)) (c .before .before .loop-test .taken) (length-kept (c .before .before .before)))
 
--- src/positions.rt:74:9
 add-i : tie.Need-add-i Inv-loop μ-loop
 add-i c = search needs
 
--- src/positions.rt:74:5
 loop-less : tie.Need-loop-less Inv-loop μ-loop
 loop-less c = search needs
 
--- src/positions.rt:74:5
 loop-again : tie.Need-loop-again Inv-loop μ-loop
 loop-again c =
     let l = c .before .before .before .before .before .before .loop in (
@@ -92,11 +84,9 @@ loop-again c =
       λ w s e. placed-more s (l .inv .2 w s e) (c .before .before .before .before .before .loop-test .taken) (c .before .before .place-upstream .ensures),
     )
 
--- src/positions.rt:62:1
 same-length : tie.Need-same-length Inv-loop μ-loop
 same-length c = length-kept (c .before)
 
--- src/positions.rt:62:1
 returns : tie.Need-returns Inv-loop μ-loop
 returns c =
     let e : c .before .loop .i ≡ (start (c .before .before .before .before)) .args .queued = omega arith in

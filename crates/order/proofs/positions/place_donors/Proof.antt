@@ -1,3 +1,5 @@
+-- `place_donors` meets its contract. The invariant: the keys from the place k on, given positions from `at` on in the
+-- present work places, leave what all of them leave in those at entry. The measure: the keys that are left.
 use mathlib.Core.Path.{_≡_, refl, sym, _∙_}
 use Prim.Native.Nat.{ℕ, _-_, _≤_, _<_, _*_, _+_, _^_}
 use native.Mathlib.Omega.{arith}
@@ -38,74 +40,57 @@ fits : (c : tie.In-loop Inv-loop μ-loop) → c .before .loop .at + sizeAt (c .b
 unfolding sum
 fits c = let f = fitted c .fits in omega arith
 
--- src/positions.rt:15:17
 mul-sizes : tie.Need-mul-sizes Inv-loop μ-loop
 mul-sizes c = search needs
 
--- src/positions.rt:16:21
 mul-positions : tie.Need-mul-positions Inv-loop μ-loop
 mul-positions c = search needs
 
--- src/positions.rt:18:5
 loop-holds : tie.Need-loop-holds Inv-loop μ-loop
 loop-holds c = (omega arith, refl, c .pre, refl)
 
--- src/positions.rt:19:21
 mul-cell : tie.Need-mul-cell Inv-loop μ-loop
 mul-cell c = search needs
 
--- src/positions.rt:19:21
 shared-slice-read-cell : tie.Need-shared-slice-read-cell Inv-loop μ-loop
 shared-slice-read-cell c = search needs
 
--- src/positions.rt:20:25
 add-size : tie.Need-add-size Inv-loop μ-loop
 add-size c = omega (arith, on (c .before), fitted (c .before) .room, fitted (c .before) .small)
 
--- src/positions.rt:20:20
 mul-size : tie.Need-mul-size Inv-loop μ-loop
 mul-size c = omega (arith, on (c .before), fitted (c .before) .room, fitted (c .before) .small)
 
--- src/positions.rt:20:20
 slice-read-size : tie.Need-slice-read-size Inv-loop μ-loop
 slice-read-size c = omega (arith, on (c .before .before), fitted (c .before .before) .room, fitted (c .before .before) .small)
 
--- src/positions.rt:21:14
 add-work : tie.Need-add-work Inv-loop μ-loop
 add-work c = omega (arith, on (c .before .before), fitted (c .before .before) .room, fitted (c .before .before) .small)
 
--- src/positions.rt:21:9
 mul-work : tie.Need-mul-work Inv-loop μ-loop
 mul-work c = omega (arith, on (c .before .before), fitted (c .before .before) .room, fitted (c .before .before) .small)
 
--- src/positions.rt:21:9
 slice-write-work : tie.Need-slice-write-work Inv-loop μ-loop
 slice-write-work c = omega (arith, on (c .before .before), fitted (c .before .before) .room, fitted (c .before .before) .small)
 
--- src/positions.rt:22:9
 add-at : tie.Need-add-at Inv-loop μ-loop
 add-at c = record { fits = fits (c .before .before) }
 
--- src/positions.rt:18:9
 add-k : tie.Need-add-k Inv-loop μ-loop
 add-k c = search needs
 
--- src/positions.rt:18:5
 loop-less : tie.Need-loop-less Inv-loop μ-loop
 loop-less c = search needs
 
--- src/positions.rt:18:5
 loop-again : tie.Need-loop-again Inv-loop μ-loop
 unfolding positioned
 loop-again c =
     let l = c .before .before .before .loop in
     (omega arith, simp length-set (l .inv .1), fitting-next (fitted (c .before .before)), (rw (rest (c .before .before)) at (l .inv .3)))
 
--- src/positions.rt:11:1
 same-length : tie.Need-same-length Inv-loop μ-loop
 same-length c = search needs
 
--- src/positions.rt:11:1
 returns : tie.Need-returns Inv-loop μ-loop
 unfolding positioned
 returns c =

@@ -24,80 +24,62 @@ else1 c = c .before .before .before
 on : (c : tie.Start) → c .args .cell < c .args .rows * c .args .cols
 on c = inside-lt _ _ (c .pre .1 .is-inside)
 
--- src/positions.rt:39:13
 mul-n : tie.Need-mul-n
 mul-n c = search needs
 
--- src/positions.rt:40:13
 mul-if1 : tie.Need-mul-if1
 mul-if1 c = search needs
 
--- src/positions.rt:40:13
 add-if1 : tie.Need-add-if1
 add-if1 c = omega (arith, on (c .before .before .before), c .before .before .before .pre .1 .room)
 
--- src/positions.rt:40:8
 mul-if1-2 : tie.Need-mul-if1-2
 mul-if1-2 c = omega (arith, on (c .before .before .before), c .before .before .before .pre .1 .room)
 
--- src/positions.rt:40:8
 slice-read-if1 : tie.Need-slice-read-if1
 slice-read-if1 c = omega (arith, on (c .before .before .before .before), c .before .before .before .before .pre .1 .room)
 
--- src/positions.rt:41:9
 returns : tie.Need-returns
 returns c = none-placed (c .before .before .before .before .before .pre .1) (c .if1 .taken)
 
--- src/positions.rt:43:22
 mul-first : tie.Need-mul-first
 mul-first c = search needs
 
--- src/positions.rt:43:22
 add-first : tie.Need-add-first
 add-first c = omega (arith, on (c .before .before .before .before .before), c .before .before .before .before .before .pre .1 .room)
 
--- src/positions.rt:43:17
 mul-first-2 : tie.Need-mul-first-2
 mul-first-2 c = omega (arith, on (c .before .before .before .before .before), c .before .before .before .before .before .pre .1 .room)
 
--- src/positions.rt:43:17
 slice-read-first : tie.Need-slice-read-first
 slice-read-first c = omega (arith, on (c .before .before .before .before .before .before), c .before .before .before .before .before .before .pre .1 .room)
 
--- src/positions.rt:43:17
 add-first-2 : tie.Need-add-first-2
 add-first-2 c = search needs
 
--- src/positions.rt:45:58
 slice-aggregate-donors-of : tie.Need-slice-aggregate-donors-of
 slice-aggregate-donors-of c = search needs
 
--- src/positions.rt:45:9
 donors-of-requires : tie.Need-donors-of-requires
 donors-of-requires c κs = search needs
 
--- src/positions.rt:46:28
 array-share-prefix-keys : tie.Need-array-share-prefix-keys
 array-share-prefix-keys c =
     let d = c .before .donors-of in
     omega (arith, listed-within (d .ensures), d .kept .1 .1 .1 .1 .1 .0)
 
--- src/positions.rt:46:28
 slice-aggregate-place-donors : tie.Need-slice-aggregate-place-donors
 slice-aggregate-place-donors c =
     let d = c .before .before .donors-of in
     sym (length-take-le (d .result) _ (listed-within (d .ensures)))
 
--- src/positions.rt:46:5
 place-donors-requires : tie.Need-place-donors-requires
 place-donors-requires c κs =
     rw (listed-first (c .before .before .before .donors-of .ensures)) (fitting ((start (else1 (c .before .before .before))) .pre .0) ((start (else1 (c .before .before .before))) .pre .1))
 
--- src/positions.rt:27:1
 same-length : tie.Need-same-length
 same-length c = search needs
 
--- src/positions.rt:27:1
 returns-2 : tie.Need-returns-2
 returns-2 c =
     rw (c .before .before .place-donors .ensures, listed-first (c .before .before .before .before .before .before .donors-of .ensures)) (donors-placed ((start (else1 (c .before .before .before .before .before .before))) .pre .0) ((start (else1 (c .before .before .before .before .before .before))) .pre .1))

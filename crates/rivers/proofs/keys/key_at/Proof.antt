@@ -5,23 +5,18 @@ use Rattle.rivers.proofs.keys.key_at.Reads as reads
 use Rattle.rivers.proofs.keys.key_at.Lts as lts
 use Rattle.rivers.proofs.keys.key_of.Reads as key-of-reads
 
--- src/keys.rt:22:12
 mul-key-of : tie.Need-mul-key-of
 mul-key-of c = search needs
 
--- src/keys.rt:22:12
 shared-slice-read-key-of : tie.Need-shared-slice-read-key-of
 shared-slice-read-key-of c = search needs
 
--- src/keys.rt:22:12
 cast-key-of : tie.Need-cast-key-of
 cast-key-of c = search needs
 
--- src/keys.rt:22:5
 key-of-requires : tie.Need-key-of-requires
 key-of-requires c κs = search needs
 
--- src/keys.rt:17:1
 returns : tie.Need-returns
 returns c = search needs
 

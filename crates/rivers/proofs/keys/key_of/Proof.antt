@@ -5,27 +5,21 @@ use Rattle.rivers.proofs.keys.key_of.Tie as tie
 use Rattle.rivers.proofs.keys.key_of.Reads as reads
 use Rattle.rivers.proofs.keys.key_of.Lts as lts
 
--- src/keys.rt:12:16
 mul-a : tie.Need-mul-a
 mul-a c = search needs
 
--- src/keys.rt:12:16
 shared-slice-read-a : tie.Need-shared-slice-read-a
 shared-slice-read-a c = search needs
 
--- src/keys.rt:13:6
 cast-result : tie.Need-cast-result
 cast-result c = omega (arith, c .shared-slice-known .given (c .before .args .cell))
 
--- src/keys.rt:13:5
 mul-result : tie.Need-mul-result
 mul-result c = omega (arith, c .shared-slice-known .given (c .before .args .cell))
 
--- src/keys.rt:13:5
 add-result : tie.Need-add-result
 add-result c = omega (arith, c .shared-slice-known .given (c .before .args .cell))
 
--- src/keys.rt:8:1
 returns : tie.Need-returns
 returns c = search needs
 

@@ -5,24 +5,21 @@ use mathlib.Core.List.{List, [], _∷_, _++_, append-nil, append-assoc}
 use Prim.Native.Nat.{ℕ, suc, _+_, _<_, _≤_}
 use native.Mathlib.Numerals.{add-one}
 use native.Mathlib.Omega.{arith}
-use borrow.Author.Tests.{ne-eqb, eqb-true, eqb-false, lt-ltb, ltb-true, ltb-false, le-leb, leb-true, leb-false}
-use lib.Dec.{eqb, leb, ltb}
+use borrow.Author.Tests.{ne-eqb, eqb-true, eqb-false, lt-ltb, ltb-true, ltb-false, le-leb}
+use lib.Dec.{eqb, ltb}
 use lib.ListN.{length, take, set, length-set, length-append}
 use lib.Seq.{take-suc-set}
 use Rattle.intake.specs.declared.Intake.{Intake}
 use Rattle.intake.specs.declared.TakenOutcome.{TakenOutcome}
 use Rattle.intake.specs.declared.TakenOutcome.the-variants.{Accepted, Refused}
 use Rattle.intake.specs.Intake.{After, lineAfter, newIntake}
-use Rattle.intake.proofs.BadLines.{line-feed, over-eighty, bad-lines-alike}
+use Rattle.intake.proofs.BadLines.{line-feed, over-eighty, bad-lines-alike, bad-line-refused}
+use Rattle.lines.specs.Fields.{longer}
 use Rattle.reading.specs.Lines.{linesOf, FileRead, refusedRead, onOutcome, readFrom, readFile}
-use Rattle.reading.specs.Feed.{Reading, largestCount, nextLine, lineText, lineEnd, keepByte, byteAfter, feedAll, lastLine, endRead, finished}
-use Rattle.reading.specs.Pieces.{started, feedPieces, joined, ReadInPieces}
-use Rattle.reading.proofs.FeedLaws.{feed-append}
-
--- no byte is a line feed
-abbrev pub NoFeed : List ℕ → Type 0
-NoFeed [] = Unit
-NoFeed (b ∷ s) = (b ≡ 10 → ⊥) × NoFeed s
+use Rattle.reading.specs.Feed.{Reading, largestCount, nextLine, handLine, longLine, lineEnd, keepByte}
+use Rattle.reading.specs.Feed.{byteAfter, isRefused, feedAll, lastLine, endRead, finished}
+use Rattle.reading.specs.Pieces.{started, feedPieces, joined, ReadInPieces, NoFeed, StopsAtRefusal}
+use Rattle.reading.proofs.FeedLaws.{feed-append, fed-refused}
 
 no-feed-more : (s : List ℕ) (b : ℕ) → NoFeed s → (b ≡ 10 → ⊥) → NoFeed (s ++ (b ∷ []))
 no-feed-more [] b f n = (n, tt)
@@ -40,71 +37,55 @@ unfolding linesOf
 lines-last b [] f = rw (ne-eqb b 10 (f .0))
 lines-last b (x ∷ s) f = rw (ne-eqb b 10 (f .0), lines-last x s (f .1))
 
+-- how many bytes the first line has, and 0 where there is none
+abbrev firstLength : List (List ℕ) → ℕ
+firstLength [] = 0
+firstLength (first ∷ later) = length first
+
+first-longer : (b : ℕ) (lines : List (List ℕ)) → firstLength (longer b lines) ≡ suc (firstLength lines)
+first-longer b [] = refl
+first-longer b (first ∷ later) = refl
+
+-- a file that begins with these bytes has them all in its first line
+first-least : (s rest : List ℕ) → NoFeed s → length s ≤ firstLength (linesOf (s ++ rest))
+unfolding linesOf
+first-least [] rest f = omega arith
+first-least (b ∷ s) rest f =
+    rw (ne-eqb b 10 (f .0)) (omega (arith, first-longer b (linesOf (s ++ rest)), first-least s rest (f .1)))
+
 -- ---- the present line
 
 -- the bytes s of the present line, as the reader holds them
 pub record Present (s line : List ℕ) (held : ℕ) : Type 0 where
   pub no-feed : NoFeed s
   pub room : length line ≡ 80
-  pub whole : length s ≤ 80 → (held ≡ length s) × (take held line ≡ s)
-  pub long : 80 < length s → held ≡ 81
+  pub count : held ≡ length s
+  pub fits : held ≤ 80
+  pub bytes : take held line ≡ s
 
 present-none : (line : List ℕ) → length line ≡ 80 → Present [] line 0
-present-none line room = record { no-feed = tt; room = room; whole = λ h. (refl, refl); long = λ h. absurd (omega arith) }
+present-none line room = record { no-feed = tt; room = room; count = refl; fits = omega arith; bytes = refl }
 
 module _ (s line : List ℕ) (held b : ℕ) (is : Present s line held) (other : b ≡ 10 → ⊥) where
   more : length (s ++ (b ∷ [])) ≡ suc (length s)
   more = simp length-append (omega arith)
 
-  few : held < 80 → length s < 80
-  few h = go (leb (length s) 80) refl
-    where
-      go : (t : Bool) → leb (length s) 80 ≡ t → length s < 80
-      go true e = let w = is .whole (leb-true _ _ e) in omega arith
-      go false e = let w = is .long (leb-false _ _ e) in absurd (omega arith)
-
-  many : 80 ≤ held → 80 ≤ length s
-  many h = go (leb (length s) 80) refl
-    where
-      go : (t : Bool) → leb (length s) 80 ≡ t → 80 ≤ length s
-      go true e = let w = is .whole (leb-true _ _ e) in omega (arith, w .0)
-      go false e = let w : 80 < length s = leb-false (length s) 80 e in omega arith
-
   present-kept : held < 80 → Present (s ++ (b ∷ [])) (set line held b) (held + 1)
-  present-kept h =
-      let l : length s < 80 = few h in
-      let w = is .whole (omega arith) in record {
-        no-feed = no-feed-more s b (is .no-feed) other;
-        room = simp length-set (is .room);
-        whole = λ _. (
-          omega (arith, more),
-          rw (add-one held, take-suc-set line held b (omega (arith, is .room))) (ap (λ (x : List ℕ). x ++ (b ∷ [])) (w .1)),
-        );
-        long = λ g. absurd (omega (arith, more));
-      }
+  present-kept h = record {
+    no-feed = no-feed-more s b (is .no-feed) other;
+    room = simp length-set (is .room);
+    count = omega (arith, more, is .count);
+    fits = omega arith;
+    bytes =
+        rw (add-one held, take-suc-set line held b (omega (arith, is .room)))
+        (ap (λ (x : List ℕ). x ++ (b ∷ [])) (is .bytes));
+  }
 
-  present-long : 80 ≤ held → Present (s ++ (b ∷ [])) line 81
-  present-long h =
-      let l : 80 ≤ length s = many h in record {
-        no-feed = no-feed-more s b (is .no-feed) other;
-        room = is .room;
-        whole = λ g. absurd (omega (arith, more));
-        long = λ g. refl;
-      }
-
--- what goes to the intake gets the answer of the line
-handed : (i : Intake) (dirs s line : List ℕ) (held : ℕ) → Present s line held → lineAfter i (lineText held line) dirs ≡ lineAfter i s dirs
-unfolding lineText
-handed i dirs s line held is = go (leb (length s) 80) refl
-  where
-    go : (t : Bool) → leb (length s) 80 ≡ t → lineAfter i (lineText held line) dirs ≡ lineAfter i s dirs
-    go true e =
-        let h : length s ≤ 80 = leb-true (length s) 80 e in
-        let w = is .whole h in
-        rw (le-leb held 80 (omega arith)) (ap (λ (x : List ℕ). lineAfter i x dirs) (w .1))
-    go false e =
-        rw (is .long (leb-false _ _ e))
-        (bad-lines-alike i (10 ∷ []) s dirs (line-feed (10 ∷ []) 0 (omega arith) refl) (over-eighty s (leb-false _ _ e)))
+  -- with the byte the line has too many, whatever follows
+  present-full : 80 ≤ held → (rest : List ℕ) → 80 < firstLength (linesOf (s ++ b ∷ rest))
+  present-full h rest =
+      let least = first-least (s ++ (b ∷ [])) rest (no-feed-more s b (is .no-feed) other) in
+      rw (← append-assoc s (b ∷ []) rest) (omega (arith, least, more, is .count))
 
 -- ---- the reader
 
@@ -122,21 +103,39 @@ next-line : (n : ℕ) → n < largestCount → nextLine n ≡ suc n
 unfolding nextLine
 next-line n h = rw (lt-ltb n largestCount h) (add-one n)
 
-line-ended : (i : Intake) (n held : ℕ) (s line dirs : List ℕ) → Present s line held → n < largestCount → lineEnd (within i n held line dirs) ≡ endedBy (lineAfter i s dirs) (suc n) line
-unfolding lineEnd
-line-ended i n held s line dirs is h = rw (handed i dirs s line held is, next-line n h)
+hand-line : (i : Intake) (n held : ℕ) (text line dirs : List ℕ) → n < largestCount
+    → handLine (within i n held line dirs) text ≡ endedBy (lineAfter i text dirs) (suc n) line
+unfolding handLine
+hand-line i n held text line dirs h = rw (next-line n h)
 
--- after a refusal nothing changes
-fed-refused : (i : Intake) (number n : ℕ) (line dirs bytes : List ℕ) → feedAll (ended i (Refused number) n line dirs) bytes ≡ ended i (Refused number) n line dirs
-unfolding feedAll byteAfter
-fed-refused i number n line dirs [] = refl
-fed-refused i number n line dirs (b ∷ bytes) = fed-refused i number n line dirs bytes
+line-ended : (i : Intake) (n held : ℕ) (s line dirs : List ℕ) → Present s line held → n < largestCount
+    → lineEnd (within i n held line dirs) ≡ endedBy (lineAfter i s dirs) (suc n) line
+unfolding lineEnd
+line-ended i n held s line dirs is h =
+    rw (le-leb held 80 (is .fits), is .bytes) (hand-line i n held s line dirs h)
 
 -- a file goes on after an accepted line, and is refused at that line else
-after-line : (i : Intake) (o : TakenOutcome) (n : ℕ) (line dirs bytes : List ℕ) (rest : FileRead) → finished (feedAll (ended i Accepted n line dirs) bytes) ≡ rest → finished (feedAll (ended i o n line dirs) bytes) ≡ onOutcome o rest (λ number. refusedRead number n dirs)
-unfolding onOutcome finished lastLine endRead
-after-line i Accepted n line dirs bytes rest e = e
-after-line i (Refused number) n line dirs bytes rest e = ap finished (fed-refused i number n line dirs bytes)
+after-line : (i : Intake) (o : TakenOutcome) (n : ℕ) (line dirs bytes : List ℕ) (rest : FileRead)
+    → (o ≡ Accepted → finished (feedAll (ended i Accepted n line dirs) bytes) ≡ rest)
+    → finished (feedAll (ended i o n line dirs) bytes) ≡ onOutcome o rest (λ number. refusedRead number n dirs)
+unfolding onOutcome isRefused finished lastLine endRead
+after-line i Accepted n line dirs bytes rest e = e refl
+after-line i (Refused number) n line dirs bytes rest e =
+    ap finished (fed-refused (ended i (Refused number) n line dirs) bytes refl)
+
+-- a line of more than 80 bytes is refused as soon as it has 81, as it is where it ends
+after-long : (i : Intake) (n : ℕ) (line dirs bytes : List ℕ) (lines : List (List ℕ)) → 80 < firstLength lines
+    → finished (feedAll (endedBy (lineAfter i (10 ∷ []) dirs) (suc n) line) bytes) ≡ readFrom i n dirs lines
+unfolding readFrom
+after-long i n line dirs bytes [] h = absurd (omega arith)
+after-long i n line dirs bytes (first ∷ later) h =
+    let a : After = lineAfter i first dirs in
+    let bad = over-eighty first h in
+    ap (λ (x : After). finished (feedAll (endedBy x (suc n) line) bytes))
+    (bad-lines-alike i (10 ∷ []) first dirs (line-feed (10 ∷ []) 0 (omega arith) refl) bad)
+    ∙ after-line (a .taken .intake) (a .taken .outcome) (suc n) line (a .dirs) bytes
+    (readFrom (a .taken .intake) (suc n) (a .dirs) later)
+    (λ e. absurd (bad-line-refused i first dirs bad e))
 
 -- the end ends a line that lacks its line feed
 finish-ended : (i : Intake) (o : TakenOutcome) (n : ℕ) (line dirs : List ℕ) → lastLine (ended i o n line dirs) ≡ ended i o n line dirs
@@ -168,15 +167,11 @@ at-end i n line dirs h = rw (next-line n h)
 -- a file of one line, or none, that lacks its line feed
 read-last : (i : Intake) (n held : ℕ) (s line dirs : List ℕ) → Present s line held → n + length s < largestCount → finished (within i n held line dirs) ≡ readFrom i n dirs (linesOf s)
 unfolding linesOf feedAll readFrom
-read-last i n held [] line dirs is h = rw (is .whole (omega arith) .0) (at-end i n line dirs (omega arith))
+read-last i n held [] line dirs is h = rw (is .count) (at-end i n line dirs (omega arith))
 read-last i n held (b ∷ s) line dirs is h = finish-line i n held (b ∷ s) line dirs is (omega arith) some ∙ after ∙ sym lines
   where
     some : held ≡ 0 → ⊥
-    some z = go (leb (length (b ∷ s)) 80) refl
-      where
-        go : (t : Bool) → leb (length (b ∷ s)) 80 ≡ t → ⊥
-        go true e = let w = is .whole (leb-true _ _ e) in omega arith
-        go false e = let w = is .long (leb-false _ _ e) in omega arith
+    some z = omega (arith, is .count)
 
     a : After
     a = lineAfter i (b ∷ s) dirs
@@ -184,7 +179,7 @@ read-last i n held (b ∷ s) line dirs is h = finish-line i n held (b ∷ s) lin
     after : finished (endedBy a (suc n) line) ≡ readFrom i n dirs ((b ∷ s) ∷ [])
     after =
         after-line (a .taken .intake) (a .taken .outcome) (suc n) line (a .dirs) [] (readFrom (a .taken .intake) (suc n) (a .dirs) [])
-        (at-end (a .taken .intake) (suc n) line (a .dirs) (omega arith))
+        (λ e. at-end (a .taken .intake) (suc n) line (a .dirs) (omega arith))
 
     lines : readFrom i n dirs (linesOf (b ∷ s)) ≡ readFrom i n dirs ((b ∷ s) ∷ [])
     lines = ap (readFrom i n dirs) (lines-last b s (is .no-feed))
@@ -199,7 +194,7 @@ read-feed bytes on i n held s line dirs is h =
     let a : After = lineAfter i s dirs in
     ap (λ (x : Reading). finished (feedAll x bytes)) (line-ended i n held s line dirs is (omega arith))
     ∙ after-line (a .taken .intake) (a .taken .outcome) (suc n) line (a .dirs) bytes (readFrom (a .taken .intake) (suc n) (a .dirs) (linesOf bytes))
-    (on (a .taken .intake) (suc n) 0 [] line (a .dirs) (present-none line (is .room)) (omega arith))
+    (λ e. on (a .taken .intake) (suc n) 0 [] line (a .dirs) (present-none line (is .room)) (omega arith))
     ∙ sym (ap (readFrom i n dirs) (lines-feed s bytes (is .no-feed)))
 
 module _ (b : ℕ) (bytes : List ℕ) (other : b ≡ 10 → ⊥) (on : ReadOn bytes) where
@@ -212,12 +207,18 @@ module _ (b : ℕ) (bytes : List ℕ) (other : b ≡ 10 → ⊥) (on : ReadOn by
       ∙ ap (λ (x : List ℕ). readFrom i n dirs (linesOf x)) (append-assoc s (b ∷ []) bytes)
 
   read-other : ReadOn (b ∷ bytes)
-  unfolding byteAfter keepByte
+  unfolding feedAll byteAfter keepByte longLine
   read-other i n held s line dirs is h = go (ltb held 80) refl
     where
-      go : (t : Bool) → ltb held 80 ≡ t → finished (feedAll (within i n held line dirs) (b ∷ bytes)) ≡ readFrom i n dirs (linesOf (s ++ b ∷ bytes))
-      go true e = read-more i n held (held + 1) s line (set line held b) dirs (rw (ne-eqb b 10 other, e)) (present-kept s line held b is other (ltb-true _ _ e)) h
-      go false e = read-more i n held 81 s line line dirs (rw (ne-eqb b 10 other, e)) (present-long s line held b is other (ltb-false _ _ e)) h
+      go : (t : Bool) → ltb held 80 ≡ t
+          → finished (feedAll (within i n held line dirs) (b ∷ bytes)) ≡ readFrom i n dirs (linesOf (s ++ b ∷ bytes))
+      go true e =
+          read-more i n held (held + 1) s line (set line held b) dirs (rw (ne-eqb b 10 other, e))
+          (present-kept s line held b is other (ltb-true _ _ e)) h
+      go false e =
+          rw (ne-eqb b 10 other, e, hand-line i n held (10 ∷ []) line dirs (omega arith))
+          (after-long i n line dirs bytes (linesOf (s ++ b ∷ bytes))
+          (present-full s line held b is other (ltb-false _ _ e) bytes))
 
 read-byte : (b : ℕ) (bytes : List ℕ) → ReadOn bytes → ReadOn (b ∷ bytes)
 read-byte b bytes on = go (eqb b 10) refl
@@ -247,4 +248,47 @@ feed-pieces s (p ∷ ps) = feed-pieces (feedAll s p) ps ∙ sym (feed-append s p
 pub read-in-pieces : ReadInPieces
 read-in-pieces = record {
   as-lines = λ pieces line dirs room h. ap finished (feed-pieces (started line dirs) pieces) ∙ read-whole (joined pieces) line dirs room h;
+}
+
+-- ---- the refusal
+
+long-refused : (s : Reading) → isRefused (longLine s .reader) ≡ true
+unfolding isRefused longLine handLine
+long-refused s = go (lineAfter (s .reader .intake) (10 ∷ []) (s .dirs) .taken .outcome) refl
+  where
+    go : (o : TakenOutcome) → lineAfter (s .reader .intake) (10 ∷ []) (s .dirs) .taken .outcome ≡ o
+        → isRefused (longLine s .reader) ≡ true
+    go Accepted e =
+        absurd (bad-line-refused (s .reader .intake) (10 ∷ []) (s .dirs) (line-feed (10 ∷ []) 0 (omega arith) refl) e)
+    go (Refused number) e = rw e
+
+stays-refused : (s : Reading) (bytes : List ℕ) → isRefused (s .reader) ≡ true
+    → isRefused (feedAll s bytes .reader) ≡ true
+stays-refused s bytes r = rw (fed-refused s bytes r) r
+
+-- a byte that is no line feed: one more is held, or the line is refused
+long-byte : (s : Reading) (b : ℕ) (bytes : List ℕ) → (b ≡ 10 → ⊥)
+    → (s .reader .held < 80 → byteAfter s b .reader .held ≡ s .reader .held + 1
+    → isRefused (feedAll (byteAfter s b) bytes .reader) ≡ true)
+    → isRefused (feedAll (byteAfter s b) bytes .reader) ≡ true
+unfolding isRefused byteAfter keepByte
+long-byte s b bytes other on = go (s .reader .outcome) refl (ltb (s .reader .held) 80) refl
+  where
+    go : (o : TakenOutcome) → s .reader .outcome ≡ o → (t : Bool) → ltb (s .reader .held) 80 ≡ t
+        → isRefused (feedAll (byteAfter s b) bytes .reader) ≡ true
+    go (Refused number) e t u = stays-refused (byteAfter s b) bytes (simp e)
+    go Accepted e true u = on (ltb-true _ _ u) (simp (e, ne-eqb b 10 other, u))
+    go Accepted e false u = stays-refused (byteAfter s b) bytes (rw (e, ne-eqb b 10 other, u) (long-refused s))
+
+long-on : (bytes : List ℕ) (s : Reading) → NoFeed bytes → 0 < length bytes → 80 < s .reader .held + length bytes
+    → isRefused (feedAll s bytes .reader) ≡ true
+unfolding feedAll
+long-on [] s f some h = absurd (omega arith)
+long-on (b ∷ bytes) s f some h =
+    long-byte s b bytes (f .0) (λ l e. long-on bytes (byteAfter s b) (f .1) (omega arith) (omega (arith, e)))
+
+pub stops-at-refusal : StopsAtRefusal
+stops-at-refusal = record {
+  no-change = λ s bytes r. ap finished (fed-refused s bytes r);
+  long-line = λ s bytes f h. long-on bytes s f (omega arith) (omega arith);
 }

@@ -1,5 +1,5 @@
 -- What the reader of chunks does, from any state. That it reads a file as Lines.antt says is stated in Pieces.antt.
-use mathlib.Core.Bool.{cond}
+use mathlib.Core.Bool.{Bool, true, false, cond}
 use mathlib.Core.List.{List, [], _∷_}
 use Prim.Native.Nat.{ℕ, _+_}
 use lib.Dec.{eqb, leb, ltb}
@@ -30,19 +30,33 @@ largestCount = 18446744073709551615
 unfoldable pub nextLine : ℕ → ℕ
 nextLine lines = cond (ltb lines largestCount) (lines + 1) lines
 
--- what goes to the intake: the bytes of the line; for more than fit a line, a line feed
-unfoldable pub lineText : ℕ → List ℕ → List ℕ
-lineText held line = cond (leb held lineBytes) (take held line) (lineFeed ∷ [])
-
 abbrev pub afterLine : Reading → After → Reading
 afterLine s a = record {
-  reader = record { intake = a .taken .intake; lines = nextLine (s .reader .lines); held = 0; outcome = a .taken .outcome };
+  reader = record {
+    intake = a .taken .intake;
+    lines = nextLine (s .reader .lines);
+    held = 0;
+    outcome = a .taken .outcome;
+  };
   line = s .line;
   dirs = a .dirs;
 }
 
+-- a line goes to the intake
+unfoldable pub handLine : Reading → List ℕ → Reading
+handLine s text = afterLine s (lineAfter (s .reader .intake) text (s .dirs))
+
+-- for a line of more bytes than fit, a line feed goes to it: that line too breaks the rules of every stage
+unfoldable pub longLine : Reading → Reading
+unfolding handLine
+longLine s = handLine s (lineFeed ∷ [])
+
+-- the end of the present line
 unfoldable pub lineEnd : Reading → Reading
-lineEnd s = afterLine s (lineAfter (s .reader .intake) (lineText (s .reader .held) (s .line)) (s .dirs))
+unfolding handLine longLine
+lineEnd s =
+    let held : ℕ = s .reader .held in
+    cond (leb held lineBytes) (handLine s (take held (s .line))) (longLine s)
 
 abbrev pub withHeld : Reading → ℕ → List ℕ → Reading
 withHeld s held line = record {
@@ -51,20 +65,22 @@ withHeld s held line = record {
   dirs = s .dirs;
 }
 
--- how many bytes a line is said to have that has more than fit
-abbrev pub tooLong : ℕ
-tooLong = 81
-
--- a byte of the present line: those are kept that fit a line
+-- a byte of the present line: it is kept if it fits, and else ends the line at once
 unfoldable pub keepByte : Reading → ℕ → Reading
+unfolding longLine
 keepByte s b =
     let held : ℕ = s .reader .held in
-    cond (ltb held lineBytes) (withHeld s (held + 1) (set (s .line) held b)) (withHeld s tooLong (s .line))
+    cond (ltb held lineBytes) (withHeld s (held + 1) (set (s .line) held b)) (longLine s)
 
 -- after a refusal a byte changes nothing
 unfoldable pub byteAfter : Reading → ℕ → Reading
 unfolding onOutcome
 byteAfter s b = onOutcome (s .reader .outcome) (cond (eqb b lineFeed) (lineEnd s) (keepByte s b)) (λ number. s)
+
+-- whether a line was refused
+unfoldable pub isRefused : Reader → Bool
+unfolding onOutcome
+isRefused r = onOutcome (r .outcome) false (λ number. true)
 
 unfoldable pub feedAll : Reading → List ℕ → Reading
 feedAll s [] = s

@@ -1,11 +1,13 @@
--- The statement that a file is read as its lines are, however its bytes are cut into chunks.
+-- The statements that a file is read as its lines are, however its bytes are cut into chunks, and that a refusal ends it.
 use mathlib.Core.Path.{_≡_}
+use mathlib.Core.Bool.{true}
 use mathlib.Core.List.{List, [], _∷_, _++_}
 use Prim.Native.Nat.{ℕ, _<_}
 use lib.ListN.{length}
+use Rattle.decimal.specs.Ascii.{lineFeed}
 use Rattle.lines.specs.Fields.{lineBytes}
 use Rattle.reading.specs.Lines.{FileRead, readFile}
-use Rattle.reading.specs.Feed.{Reading, newReader, largestCount, feedAll, finished}
+use Rattle.reading.specs.Feed.{Reading, newReader, largestCount, isRefused, feedAll, finished}
 
 -- a reader that no byte went to, with what is lent to it
 abbrev pub started : List ℕ → List ℕ → Reading
@@ -29,3 +31,15 @@ readPieces line dirs pieces = finished (feedPieces (started line dirs) pieces)
 pub record ReadInPieces : Type 0 where
   pub as-lines : (pieces : List (List ℕ)) (line dirs : List ℕ) → length line ≡ lineBytes → length (joined pieces) < largestCount
       → readPieces line dirs pieces ≡ readFile dirs (joined pieces)
+
+-- no byte is a line feed
+abbrev pub NoFeed : List ℕ → Type 0
+NoFeed [] = Unit
+NoFeed (b ∷ s) = (b ≡ lineFeed → ⊥) × NoFeed s
+
+-- Once a line is refused, more bytes change nothing. A line of more than 80 bytes is refused before its line feed comes.
+pub record StopsAtRefusal : Type 0 where
+  pub no-change : (s : Reading) (bytes : List ℕ) → isRefused (s .reader) ≡ true
+      → finished (feedAll s bytes) ≡ finished s
+  pub long-line : (s : Reading) (bytes : List ℕ) → NoFeed bytes → lineBytes < length bytes
+      → isRefused (feedAll s bytes .reader) ≡ true

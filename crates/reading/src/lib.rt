@@ -1,25 +1,23 @@
 // A whole file, read in chunks of any size: its lines go to the intake, one after the other.
 ghost use mathlib.Core.Path.{_≡_};
+ghost use mathlib.Core.List.{List};
+ghost use Prim.Native.Nat.{ℕ};
 ghost use lib.ListN.{length};
-ghost use Rattle.intake.specs.Intake.{lineAfter};
 ghost use Rattle.lines.specs.Fields.{lineBytes};
 ghost use Rattle.reading.specs.Lines.{endAfter, readValues};
-ghost use Rattle.reading.specs.Feed.{nextLine, lineText, newReader, lineEnd, byteAfter, feedAll, lastLine, endRead, finished};
+ghost use Rattle.reading.specs.Feed.{nextLine, newReader, handLine, longLine, lineEnd, byteAfter};
+ghost use Rattle.reading.specs.Feed.{isRefused, feedAll, lastLine, endRead, finished};
 use decimal::LINE_FEED;
 use intake::Intake;
-use intake::Taken;
 use intake::TakenOutcome;
 use lines::LINE_BYTES;
-
-// How many bytes a line has that has more than LINE_BYTES; more of them are not counted.
-const TOO_LONG: usize = LINE_BYTES + 1;
 
 // The bytes of a file so far. The bytes of the line that is not ended yet stand in a lent buffer.
 pub struct Reader {
     pub intake: Intake,
     // the lines that went to the intake; the last of them is the refused one, if one was refused
     pub lines: usize,
-    // how many bytes the present line has, or TOO_LONG
+    // how many bytes the present line has
     pub held: usize,
     // that of the last line
     pub outcome: TakenOutcome,
@@ -41,24 +39,13 @@ fn next_line(lines: usize) -> usize
     lines
 }
 
-// Hands the present line to the intake. For a line of more than LINE_BYTES bytes another line goes to it that breaks the file's rules in
-// every stage.
-fn take_line(intake: Intake, held: usize, line: &[u8], dirs: &mut [u8]) -> Taken
-    requires { ⌜ length (now line) ≡ lineBytes ⌝ }
-    ensures { λ r. ⌜ record { taken = r; dirs = now (dirs .exit) } ≡ lineAfter intake (lineText held (now (line .entry))) (now (dirs .entry)) ⌝ }
-{
-    if held <= LINE_BYTES {
-        return intake.line(&line[..held], dirs);
-    }
-    intake.line(&[LINE_FEED], dirs)
-}
-
-// The end of the present line.
-fn line_end(reader: Reader, line: &[u8; LINE_BYTES], dirs: &mut [u8]) -> Reader
-    ensures { λ r. ⌜ record { reader = r; line = now (line .entry); dirs = now (dirs .exit) } ≡ lineEnd (record { reader = reader; line = now (line .entry); dirs = now (dirs .entry) }) ⌝ }
+// Hands a line to the intake.
+fn hand_line(reader: Reader, text: &[u8], dirs: &mut [u8]) -> Reader
+    ensures { λ r. ⌜ ((line : List ℕ) → record { reader = r; line = line; dirs = now (dirs .exit) }
+        ≡ handLine (record { reader = reader; line = line; dirs = now (dirs .entry) }) (now (text .entry))) ⌝ }
 {
     let intake = reader.intake;
-    let taken = take_line(intake, reader.held, line, dirs);
+    let taken = intake.line(text, dirs);
     let next = taken.intake;
     let outcome = taken.outcome;
     Reader {
@@ -69,9 +56,31 @@ fn line_end(reader: Reader, line: &[u8; LINE_BYTES], dirs: &mut [u8]) -> Reader
     }
 }
 
-// One byte of the file. After a refusal it changes nothing.
+// A line of more than LINE_BYTES bytes: for it a line goes to the intake that breaks the file's rules in every stage.
+fn long_line(reader: Reader, dirs: &mut [u8]) -> Reader
+    ensures { λ r. ⌜ ((line : List ℕ) → record { reader = r; line = line; dirs = now (dirs .exit) }
+        ≡ longLine (record { reader = reader; line = line; dirs = now (dirs .entry) })) ⌝ }
+{
+    hand_line(reader, &[LINE_FEED], dirs)
+}
+
+// The end of the present line.
+fn line_end(reader: Reader, line: &[u8], dirs: &mut [u8]) -> Reader
+    requires { ⌜ length (now line) ≡ lineBytes ⌝ }
+    ensures { λ r. ⌜ record { reader = r; line = now (line .entry); dirs = now (dirs .exit) }
+        ≡ lineEnd (record { reader = reader; line = now (line .entry); dirs = now (dirs .entry) }) ⌝ }
+{
+    let held = reader.held;
+    if held <= LINE_BYTES {
+        return hand_line(reader, &line[..held], dirs);
+    }
+    long_line(reader, dirs)
+}
+
+// One byte of the file. After a refusal it changes nothing; one that does not fit the present line ends that line.
 fn feed_byte(reader: Reader, byte: u8, line: &mut [u8; LINE_BYTES], dirs: &mut [u8]) -> Reader
-    ensures { λ r. ⌜ record { reader = r; line = now (line .exit); dirs = now (dirs .exit) } ≡ byteAfter (record { reader = reader; line = now (line .entry); dirs = now (dirs .entry) }) byte ⌝ }
+    ensures { λ r. ⌜ record { reader = r; line = now (line .exit); dirs = now (dirs .exit) }
+        ≡ byteAfter (record { reader = reader; line = now (line .entry); dirs = now (dirs .entry) }) byte ⌝ }
 {
     let outcome = reader.outcome;
     let TakenOutcome::Accepted = outcome else {
@@ -91,12 +100,7 @@ fn feed_byte(reader: Reader, byte: u8, line: &mut [u8; LINE_BYTES], dirs: &mut [
             outcome: outcome,
         };
     }
-    Reader {
-        intake: intake,
-        lines: reader.lines,
-        held: TOO_LONG,
-        outcome: outcome,
-    }
+    long_line(reader, dirs)
 }
 
 // A last line that lacks its line feed.
@@ -162,6 +166,17 @@ impl Reader {
             i += 1;
         }
         reader
+    }
+
+    // Whether a line was refused. The bytes after it change nothing, so that they need not be read.
+    pub fn is_refused(self) -> bool
+        ensures { λ r. ⌜ r ≡ isRefused self ⌝ }
+    {
+        let outcome = self.outcome;
+        match outcome {
+            TakenOutcome::Accepted => false,
+            TakenOutcome::Refused(_) => true,
+        }
     }
 
     // The end of the file.

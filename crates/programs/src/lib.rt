@@ -21,14 +21,14 @@ pub enum Input {
     Failed,
 }
 
-// What a read of the input brought: more of the file, its end, or that it failed.
+// What a read of the input brought: more of the file, the end of its reading, or that it failed.
 enum Chunk {
     More(Reader),
     End(Reader),
     Failed,
 }
 
-// Reads once and feeds what came.
+// Reads once and feeds what came. Reading ends with the file, or when a line was refused.
 fn read_once(reader: Reader, line: &mut [u8; LINE_BYTES], dirs: &mut [u8]) -> Chunk {
     let mut chunk = [0u8; 4096];
     let got = libc::read(0, &mut chunk);
@@ -42,10 +42,14 @@ fn read_once(reader: Reader, line: &mut [u8; LINE_BYTES], dirs: &mut [u8]) -> Ch
         return Chunk::End(reader);
     }
     let n = io::count(got, &chunk);
-    Chunk::More(reader.feed(&chunk[..n], line, dirs))
+    let next = reader.feed(&chunk[..n], line, dirs);
+    if next.is_refused() {
+        return Chunk::End(next);
+    }
+    Chunk::More(next)
 }
 
-// Reads to the end of the input.
+// Reads to the end of the input, or until a line was refused.
 fn read_all(line: &mut [u8; LINE_BYTES], dirs: &mut [u8]) -> Chunk {
     let mut reader = Reader::new();
     let mut turns = u64::MAX;

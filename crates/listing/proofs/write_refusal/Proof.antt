@@ -68,13 +68,13 @@ put-text-requires : tie.Need-put-text-requires
 put-text-requires c κs = search needs
 
 put-field-requires : tie.Need-put-field-requires
-put-field-requires c κs = let h = c .before .before .before in let s = h .before .before .before .before .before .before .before .before in omega (arith, room (h .before .before .before), refusal-length (s .args .number) (s .args .place), h .put-text .ensures .next-is, h .put-text .kept .1 .0)
+put-field-requires c κs = let h = c .before .before .before in let s = start (else1 h) in omega (arith, room (h .before .before .before), refusal-length (s .args .number) (s .args .place), h .put-text .ensures .next-is, h .put-text .kept .1 .0)
 
 put-field-requires-2 : tie.Need-put-field-requires-2
 put-field-requires-2 c κs =
     let n = c .before .before .before in
     let h = n .before .before .before .before in
-    let s = h .before .before .before .before .before .before .before .before in
+    let s = start (else1 h) in
     omega (arith, room (h .before .before .before), refusal-length (s .args .number) (s .args .place), h .put-text .ensures .next-is, h .put-text .kept .1 .0, field-end _ _ (n .put-field .ensures), n .put-field .kept .1 .1 .0)
 
 same-length : tie.Need-same-length

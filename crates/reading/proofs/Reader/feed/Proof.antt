@@ -20,6 +20,10 @@ Inv-loop chunk line₀ dirs₀ reader₀ i₀ line dirs reader i = (feedAll (at 
 abbrev μ-loop : tie.MeasureT-loop
 μ-loop chunk line₀ dirs₀ reader₀ i₀ line dirs reader i = length chunk - i
 
+-- Points of the function, each from a later one.
+abbrev start : tie.At-loop Inv-loop μ-loop → tie.Start Inv-loop μ-loop
+start c = c .before .before .before
+
 loop-holds : tie.Need-loop-holds Inv-loop μ-loop
 loop-holds c = (refl, refl)
 
@@ -38,7 +42,7 @@ loop-less c = search needs
 loop-again : tie.Need-loop-again Inv-loop μ-loop
 loop-again c =
     let l = c .before .before .before .before .before .before .before .loop in
-    let chunk = c .before .before .before .before .before .before .before .before .before .before .args .chunk .now in (
+    let chunk = (start (c .before .before .before .before .before .before .before)) .args .chunk .now in (
       ap (λ (x : Reading). feedAll x (drop (l .i + 1) chunk)) (c .before .before .feed-byte .ensures) ∙ feed-turn (at (l .reader) (l .line) (l .dirs)) chunk (l .i) (c .before .before .before .before .before .before .loop-test .taken) ∙ l .inv .0,
       c .before .before .feed-byte .kept .1 .1 .1 .0 ∙ l .inv .1,
     )

@@ -10,8 +10,8 @@ ghost use Rattle.directions.specs.Sizes.{OnSheet, Sized};
 ghost use Rattle.sheet.specs.Refusal.{within, sizesFit, depthFits};
 ghost use Rattle.checks.specs.Search.{isTarget};
 
-// What a search in reading order looks for: an inside cell, an inside cell that a search upstream did not reach, an outlet from a
-// cell on.
+// What a search in reading order looks for: an inside cell, an inside cell that a search upstream did not reach, an
+// outlet from a cell on.
 pub enum Target {
     Inside,
     Unreached,
@@ -29,7 +29,8 @@ fn is_target(
     col: usize,
 ) -> bool
     requires { ⌜ Sized rows cols (now dirs) × OnSheet rows cols row col × (rows * cols ≤ length (now reached)) ⌝ }
-    ensures { λ r. ⌜ r ≡ isTarget (grid rows cols (now (dirs .entry))) (now (reached .entry)) target (row * cols + col) ⌝ }
+    ensures { λ r. ⌜ r ≡ isTarget (grid rows cols (now (dirs .entry))) (now (reached .entry)) target
+        (row * cols + col) ⌝ }
 {
     let cell = row * cols + col;
     let code = dirs[cell];
@@ -53,7 +54,8 @@ fn is_target(
 // The first cell in reading order that is looked for.
 pub fn first_target(dirs: &[u8], rows: usize, cols: usize, reached: &[u32], target: Target) -> Found
     requires { ⌜ Sized rows cols (now dirs) × (rows * cols ≤ length (now reached)) ⌝ }
-    ensures { λ r. ⌜ r ≡ first (isTarget (grid rows cols (now (dirs .entry))) (now (reached .entry)) target) (rows * cols) ⌝ }
+    ensures { λ r. ⌜ r ≡ first (isTarget (grid rows cols (now (dirs .entry))) (now (reached .entry)) target)
+        (rows * cols) ⌝ }
 {
     let mut found = Found::Nothing;
     'rows: for row in 0..rows {

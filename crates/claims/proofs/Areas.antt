@@ -35,7 +35,8 @@ any-some P (u ∷ us) q h = go (P u q) refl (any-some P us q) h
 any-has : (P : ℕ → ℕ → Bool) (us : List ℕ) (q u : ℕ) → List·Memᴰ u us → P u q ≡ true → any-of P us q ≡ true
 unfolding any-of
 any-has P [] q u m h = absurd (List·Memᴰ·not-nil m)
-any-has P (w ∷ us) q u m h = elim (List·Memᴰ·cases-cons m) [ inl e ↦ rw (rw e at h) | inr k ↦ go (P w q) (any-has P us q u k h) ]
+any-has P (w ∷ us) q u m h =
+    elim (List·Memᴰ·cases-cons m) [ inl e ↦ rw (rw e at h) | inr k ↦ go (P w q) (any-has P us q u k h) ]
   where
     go : (b : Bool) → any-of P us q ≡ true → cond b true (any-of P us q) ≡ true
     go true e = refl
@@ -56,7 +57,8 @@ module _ {N : Network} {heavier : ℕ → ℕ → Bool} (O : Lawful N heavier) (
   under-true : (u q : ℕ) → under u q ≡ true → (isInside q ≡ true) × Passes (N .next) q u
   under-true u q h = go (isInside q) refl h
     where
-      go : (b : Bool) → isInside q ≡ b → cond b (passes (N .next) (N .cells) q u) false ≡ true → (isInside q ≡ true) × Passes (N .next) q u
+      go : (b : Bool) → isInside q ≡ b → cond b (passes (N .next) (N .cells) q u) false ≡ true
+          → (isInside q ≡ true) × Passes (N .next) q u
       go true e h = (e, passes-true (N .next) (N .cells) q u h)
       go false e h = absurd (true≢false (sym h))
 
@@ -67,7 +69,8 @@ module _ {N : Network} {heavier : ℕ → ℕ → Bool} (O : Lawful N heavier) (
   unfolding any-of
   any-none n = sum-zero n (any-of under []) f (λ q l. refl)
 
-  any-split : (u : ℕ) (us : List ℕ) (q : ℕ) → any-of under (u ∷ us) q ≡ true → (under u q ≡ true) ⊎ (any-of under us q ≡ true)
+  any-split : (u : ℕ) (us : List ℕ) (q : ℕ) → any-of under (u ∷ us) q ≡ true
+      → (under u q ≡ true) ⊎ (any-of under us q ≡ true)
   unfolding any-of
   any-split u us q h = go (under u q) h
     where
@@ -84,16 +87,19 @@ module _ {N : Network} {heavier : ℕ → ℕ → Bool} (O : Lawful N heavier) (
       go false = h
 
   -- no water passes two donors of one cell
-  apart : (c u : ℕ) (us : List ℕ) → Rising heavier (some u) us → N .next u ≡ To c → ((w : ℕ) → List·Memᴰ w us → N .next w ≡ To c)
+  apart : (c u : ℕ) (us : List ℕ) → Rising heavier (some u) us → N .next u ≡ To c
+      → ((w : ℕ) → List·Memᴰ w us → N .next w ≡ To c)
       → (q : ℕ) → under u q ≡ true → any-of under us q ≡ true → ⊥
   apart c u us r e m q h k =
       let w = any-some under us q k in
       let level : O .dist u ≡ O .dist (w .0) = omega (arith, O .falls u c e, O .falls (w .0) c (m (w .0) (w .1))) in
-      let same : u ≡ w .0 = pass-same (O .dist) (O .falls) ((under-true u q h) .1) ((under-true (w .0) q (w .2)) .1) level in
+      let same : u ≡ w .0 = pass-same (O .dist) (O .falls) ((under-true u q h) .1)
+      ((under-true (w .0) q (w .2)) .1) level in
       let over : heavier (w .0) u ≡ true = rising-over (O .lighter) u us r (w .0) (w .1) in
       true≢false (sym over ∙ (rw (← same) (O .unlike u)))
 
-  any-sum : (c n : ℕ) (old : Option ℕ) (us : List ℕ) → Rising heavier old us → ((u : ℕ) → List·Memᴰ u us → N .next u ≡ To c)
+  any-sum : (c n : ℕ) (old : Option ℕ) (us : List ℕ) → Rising heavier old us
+      → ((u : ℕ) → List·Memᴰ u us → N .next u ≡ To c)
       → sumOver n (any-of under us) f ≡ sum (λ u. sumOver n (under u) f) us
   unfolding sum
   any-sum c n old [] r m = any-none n
@@ -124,7 +130,12 @@ module _ {N : Network} {heavier : ℕ → ℕ → Bool} (O : Lawful N heavier) (
       way : (q : ℕ) → under c q ≡ true → (eqb q c ≡ true) ⊎ (any-of under (donors N c) q ≡ true)
       way q h =
           let r = under-true c q h in
-          elim (pass-last (r .1)) [ inl e ↦ inl (eq-eqb q c e) | inr k ↦ inr (any-has under (donors N c) q (k .0) (O .donors-complete c (k .0) (k .1)) (under-test (k .0) q (r .0) (k .2))) ]
+          elim (pass-last (r .1)) [
+            | inl e ↦ inl (eq-eqb q c e)
+            | inr k ↦ inr
+                (any-has under (donors N c) q (k .0) (O .donors-complete c (k .0) (k .1))
+                (under-test (k .0) q (r .0) (k .2)))
+          ]
 
       down : (q : ℕ) → any-of under (donors N c) q ≡ true → under c q ≡ true
       down q h =

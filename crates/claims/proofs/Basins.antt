@@ -1,4 +1,5 @@
--- The third demand and the outlet rule for any basin: any areas, any number of mouths taken, any rule for counting mouths that is closed upwards.
+-- The third demand and the outlet rule for any basin: any areas, any number of mouths taken, any rule for counting
+-- mouths that is closed upwards.
 use mathlib.Core.Path.{_≡_, refl, sym, _∙_}
 use mathlib.Core.Bool.{true, true≢false}
 use mathlib.Core.List.{List}
@@ -81,18 +82,21 @@ module _ {N : Network} {inside : ℕ → Type 0} {outlet : ℕ} (B : Basin N ins
   own-outlet c i = end-own (all-end (B .forest) c) i
 
   -- the one-outlet statement
-  pub units-drain : (depth : ℕ) (w : List ℕ) (c : ℕ) → Shares inside (digitsIn N outlet depth) w c → OneOutlet (N .next) inside (digitsIn N outlet depth) w
+  pub units-drain : (depth : ℕ) (w : List ℕ) (c : ℕ) → Shares inside (digitsIn N outlet depth) w c
+      → OneOutlet (N .next) inside (digitsIn N outlet depth) w
   units-drain depth = unit-outlet O inside outlet depth drain upstream-inside
 
   -- the outlet rule, for the outlet that the definition of units gives
   pub named-rule : (depth p q : ℕ) → inside p → inside q
       → (digitsIn N outlet depth p ≡ digitsIn N outlet depth q)
       ⊎ (Parted (digitsIn N outlet depth p) (digitsIn N outlet depth q)
-      × (Passes (N .next) q (unitOutlet N depth (river N outlet) p) ↔ Rule (digitsIn N outlet depth p) (digitsIn N outlet depth q)))
+      × (Passes (N .next) q (unitOutlet N depth (river N outlet) p) ↔ Rule (digitsIn N outlet depth p)
+      (digitsIn N outlet depth q)))
   named-rule depth p q i j = outlet-rule O outlet depth p q (drain p i) (drain q j)
 
   pub named : (depth p : ℕ) → inside p
-      → DrainsTo (N .next) (Shares inside (digitsIn N outlet depth) (digitsIn N outlet depth p)) (unitOutlet N depth (river N outlet) p)
+      → DrainsTo (N .next) (Shares inside (digitsIn N outlet depth) (digitsIn N outlet depth p))
+      (unitOutlet N depth (river N outlet) p)
   named depth = named-outlet O inside outlet depth drain upstream-inside
 
   pub outlet-rule-holds : (depth : ℕ) → OutletRule (N .next) inside (digitsIn N outlet depth)
@@ -108,7 +112,8 @@ module _ {N : Network} {inside : ℕ → Type 0} {outlet : ℕ} (B : Basin N ins
   demand-three-holds all depth = record {
     labels-part = λ p q i j d. elim (named-rule depth p q i j) [ inl e ↦ absurd (d e) | inr r ↦ parted-at (r .0) ];
     cell-rule = λ p q i j short k at.
-        elim (cell-rule O outlet depth p q (drain p i) (drain q j) no-mouth) [ inl e ↦ absurd (part-differs at e) | inr r ↦ both-ways (r .1 short) at ];
+        elim (cell-rule O outlet depth p q (drain p i) (drain q j) no-mouth)
+        [ inl e ↦ absurd (part-differs at e) | inr r ↦ both-ways (r .1 short) at ];
     one-outlet = units-drain depth;
   }
     where
@@ -118,9 +123,11 @@ module _ {N : Network} {inside : ℕ → Type 0} {outlet : ℕ} (B : Basin N ins
           true≢false (sym (all v (B .forest .from-inside v (g .0) (g .1))) ∙ finished-none N R e v m)
 
   -- at any depth: water that passes p meets the rule, so a rule that is not met is a sure No
-  pub passes-rule : (depth p q : ℕ) → inside p → inside q → (k : ℕ) → PartAt (digitsIn N outlet depth p) (digitsIn N outlet depth q) k
+  pub passes-rule : (depth p q : ℕ) → inside p → inside q → (k : ℕ)
+      → PartAt (digitsIn N outlet depth p) (digitsIn N outlet depth q) k
       → Passes (N .next) q p → RuleAt (digitsIn N outlet depth p) (digitsIn N outlet depth q) k
   passes-rule depth p q i j k at h =
       let o = named depth p i in
       let w = o .drains p (record { is-inside = i; begins = begins-all (digitsIn N outlet depth p) }) in
-      (outlet-rule-holds depth .rule p q i j (unitOutlet N depth (river N outlet) p) o k at) .0 (pass-trans h (drains-passes w))
+      (outlet-rule-holds depth .rule p q i j (unitOutlet N depth (river N outlet) p) o k at) .0
+      (pass-trans h (drains-passes w))

@@ -48,7 +48,8 @@ module _ (x y : List ℕ) (k : ℕ) where
       odd-from : every isOdd (drop k x) ≡ true → (j : ℕ) → k ≤ j → j < length x → isOdd (getD x j 0) ≡ true
       odd-from f j l m =
           let s : k + (j - k) ≡ j = omega arith in
-          let d : isOdd (getD (drop k x) (j - k) 0) ≡ true = all-odd-at (drop k x) f (j - k) (rw (length-drop k x) (omega arith)) in
+          let d : isOdd (getD (drop k x) (j - k) 0) ≡ true = all-odd-at (drop k x) f (j - k)
+          (rw (length-drop k x) (omega arith)) in
           rw (getD-drop, s) at d
 
   pub rule-test : RuleAt x y k → ruleAt k x y ≡ true
@@ -71,8 +72,11 @@ module _ (S : Sheet) (L : Lent) (accepted : outcome S L ≡ Accepted) (p q : ℕ
   abbrev labels : List ℕ
   labels = lentAfter S L .labels
 
-  pub the-answer : asked S labels p q ≡ cond (eqb (labelAt labels p) (labelAt labels q)) Same (answerUnequal (S .depth) (labelAt labels p) (labelAt labels q))
-  the-answer = flow-labels (S .depth) (labelAt labels p) (labelAt labels q) (checks S L accepted .depth) (is-label S L accepted p i) (is-label S L accepted q j)
+  pub the-answer : asked S labels p q ≡ cond (eqb (labelAt labels p) (labelAt labels q)) Same
+      (answerUnequal (S .depth) (labelAt labels p) (labelAt labels q))
+  the-answer =
+      flow-labels (S .depth) (labelAt labels p) (labelAt labels q) (checks S L accepted .depth)
+      (is-label S L accepted p i) (is-label S L accepted q j)
 
 -- an answer by the place where labels part
 pub data Answered (depth : ℕ) (x y : List ℕ) (k : ℕ) : Flow → Type 0 where
@@ -80,11 +84,13 @@ pub data Answered (depth : ℕ) (x y : List ℕ) (k : ℕ) : Flow → Type 0 whe
   answered-undecided : RuleAt x y k → Answered depth x y k Undecided
   answered-no : ¬ RuleAt x y k → Answered depth x y k No
 
-pub answer-at : (depth : ℕ) (x y : List ℕ) (k : ℕ) → PartAt x y k → Answered depth x y k (answerAt depth x y (partAt x y))
+pub answer-at : (depth : ℕ) (x y : List ℕ) (k : ℕ) → PartAt x y k
+    → Answered depth x y k (answerAt depth x y (partAt x y))
 unfolding answerAt
 answer-at depth x y k t = rw (part-found x y k t) (go (ruleAt k x y) refl (ltb (length x) depth) refl)
   where
-    go : (a : Bool) → ruleAt k x y ≡ a → (b : Bool) → ltb (length x) depth ≡ b → Answered depth x y k (cond a (cond b Yes Undecided) No)
+    go : (a : Bool) → ruleAt k x y ≡ a → (b : Bool) → ltb (length x) depth ≡ b
+        → Answered depth x y k (cond a (cond b Yes Undecided) No)
     go true e true f = answered-yes (rule-true x y k e) (ltb-true (length x) depth f)
     go true e false f = answered-undecided (rule-true x y k e)
     go false e b f = answered-no (λ r. true≢false (sym (rule-test x y k r) ∙ e))

@@ -40,7 +40,8 @@ module _ {next : ℕ → Next} where
   -- more fuel changes nothing
   steps-more : {n c : ℕ} → Ends next n c → steps next (suc n) c ≡ steps next n c
   steps-more (ends-here {n = n} {c = c} e) = steps-off next (suc (suc n)) c e ∙ sym (steps-off next (suc n) c e)
-  steps-more (ends-after {n = n} {c = c} {r = r} e w) = steps-to next (suc n) c r e ∙ ap suc (steps-more w) ∙ sym (steps-to next n c r e)
+  steps-more (ends-after {n = n} {c = c} {r = r} e w) = steps-to next (suc n) c r e ∙ ap suc (steps-more w) ∙ sym
+      (steps-to next n c r e)
 
   pub steps-short : {n c : ℕ} → Ends next n c → steps next n c < n
   steps-short (ends-here {n = n} {c = c} e) = omega (arith, steps-off next (suc n) c e)
@@ -57,7 +58,8 @@ module _ {next : ℕ → Next} where
   pub no-round : {k c : ℕ} → Ends next k c → (r : ℕ) → next c ≡ To r → Passes next r c → ⊥
   no-round (ends-here e) r f p = let z : _≡_ {A = ℕ} 0 1 = cc in omega arith
   no-round (ends-after {r = s} e w) r f here = let g : next s ≡ To s = cc in no-round w s g here
-  no-round (ends-after {r = s} e w) r f (there {r = t} g h) = let j : next s ≡ To t = cc in no-round w t j (pass-trans h (there e here))
+  no-round (ends-after {r = s} e w) r f (there {r = t} g h) = let j : next s ≡ To t = cc in no-round w t j
+      (pass-trans h (there e here))
 
 module _ (next : ℕ → Next) where
   pub passes-self : (k c : ℕ) → passes next k c c ≡ true
@@ -75,19 +77,24 @@ module _ (next : ℕ → Next) where
 
 module _ {next : ℕ → Next} where
   -- fewer steps than cells on the way
-  steps-count : (n : ℕ) {k c : ℕ} → Ends next k c → ((x : ℕ) → Passes next c x → x < n) → steps next k c < count n (passes next k c)
+  steps-count : (n : ℕ) {k c : ℕ} → Ends next k c → ((x : ℕ) → Passes next c x → x < n)
+      → steps next k c < count n (passes next k c)
   steps-count n (ends-here {n = k} {c = c} e) b =
-      let z = count-some n (passes next (suc k) c) c (passes-self next (suc k) c) (b c here) in omega (arith, steps-off next (suc k) c e)
+      let z = count-some n (passes next (suc k) c) c (passes-self next (suc k) c) (b c here) in
+      omega (arith, steps-off next (suc k) c e)
   steps-count n (ends-after {n = k} {c = c} {r = r} e w) b =
       let i = steps-count n w (λ x p. b x (there e p)) in
-      let off-way : passes next k r c ≡ false = not-true _ (λ h. no-round (ends-after e w) r e (passes-true next k r c h)) in
-      let j = count-less n (passes next (suc k) c) (passes next k r) (λ x h. passes-next next k c r x e h) c (passes-self next (suc k) c) off-way (b c here) in
+      let off-way : passes next k r c ≡ false = not-true _
+      (λ h. no-round (ends-after e w) r e (passes-true next k r c h)) in
+      let j = count-less n (passes next (suc k) c) (passes next k r) (λ x h. passes-next next k c r x e h) c
+      (passes-self next (suc k) c) off-way (b c here) in
       omega (arith, steps-to next k c r e)
 
   trim : (m : ℕ) {k c : ℕ} → Ends next k c → steps next k c < m → Ends next m c
   trim zero w l = absurd (omega arith)
   trim (suc m) (ends-here e) l = ends-here e
-  trim (suc m) (ends-after {n = k} {c = c} {r = r} e w) l = ends-after e (trim m w (omega (arith, steps-to next k c r e)))
+  trim (suc m) (ends-after {n = k} {c = c} {r = r} e w) l = ends-after e
+      (trim m w (omega (arith, steps-to next k c r e)))
 
   pub ends-within : (n : ℕ) {k c : ℕ} → Ends next k c → ((x : ℕ) → Passes next c x → x < n) → Ends next n c
   ends-within n {k} {c} w b = trim n w (omega (arith, steps-count n w b, count-le n (passes next k c)))
@@ -187,5 +194,7 @@ module _ (next : ℕ → Next) (p : ℕ) where
       passes-next next n q r p f (until-steps w (rw same at (k .2)))
 
 -- p on q's way is among the first n + 1 cells of it, if all cells of the way are below n; circles included
-pub passes-enough : {next : ℕ → Next} (n : ℕ) {q p : ℕ} → ((x : ℕ) → Passes next q x → x < n) → Passes next q p → passes next n q p ≡ true
-passes-enough {next} n {q} {p} b h = until-steps next p (ends-within n ((until-ends next p h) .1) (λ x k. b x (until-passes next p k))) h
+pub passes-enough : {next : ℕ → Next} (n : ℕ) {q p : ℕ} → ((x : ℕ) → Passes next q x → x < n) → Passes next q p
+    → passes next n q p ≡ true
+passes-enough {next} n {q} {p} b h =
+    until-steps next p (ends-within n ((until-ends next p h) .1) (λ x k. b x (until-passes next p k))) h

@@ -47,7 +47,8 @@ module _ (G : Grid) where
   unfolding undrained
   undrained-parts c e = go (inside G c) refl (reachesOutlet (next G) (cells G) c) refl e
     where
-      go : (a : Bool) → inside G c ≡ a → (b : Bool) → reachesOutlet (next G) (cells G) c ≡ b → cond a (not b) false ≡ true
+      go : (a : Bool) → inside G c ≡ a → (b : Bool) → reachesOutlet (next G) (cells G) c ≡ b
+          → cond a (not b) false ≡ true
           → (inside G c ≡ true) × (reachesOutlet (next G) (cells G) c ≡ false)
       go true x true y e = absurd (true≢false (sym e))
       go true x false y e = (x, y)
@@ -76,11 +77,15 @@ module _ (G : Grid) where
 
       back-way : NeverComes G c → undrained G c ≡ true
       back-way n =
-          undrained-made c (n .is-inside) (not-true (reachesOutlet (next G) (cells G) c) (λ r. n .never (ends-comes c (n .is-inside) (reaches-ends (next G) (cells G) c r))))
+          undrained-made c (n .is-inside)
+          (not-true (reachesOutlet (next G) (cells G) c)
+          (λ r. n .never (ends-comes c (n .is-inside) (reaches-ends (next G) (cells G) c r))))
 
   comes-to : (c : ℕ) → inside G c ≡ true → (o : ComesToOutlet G c) → outletOf G c ≡ o .cell
   unfolding outletOf
-  comes-to c i o = ends-end (ends-within (cells G) ((comes-ends c o) .1) (way-below c i)) (o .passed) ((outlet-is G (o .cell) (o .is-outlet)) .1)
+  comes-to c i o =
+      ends-end (ends-within (cells G) ((comes-ends c o) .1) (way-below c i)) (o .passed)
+      ((outlet-is G (o .cell) (o .is-outlet)) .1)
 
   pub fuel-is-enough : FuelIsEnough G
   fuel-is-enough = record { passes-is = passes-is; undrained-is = undrained-is; outlet-is = comes-to }
@@ -114,7 +119,8 @@ module _ (S : Sheet) where
   unfolding area
   area-inside c i = go (inside G c) i
     where
-      go : (b : Bool) → b ≡ true → cond b (sumOver (cells G) (drainsInto G c) (weight S)) 0 ≡ sumOver (cells G) (drainsInto G c) (weight S)
+      go : (b : Bool) → b ≡ true
+          → cond b (sumOver (cells G) (drainsInto G c) (weight S)) 0 ≡ sumOver (cells G) (drainsInto G c) (weight S)
       go b e = rw e
 
   weight-some : (c : ℕ) → 1 ≤ weight S c
@@ -127,7 +133,13 @@ module _ (S : Sheet) where
   area-count c i = area-inside c i ∙ sym (count-sum (cells G) (drainsInto G c))
 
   pub area-least : (c : ℕ) → inside G c ≡ true → 1 ≤ area S c
-  area-least c i = omega (arith, area-inside c i, weight-some c, sum-has (cells G) (drainsInto G c) (weight S) c (drains-itself G c i) (inside-lt G c i))
+  area-least c i =
+      omega (
+        arith,
+        area-inside c i,
+        weight-some c,
+        sum-has (cells G) (drainsInto G c) (weight S) c (drains-itself G c i) (inside-lt G c i),
+      )
 
   pub area-most : (c : ℕ) → inside G c ≡ true → area S c ≤ sumOver (cells G) (inside G) (weight S)
   area-most c i = rw (area-inside c i) (sum-mono (cells G) (inside G) (drainsInto G c) (weight S) (drains-inside G c))
@@ -140,5 +152,6 @@ module _ (S : Sheet) where
   unfolding network drainsInto
   area-adds F c i =
       let s = area-sum (lawful F) (inside G) (weight S) c i (inside-lt G c i) in
-      let d = sum-same (area S) (λ u. sumOver (cells G) (drainsInto G u) (weight S)) (donors (network S) c) (λ u m. area-inside u (next-goes G u (lawful F .donor-steps c u m) .from-inside)) in
+      let d = sum-same (area S) (λ u. sumOver (cells G) (drainsInto G u) (weight S)) (donors (network S) c)
+      (λ u m. area-inside u (next-goes G u (lawful F .donor-steps c u m) .from-inside)) in
       area-inside c i ∙ s ∙ (rw d refl)

@@ -59,12 +59,17 @@ module _ (area : ℕ → ℕ) where
   unfolding heavierBy
   heavier-total u v n h = go (eqb (area u) (area v)) refl h
     where
-      go : (b : Bool) → eqb (area u) (area v) ≡ b → cond b (ltb v u) (ltb (area v) (area u)) ≡ false → heavierBy area v u ≡ true
-      go true e h = let k = ltb-false v u h in let a = eqb-true (area u) (area v) e in more-test v u (later (sym a) (omega arith))
-      go false e h = let k = ltb-false (area v) (area u) h in let d : area u ≢ area v = eqb-false (area u) (area v) e in more-test v u (larger (omega arith))
+      go : (b : Bool) → eqb (area u) (area v) ≡ b → cond b (ltb v u) (ltb (area v) (area u)) ≡ false
+          → heavierBy area v u ≡ true
+      go true e h =
+          let k = ltb-false v u h in let a = eqb-true (area u) (area v) e in more-test v u (later (sym a) (omega arith))
+      go false e h =
+          let k = ltb-false (area v) (area u) h in
+          let d : area u ≢ area v = eqb-false (area u) (area v) e in more-test v u (larger (omega arith))
 
 -- a cell that is heavier than one of an area that counts has such an area
-pub heavier-counts : (area : ℕ → ℕ) (least u v : ℕ) → heavierBy area u v ≡ true → leb least (area v) ≡ true → leb least (area u) ≡ true
+pub heavier-counts : (area : ℕ → ℕ) (least u v : ℕ) → heavierBy area u v ≡ true → leb least (area v) ≡ true
+    → leb least (area u) ≡ true
 heavier-counts area least u v h k = go (more area u v h) (leb-true least (area v) k)
   where
     go : More area u v → least ≤ area v → leb least (area u) ≡ true
@@ -88,7 +93,9 @@ module _ (heavier : ℕ → ℕ → Bool) where
     where
       go : (b : Bool) → (List·Memᴰ x (insert heavier u vs) → (x ≡ u) ⊎ List·Memᴰ x vs)
           → List·Memᴰ x (cond b (v ∷ insert heavier u vs) (u ∷ v ∷ vs)) → (x ≡ u) ⊎ List·Memᴰ x (v ∷ vs)
-      go true f m = elim (List·Memᴰ·cases-cons m) [ inl e ↦ inr (List·Memᴰ·head e) | inr k ↦ elim (f k) [ inl e ↦ inl e | inr j ↦ inr (List·Memᴰ·tail j) ] ]
+      go true f m =
+          elim (List·Memᴰ·cases-cons m)
+          [ inl e ↦ inr (List·Memᴰ·head e) | inr k ↦ elim (f k) [ inl e ↦ inl e | inr j ↦ inr (List·Memᴰ·tail j) ] ]
       go false f m = List·Memᴰ·cases-cons m
 
   insert-has : (u : ℕ) (vs : List ℕ) (x : ℕ) → (x ≡ u) ⊎ List·Memᴰ x vs → List·Memᴰ x (insert heavier u vs)
@@ -99,15 +106,18 @@ module _ (heavier : ℕ → ℕ → Bool) where
       go : (b : Bool) → ((x ≡ u) ⊎ List·Memᴰ x vs → List·Memᴰ x (insert heavier u vs))
           → (x ≡ u) ⊎ List·Memᴰ x (v ∷ vs) → List·Memᴰ x (cond b (v ∷ insert heavier u vs) (u ∷ v ∷ vs))
       go true f (inl e) = List·Memᴰ·tail (f (inl e))
-      go true f (inr k) = elim (List·Memᴰ·cases-cons k) [ inl e ↦ List·Memᴰ·head e | inr j ↦ List·Memᴰ·tail (f (inr j)) ]
+      go true f (inr k) =
+          elim (List·Memᴰ·cases-cons k) [ inl e ↦ List·Memᴰ·head e | inr j ↦ List·Memᴰ·tail (f (inr j)) ]
       go false f (inl e) = List·Memᴰ·head e
       go false f (inr k) = List·Memᴰ·tail k
 
   module _ (total : (u v : ℕ) → u ≢ v → heavier u v ≡ false → heavier v u ≡ true) where
-    insert-rise : (old : Option ℕ) (u : ℕ) (vs : List ℕ) → (List·Memᴰ u vs → ⊥) → Above heavier old u → Rising heavier old vs → Rising heavier old (insert heavier u vs)
+    insert-rise : (old : Option ℕ) (u : ℕ) (vs : List ℕ) → (List·Memᴰ u vs → ⊥) → Above heavier old u
+        → Rising heavier old vs → Rising heavier old (insert heavier u vs)
     unfolding insert
     insert-rise old u [] n a r = rising-cons a rising-end
-    insert-rise old u (v ∷ vs) n a (rising-cons b r) = go (heavier u v) refl (λ h. insert-rise (some v) u vs (λ m. n (List·Memᴰ·tail m)) h r)
+    insert-rise old u (v ∷ vs) n a (rising-cons b r) =
+        go (heavier u v) refl (λ h. insert-rise (some v) u vs (λ m. n (List·Memᴰ·tail m)) h r)
       where
         go : (t : Bool) → heavier u v ≡ t → (heavier u v ≡ true → Rising heavier (some v) (insert heavier u vs))
             → Rising heavier old (cond t (v ∷ insert heavier u vs) (u ∷ v ∷ vs))
@@ -121,7 +131,8 @@ module _ (next : ℕ → Next) (heavier : ℕ → ℕ → Bool) where
   donors-only (suc n) c u m = go (endsOn (next n) c) refl (donors-only n c u) m
     where
       go : (b : Bool) → endsOn (next n) c ≡ b → (List·Memᴰ u (donorsBelow next heavier n c) → (u < n) × (next u ≡ To c))
-          → List·Memᴰ u (cond b (insert heavier n (donorsBelow next heavier n c)) (donorsBelow next heavier n c)) → (u < suc n) × (next u ≡ To c)
+          → List·Memᴰ u (cond b (insert heavier n (donorsBelow next heavier n c)) (donorsBelow next heavier n c)) →
+          (u < suc n) × (next u ≡ To c)
       go true e f m = elim (insert-mem heavier n (donorsBelow next heavier n c) u m)
           [ inl s ↦ (omega arith, rw s (ends-true (next n) c e)) | inr k ↦ let r = f k in (omega (arith, r .0), r .1) ]
       go false e f m = let r = f m in (omega (arith, r .0), r .1)
@@ -131,21 +142,29 @@ module _ (next : ℕ → Next) (heavier : ℕ → ℕ → Bool) where
   donors-all zero c u l e = absurd (omega arith)
   donors-all (suc n) c u l e = go (eqb u n) refl (λ k. donors-all n c u k e)
     where
-      keep : (b : Bool) → List·Memᴰ u (donorsBelow next heavier n c) → List·Memᴰ u (cond b (insert heavier n (donorsBelow next heavier n c)) (donorsBelow next heavier n c))
+      keep : (b : Bool) → List·Memᴰ u (donorsBelow next heavier n c)
+          → List·Memᴰ u (cond b (insert heavier n (donorsBelow next heavier n c)) (donorsBelow next heavier n c))
       keep true m = insert-has heavier n (donorsBelow next heavier n c) u (inr m)
       keep false m = m
 
-      go : (b : Bool) → eqb u n ≡ b → (u < n → List·Memᴰ u (donorsBelow next heavier n c)) → List·Memᴰ u (cond (endsOn (next n) c) (insert heavier n (donorsBelow next heavier n c)) (donorsBelow next heavier n c))
+      go : (b : Bool) → eqb u n ≡ b → (u < n → List·Memᴰ u (donorsBelow next heavier n c))
+          → List·Memᴰ u
+          (cond (endsOn (next n) c) (insert heavier n (donorsBelow next heavier n c)) (donorsBelow next heavier n c))
       go true x f =
           let s : u ≡ n = eqb-true u n x in
           rw (ends-at (next n) c (rw s at e)) (insert-has heavier n (donorsBelow next heavier n c) u (inl s))
       go false x f = let d : u ≢ n = eqb-false u n x in keep (endsOn (next n) c) (f (omega arith))
 
-  pub donors-rise : ((u v : ℕ) → u ≢ v → heavier u v ≡ false → heavier v u ≡ true) → (n c : ℕ) → Rising heavier none (donorsBelow next heavier n c)
+  pub donors-rise : ((u v : ℕ) → u ≢ v → heavier u v ≡ false → heavier v u ≡ true) → (n c : ℕ)
+      → Rising heavier none (donorsBelow next heavier n c)
   unfolding donorsBelow
   donors-rise total zero c = rising-end
   donors-rise total (suc n) c = go (endsOn (next n) c) (donors-rise total n c)
     where
-      go : (b : Bool) → Rising heavier none (donorsBelow next heavier n c) → Rising heavier none (cond b (insert heavier n (donorsBelow next heavier n c)) (donorsBelow next heavier n c))
-      go true r = insert-rise heavier total none n (donorsBelow next heavier n c) (λ m. let k = (donors-only n c n m) .0 in omega arith) tt r
+      go : (b : Bool) → Rising heavier none (donorsBelow next heavier n c)
+          → Rising heavier none
+          (cond b (insert heavier n (donorsBelow next heavier n c)) (donorsBelow next heavier n c))
+      go true r =
+          insert-rise heavier total none n (donorsBelow next heavier n c)
+          (λ m. let k = (donors-only n c n m) .0 in omega arith) tt r
       go false r = r

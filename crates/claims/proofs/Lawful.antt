@@ -24,12 +24,14 @@ decided true f g = yes refl (f refl)
 decided false f g = no refl (λ a. true≢false (sym (g a)))
 
 module _ (next : ℕ → Next) where
-  onward-true : (x : Next) (f : ℕ → Bool) (q p : ℕ) → next q ≡ x → ((r : ℕ) → f r ≡ true → Passes next r p) → onward x false f ≡ true → Passes next q p
+  onward-true : (x : Next) (f : ℕ → Bool) (q p : ℕ) → next q ≡ x → ((r : ℕ) → f r ≡ true → Passes next r p)
+      → onward x false f ≡ true → Passes next q p
   unfolding onward
   onward-true (To r) f q p e g h = there e (g r h)
   onward-true Outlet f q p e g h = absurd (true≢false (sym h))
 
-  cond-true : (b : Bool) (w : Bool) (q p : ℕ) → eqb q p ≡ b → (w ≡ true → Passes next q p) → cond b true w ≡ true → Passes next q p
+  cond-true : (b : Bool) (w : Bool) (q p : ℕ) → eqb q p ≡ b → (w ≡ true → Passes next q p) → cond b true w ≡ true
+      → Passes next q p
   cond-true true w q p e g h = rw (eqb-true q p e) here
   cond-true false w q p e g h = g h
 
@@ -37,7 +39,8 @@ module _ (next : ℕ → Next) where
   unfolding passes
   passes-true zero q p h = rw (eqb-true q p h) here
   passes-true (suc n) q p h =
-      cond-true (eqb q p) _ q p refl (λ k. onward-true (next q) (λ r. passes next n r p) q p refl (λ r j. passes-true n r p j) k) h
+      cond-true (eqb q p) _ q p refl
+      (λ k. onward-true (next q) (λ r. passes next n r p) q p refl (λ r j. passes-true n r p j) k) h
 
   either : (b : Bool) {w : Bool} → w ≡ true → cond b true w ≡ true
   either true e = refl
@@ -64,13 +67,15 @@ module _ {N : Network} {heavier : ℕ → ℕ → Bool} (O : Lawful N heavier) w
   in-test [] c = no refl in-none
   in-test (stem s ∷ R) c = both (decided (eqb c s) (eqb-true c s) (eq-eqb c s)) (in-test R c)
     where
-      both : {a b : Bool} → Test a (c ≡ s) → Test b (In (N .next) R c) → Test (cond a true b) (In (N .next) (stem s ∷ R) c)
+      both : {a b : Bool} → Test a (c ≡ s) → Test b (In (N .next) R c)
+          → Test (cond a true b) (In (N .next) (stem s ∷ R) c)
       both (yes x h) k = rw x (yes refl (rw h (at-head is-stem)))
       both (no x h) (yes y k) = rw (x, y) (yes refl (in-tail k))
       both (no x h) (no y k) = rw (x, y) (no refl (λ i. elim (in-cons i) [ inl j ↦ h (has-stem j) | inr j ↦ k j ]))
   in-test (mouth v ∷ R) c = both (passes-test c v) (in-test R c)
     where
-      both : {a b : Bool} → Test a (Passes (N .next) c v) → Test b (In (N .next) R c) → Test (cond a true b) (In (N .next) (mouth v ∷ R) c)
+      both : {a b : Bool} → Test a (Passes (N .next) c v) → Test b (In (N .next) R c)
+          → Test (cond a true b) (In (N .next) (mouth v ∷ R) c)
       both (yes x h) k = rw x (yes refl (at-head (is-under h)))
       both (no x h) (yes y k) = rw (x, y) (yes refl (in-tail k))
       both (no x h) (no y k) = rw (x, y) (no refl (λ i. elim (in-cons i) [ inl j ↦ h (has-under j) | inr j ↦ k j ]))

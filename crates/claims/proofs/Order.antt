@@ -27,7 +27,8 @@ module _ {heavier : ℕ → ℕ → Bool}
 
 module _ {next : ℕ → Next} {heavier : ℕ → ℕ → Bool}
     (lighter : (u v w : ℕ) → heavier w v ≡ true → heavier v u ≡ true → heavier w u ≡ true) where
-  pub under : {s : ℕ} {old : Option ℕ} {R : Run} {c : ℕ} → Chain next heavier s old R → In next R c → Under next heavier s old c
+  pub under : {s : ℕ} {old : Option ℕ} {R : Run} {c : ℕ} → Chain next heavier s old R → In next R c
+      → Under next heavier s old c
   under (chain-stem {t = t} e a w) (at-head is-stem) = record { donor = t; steps = e; above = a; passed = here }
   under (chain-stem {t = t} e a w) (in-tail i) =
       let u = under w i in
@@ -38,7 +39,8 @@ module _ {next : ℕ → Next} {heavier : ℕ → ℕ → Bool}
       record { donor = u .donor; steps = u .steps; above = above-trans lighter old (u .above) a; passed = u .passed }
 
   -- every cell of the run passes the stem cell before it
-  pub chain-passes : {s : ℕ} {old : Option ℕ} {R : Run} {c : ℕ} → Chain next heavier s old R → In next R c → Passes next c s
+  pub chain-passes : {s : ℕ} {old : Option ℕ} {R : Run} {c : ℕ} → Chain next heavier s old R → In next R c
+      → Passes next c s
   chain-passes w i = let u = under w i in pass-trans (u .passed) (there (u .steps) here)
 
 pub data Ordered (next : ℕ → Next) : Run → Type 0 where
@@ -57,7 +59,8 @@ no-stem (stem-there h) = nil-stem h
 module _ {next : ℕ → Next} where
   pub ordered-left : (A B : Run) → Ordered next (A ++ B) → Ordered next A
   ordered-left [] B o = ordered-end
-  ordered-left (e ∷ A) B (ordered-cons n f o) = ordered-cons (λ q p h i. n q p h (in-left B i)) (λ s q h i. f s q h (in-left B i)) (ordered-left A B o)
+  ordered-left (e ∷ A) B (ordered-cons n f o) =
+      ordered-cons (λ q p h i. n q p h (in-left B i)) (λ s q h i. f s q h (in-left B i)) (ordered-left A B o)
 
   pub ordered-right : (A B : Run) → Ordered next (A ++ B) → Ordered next B
   ordered-right [] B o = o
@@ -77,13 +80,15 @@ module _ {next : ℕ → Next} {heavier : ℕ → ℕ → Bool}
     (dist : ℕ → ℕ) (falls : (u r : ℕ) → next u ≡ To r → dist u ≡ suc (dist r))
     (lighter : (u v w : ℕ) → heavier w v ≡ true → heavier v u ≡ true → heavier w u ≡ true)
     (unlike : (u : ℕ) → heavier u u ≡ false) where
-  stem-not : {s : ℕ} {R : Run} → Chain next heavier s none R → (q p : ℕ) → Has next (stem s) q → In next R p → ¬ Passes next q p
+  stem-not : {s : ℕ} {R : Run} → Chain next heavier s none R → (q p : ℕ) → Has next (stem s) q → In next R p
+      → ¬ Passes next q p
   stem-not {s} w q p is-stem i h =
       let u = under lighter w i in
       let k = pass-dist dist falls (pass-trans h (u .passed)) in
       omega (arith, falls (u .donor) s (u .steps))
 
-  mouth-not : {s v : ℕ} {R : Run} → next v ≡ To s → Chain next heavier s (some v) R → (q p : ℕ) → Has next (mouth v) q → In next R p → ¬ Passes next q p
+  mouth-not : {s v : ℕ} {R : Run} → next v ≡ To s → Chain next heavier s (some v) R → (q p : ℕ) → Has next (mouth v) q
+      → In next R p → ¬ Passes next q p
   mouth-not {s} {v} e w q p (is-under k) i h =
       let u = under lighter w i in
       let level : dist (u .donor) ≡ dist v = omega (arith, falls (u .donor) s (u .steps), falls v s e) in
@@ -93,7 +98,8 @@ module _ {next : ℕ → Next} {heavier : ℕ → ℕ → Bool}
       let b : heavier v v ≡ false = unlike v in
       true≢false (cc)
 
-  stem-all : {t : ℕ} {R : Run} → Chain next heavier t none R → (s q : ℕ) → StemOf (stem t ∷ []) s → In next R q → Passes next q s
+  stem-all : {t : ℕ} {R : Run} → Chain next heavier t none R → (s q : ℕ) → StemOf (stem t ∷ []) s → In next R q
+      → Passes next q s
   stem-all w s q stem-here i = chain-passes lighter w i
 
   pub chain-ordered : {s : ℕ} {old : Option ℕ} {R : Run} → Chain next heavier s old R → Ordered next R

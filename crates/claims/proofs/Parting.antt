@@ -46,7 +46,14 @@ judged (less {a = a} {b = b} l f) =
 judged (more {a = a} {b = b} l f) =
     let n : a ≢ b = omega arith in
     inr (parted-now n, λ g. (λ w. absurd (f w), λ r. let s = (rule-first n r) .0 in absurd (omega arith)))
-judged (on v) = elim (judged v) [ inl e ↦ inl (rw e) | inr k ↦ inr (parted-on (k .0), λ g. (λ w. rule-on ((k .1 g) .0 w), λ r. (k .1 g) .1 (rule-rest r))) ]
+judged (on v) =
+    elim (judged v) [
+      | inl e ↦ inl (rw e)
+      | inr k ↦ inr (
+        parted-on (k .0),
+        λ g. (λ w. rule-on ((k .1 g) .0 w), λ r. (k .1 g) .1 (rule-rest r)),
+      )
+    ]
 
 -- labels that part are not equal, and neither begins the other
 pub parted-apart : {x y : List ℕ} → Parted x y → x ≢ y
@@ -57,7 +64,8 @@ parted-apart p e = irr (rw e at p)
     irr (parted-on r) = irr r
 
 part-next : {a : ℕ} {x y : List ℕ} {i : ℕ} → PartAt x y i → PartAt (a ∷ x) (a ∷ y) (suc i)
-part-next {a} {x} {y} {i} p = record { in-x = omega (arith, p .in-x); in-y = omega (arith, p .in-y); before = go; differ = p .differ }
+part-next {a} {x} {y} {i} p =
+    record { in-x = omega (arith, p .in-x); in-y = omega (arith, p .in-y); before = go; differ = p .differ }
   where
     go : (j : ℕ) → j < suc i → getD (a ∷ x) j 0 ≡ getD (a ∷ y) j 0
     go zero l = refl
@@ -75,7 +83,8 @@ part-prev {a} {b} {x} {y} {i} p = (
 )
 
 pub parted-at : {x y : List ℕ} → Parted x y → (i : ℕ) × PartAt x y i
-parted-at (parted-now n) = (0, record { in-x = omega arith; in-y = omega arith; before = λ j l. absurd (omega arith); differ = n })
+parted-at (parted-now n) =
+    (0, record { in-x = omega arith; in-y = omega arith; before = λ j l. absurd (omega arith); differ = n })
 parted-at (parted-on p) = let r = parted-at p in (suc (r .0), part-next (r .1))
 
 pub at-parted : (x y : List ℕ) (i : ℕ) → PartAt x y i → Parted x y
@@ -89,7 +98,8 @@ unfolding every
 all-odd-at [] h j l = absurd (omega arith)
 all-odd-at (a ∷ x) h j l = go (isOdd a) refl j l (all-odd-at x) h
   where
-    go : (b : Bool) → isOdd a ≡ b → (j : ℕ) → j < suc (length x) → (allOdd x ≡ true → (i : ℕ) → i < length x → isOdd (getD x i 0) ≡ true)
+    go : (b : Bool) → isOdd a ≡ b → (j : ℕ) → j < suc (length x)
+        → (allOdd x ≡ true → (i : ℕ) → i < length x → isOdd (getD x i 0) ≡ true)
         → cond b (allOdd x) false ≡ true → isOdd (getD (a ∷ x) j 0) ≡ true
     go true e zero l f h = e
     go true e (suc j) l f h = f h j (omega arith)
@@ -108,7 +118,8 @@ rule-at (rule-on {a = a} {x = x} r) (suc i) p =
     let s = rule-at r i ((part-prev p) .1) in
     record { smaller = s .smaller; odd = go (s .odd) }
   where
-    go : ((j : ℕ) → i ≤ j → j < length x → isOdd (getD x j 0) ≡ true) → (j : ℕ) → suc i ≤ j → j < suc (length x) → isOdd (getD (a ∷ x) j 0) ≡ true
+    go : ((j : ℕ) → i ≤ j → j < length x → isOdd (getD x j 0) ≡ true) → (j : ℕ) → suc i ≤ j → j < suc (length x)
+        → isOdd (getD (a ∷ x) j 0) ≡ true
     go f zero l m = absurd (omega arith)
     go f (suc j) l m = f j (omega arith) (omega arith)
 
@@ -118,7 +129,9 @@ at-rule (a ∷ x) [] i p r = absurd (omega (arith, p .in-y))
 at-rule (a ∷ x) (b ∷ y) zero p r = rule-now (r .smaller) (at-all-odd (a ∷ x) (λ j l. r .odd j (omega arith) l))
 at-rule (a ∷ x) (b ∷ y) (suc i) p r =
     let s = part-prev p in
-    rw (s .0) (rule-on (at-rule x y i (s .1) (record { smaller = r .smaller; odd = λ j l m. r .odd (suc j) (omega arith) (omega arith) })))
+    rw (s .0)
+    (rule-on
+    (at-rule x y i (s .1) (record { smaller = r .smaller; odd = λ j l m. r .odd (suc j) (omega arith) (omega arith) })))
 
 pub part-differs : {x y : List ℕ} {i : ℕ} → PartAt x y i → x ≢ y
 part-differs {x} {y} {i} p e = p .differ (ap (λ (l : List ℕ). getD l i 0) e)

@@ -40,7 +40,8 @@ unfolding refusedAt
 at-small (At c) rest m h b s = let l = b c refl in (h, omega arith)
 at-small Nothing rest m h b s = s
 
-none-small : {number : ℕ} (f : Found) (rest : Outcome) → number ≤ 7 → SmallRefusal rest → SmallRefusal (refusedIfNone number f rest)
+none-small : {number : ℕ} (f : Found) (rest : Outcome) → number ≤ 7 → SmallRefusal rest
+    → SmallRefusal (refusedIfNone number f rest)
 unfolding refusedIfNone
 none-small (At c) rest h s = s
 none-small Nothing rest h s = (h, omega arith)
@@ -59,7 +60,9 @@ refusal-small S L = go (sizesFit (S .grid .rows) (S .grid .cols)) refl (depthFit
   where
     go : (a : Bool) → sizesFit (S .grid .rows) (S .grid .cols) ≡ a → (b c : Bool)
         → SmallRefusal (cond a (cond b (cond c (outcomeOn (S .grid)) (Refused 3 0)) (Refused 2 0)) (Refused 1 0))
-    go true e true true = let most = rows-cols-most (S .grid .rows) (S .grid .cols) e in on-small (S .grid) (cells-most (most .0) (most .1))
+    go true e true true =
+        let most = rows-cols-most (S .grid .rows) (S .grid .cols) e in
+        on-small (S .grid) (cells-most (most .0) (most .1))
     go true e true false = (omega arith, omega arith)
     go true e false c = (omega arith, omega arith)
     go false e b c = (omega arith, omega arith)

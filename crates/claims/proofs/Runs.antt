@@ -62,7 +62,8 @@ module _ {next : ℕ → Next} where
   -- the way goes on through a donor, or has come to its end
   pub pass-last : {q p : ℕ} → Passes next q p → (q ≡ p) ⊎ ((u : ℕ) × (next u ≡ To p) × Passes next q u)
   pass-last here = inl refl
-  pass-last (there {q = q} e h) = elim (pass-last h) [ inl r ↦ inr (q, rw r at e, here) | inr k ↦ inr (k .0, k .1, there e (k .2)) ]
+  pass-last (there {q = q} e h) = elim
+      (pass-last h) [ inl r ↦ inr (q, rw r at e, here) | inr k ↦ inr (k .0, k .1, there e (k .2)) ]
 
   pub in-append : {c : ℕ} (A B : Run) → In next (A ++ B) c → In next A c ⊎ In next B c
   in-append [] B h = inr h
@@ -86,4 +87,5 @@ module _ {next : ℕ → Next} (dist : ℕ → ℕ) (falls : (u r : ℕ) → nex
   -- water that passes each of two cells goes from neither to the other and back
   pub pass-both : {q p : ℕ} → Passes next q p → Passes next p q → q ≡ p
   pass-both here k = refl
-  pass-both (there {q = q} {r = r} e h) k = let i = pass-dist h in let j = pass-dist k in absurd (omega (arith, falls q r e))
+  pass-both (there {q = q} {r = r} e h) k = let i = pass-dist h in let j = pass-dist k in absurd
+      (omega (arith, falls q r e))

@@ -1,5 +1,5 @@
--- What it says of a sheet that the outcome accepts it: every check is passed, and its cells are a basin with one outlet.
--- checks 1 to 7, passed
+-- What it says of a sheet that the outcome accepts it: every check is passed, and its cells are a basin with one
+-- outlet. checks 1 to 7, passed
 use mathlib.Core.Path.{_≡_, refl, sym, _∙_}
 use mathlib.Core.Bool.{Bool, true, false, cond, not, true≢false}
 use Prim.Native.Nat.{ℕ, suc, _≤_, _<_}
@@ -54,7 +54,8 @@ unfolding refusedAt
 not-found n (At c) e = let z : _≡_ {A = ℕ} 0 1 = cc in absurd (omega arith)
 not-found n Nothing e = (refl, e)
 
-found-one : (n : ℕ) (f : Found) {rest : Outcome} → refusedIfNone n f rest ≡ Accepted → ((c : ℕ) × (f ≡ At c)) × (rest ≡ Accepted)
+found-one : (n : ℕ) (f : Found) {rest : Outcome} → refusedIfNone n f rest ≡ Accepted
+    → ((c : ℕ) × (f ≡ At c)) × (rest ≡ Accepted)
 unfolding refusedIfNone
 found-one n (At c) e = ((c, refl), e)
 found-one n Nothing e = let z : _≡_ {A = ℕ} 0 1 = cc in absurd (omega arith)
@@ -79,7 +80,8 @@ module _ (G : Grid) where
   unfolding isOutlet
   outlet-is c e = go (inside G c) refl (next G c) refl e
     where
-      go : (b : Bool) → inside G c ≡ b → (x : Next) → next G c ≡ x → cond b (goesNowhere x) false ≡ true → (b ≡ true) × (x ≡ Outlet)
+      go : (b : Bool) → inside G c ≡ b → (x : Next) → next G c ≡ x → cond b (goesNowhere x) false ≡ true
+          → (b ≡ true) × (x ≡ Outlet)
       go true i Outlet n e = (refl, refl)
       go true i (To r) n e = absurd (true≢false (sym e))
       go false i x n e = absurd (true≢false (sym e))
@@ -100,8 +102,10 @@ module _ (G : Grid) where
       go true e = refl
       go false e = absurd (true≢false e)
 
-  -- the cells of a grid whose inside cells come to outlets are a forest, and a basin where there is one outlet, whatever their areas and the mouths that count
-  module _ (reaches : (c : ℕ) → inside G c ≡ true → reachesOutlet (next G) (cells G) c ≡ true) (area : ℕ → ℕ) (least split : ℕ) where
+  -- the cells of a grid whose inside cells come to outlets are a forest, and a basin where there is one outlet,
+  -- whatever their areas and the mouths that count
+  module _ (reaches : (c : ℕ) → inside G c ≡ true → reachesOutlet (next G) (cells G) c ≡ true) (area : ℕ → ℕ)
+      (least split : ℕ) where
     pub grid-forest : 0 < cells G → Forest (networkBy G area least split) (λ c. inside G c ≡ true)
     unfolding networkBy
     grid-forest some = record {
@@ -135,7 +139,9 @@ module _ (G : Grid) where
   -- the outlets of a sheet that has no second one
   module _ (P : PassedOn G) where
     some-end : (o : ℕ) × Passes (next G) (P .some-inside .0) o × (next G o ≡ Outlet)
-    some-end = let s = P .some-inside in ends-at (reaches-ends (next G) (cells G) (s .0) (drained-reaches (s .0) (s .2) (P .drained (s .0) (s .1))))
+    some-end =
+        let s = P .some-inside in
+        ends-at (reaches-ends (next G) (cells G) (s .0) (drained-reaches (s .0) (s .2) (P .drained (s .0) (s .1))))
 
     way-inside : {c x : ℕ} → inside G c ≡ true → Passes (next G) c x → inside G x ≡ true
     way-inside i here = i
@@ -152,7 +158,8 @@ module _ (G : Grid) where
     found-outlet (At k) e = (k, refl)
     found-outlet Nothing e =
         let o = some-outlet in
-        absurd (true≢false (sym (o .2) ∙ (sym (from-zero (o .0)) ∙ none-first (outletFrom G 0) (cells G) e (o .0) (o .1))))
+        absurd (true≢false
+        (sym (o .2) ∙ (sym (from-zero (o .0)) ∙ none-first (outletFrom G 0) (cells G) e (o .0) (o .1))))
 
     first-outlet : (k : ℕ) × (first (outletFrom G 0) (cells G) ≡ At k)
     first-outlet = found-outlet (first (outletFrom G 0) (cells G)) refl
@@ -172,15 +179,21 @@ module _ (G : Grid) where
     only-outlet u l e = go (ltb u (first-outlet .0)) refl (ltb (first-outlet .0) u) refl
       where
         go : (a : Bool) → ltb u (first-outlet .0) ≡ a → (b : Bool) → ltb (first-outlet .0) u ≡ b → u ≡ first-outlet .0
-        go true x b y = absurd (true≢false (sym e ∙ (sym (from-zero u) ∙ first-fact .none-before u (ltb-true u (first-outlet .0) x))))
+        go true x b y =
+            absurd (true≢false
+            (sym e ∙ (sym (from-zero u) ∙ first-fact .none-before u (ltb-true u (first-outlet .0) x))))
         go false x true y =
             let k : suc (first-outlet .0) ≤ u = ltb-true (first-outlet .0) u y in
             absurd (true≢false (sym e ∙ (sym (from-later (suc (first-outlet .0)) u k) ∙ none-later u l)))
-        go false x false y = let p = ltb-false u (first-outlet .0) x in let q = ltb-false (first-outlet .0) u y in omega arith
+        go false x false y =
+            let p = ltb-false u (first-outlet .0) x in let q = ltb-false (first-outlet .0) u y in omega arith
 
     outlet-one : isOutlet G (outlet G) ≡ true
     outlet-one = rw outlet-found (sym (from-zero (first-outlet .0)) ∙ first-fact .passes)
 
     -- the cells of the sheet are a basin
-    pub basin : (area : ℕ → ℕ) (least split : ℕ) → Basin (networkBy G area least split) (λ c. inside G c ≡ true) (outlet G)
-    basin area least split = one-basin (λ c i. drained-reaches c i (P .drained c (inside-lt G c i))) area least split outlet-one (λ u e. only-outlet u (inside-lt G u (outlet-is u e .0)) e ∙ sym outlet-found)
+    pub basin : (area : ℕ → ℕ) (least split : ℕ)
+        → Basin (networkBy G area least split) (λ c. inside G c ≡ true) (outlet G)
+    basin area least split =
+        one-basin (λ c i. drained-reaches c i (P .drained c (inside-lt G c i))) area least split outlet-one
+        (λ u e. only-outlet u (inside-lt G u (outlet-is u e .0)) e ∙ sym outlet-found)

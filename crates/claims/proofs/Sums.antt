@@ -9,18 +9,21 @@ use lib.Dec.{eqb}
 use borrow.Author.Tests.{eq-eqb, ne-eqb, eqb-true}
 use Rattle.sheet.specs.Area.{count, sumOver}
 
-pub sum-alike : (n : ℕ) (t u : ℕ → Bool) (f g : ℕ → ℕ) → ((q : ℕ) → q < n → cond (t q) (f q) 0 ≡ cond (u q) (g q) 0) → sumOver n t f ≡ sumOver n u g
+pub sum-alike : (n : ℕ) (t u : ℕ → Bool) (f g : ℕ → ℕ) → ((q : ℕ) → q < n → cond (t q) (f q) 0 ≡ cond (u q) (g q) 0)
+    → sumOver n t f ≡ sumOver n u g
 unfolding sumOver
 sum-alike zero t u f g h = refl
 sum-alike (suc n) t u f g h = go (t n) (u n) (h n (omega arith)) (sum-alike n t u f g (λ q l. h q (omega arith)))
   where
-    go : (x y : Bool) → cond x (f n) 0 ≡ cond y (g n) 0 → sumOver n t f ≡ sumOver n u g → cond x (sumOver n t f + f n) (sumOver n t f) ≡ cond y (sumOver n u g + g n) (sumOver n u g)
+    go : (x y : Bool) → cond x (f n) 0 ≡ cond y (g n) 0 → sumOver n t f ≡ sumOver n u g
+        → cond x (sumOver n t f + f n) (sumOver n t f) ≡ cond y (sumOver n u g + g n) (sumOver n u g)
     go true true e h = omega arith
     go true false e h = omega arith
     go false true e h = omega arith
     go false false e h = h
 
-pub sum-same : (n : ℕ) (t u : ℕ → Bool) (f g : ℕ → ℕ) → ((q : ℕ) → q < n → t q ≡ u q) → ((q : ℕ) → q < n → f q ≡ g q) → sumOver n t f ≡ sumOver n u g
+pub sum-same : (n : ℕ) (t u : ℕ → Bool) (f g : ℕ → ℕ) → ((q : ℕ) → q < n → t q ≡ u q) → ((q : ℕ) → q < n → f q ≡ g q)
+    → sumOver n t f ≡ sumOver n u g
 sum-same n t u f g h k = sum-alike n t u f g (λ q l. rw (h q l, k q l))
 
 pub sum-zero : (n : ℕ) (t : ℕ → Bool) (f : ℕ → ℕ) → ((q : ℕ) → q < n → cond (t q) (f q) 0 ≡ 0) → sumOver n t f ≡ 0
@@ -50,21 +53,27 @@ fewer e = record {
 pub sum-either : (n : ℕ) (t u v : ℕ → Bool) (f : ℕ → ℕ) → Either n t u v → sumOver n t f ≡ sumOver n u f + sumOver n v f
 unfolding sumOver
 sum-either zero t u v f e = refl
-sum-either (suc n) t u v f e = go (t n) (u n) (v n) (e .split n (omega arith)) (e .left n (omega arith)) (e .right n (omega arith)) (e .apart n (omega arith)) (sum-either n t u v f (fewer e))
+sum-either (suc n) t u v f e =
+    go (t n) (u n) (v n) (e .split n (omega arith)) (e .left n (omega arith)) (e .right n (omega arith))
+    (e .apart n (omega arith)) (sum-either n t u v f (fewer e))
   where
-    go : (x y z : Bool) → (x ≡ true → (y ≡ true) ⊎ (z ≡ true)) → (y ≡ true → x ≡ true) → (z ≡ true → x ≡ true) → (y ≡ true → z ≡ true → ⊥)
+    go : (x y z : Bool) → (x ≡ true → (y ≡ true) ⊎ (z ≡ true)) → (y ≡ true → x ≡ true) → (z ≡ true → x ≡ true)
+        → (y ≡ true → z ≡ true → ⊥)
         → sumOver n t f ≡ sumOver n u f + sumOver n v f
-        → cond x (sumOver n t f + f n) (sumOver n t f) ≡ cond y (sumOver n u f + f n) (sumOver n u f) + cond z (sumOver n v f + f n) (sumOver n v f)
+        → cond x (sumOver n t f + f n) (sumOver n t f) ≡ cond y (sumOver n u f + f n) (sumOver n u f) + cond z
+        (sumOver n v f + f n) (sumOver n v f)
     go true true true p q r s h = absurd (s refl refl)
     go true true false p q r s h = omega arith
     go true false true p q r s h = omega arith
-    go true false false p q r s h = elim (p refl) [ inl i ↦ absurd (true≢false (sym i)) | inr i ↦ absurd (true≢false (sym i)) ]
+    go true false false p q r s h =
+        elim (p refl) [ inl i ↦ absurd (true≢false (sym i)) | inr i ↦ absurd (true≢false (sym i)) ]
     go false true z p q r s h = absurd (true≢false (sym (q refl)))
     go false false true p q r s h = absurd (true≢false (sym (r refl)))
     go false false false p q r s h = h
 
 -- the sum over a wider test is no smaller
-pub sum-mono : (n : ℕ) (t u : ℕ → Bool) (f : ℕ → ℕ) → ((q : ℕ) → u q ≡ true → t q ≡ true) → sumOver n u f ≤ sumOver n t f
+pub sum-mono : (n : ℕ) (t u : ℕ → Bool) (f : ℕ → ℕ) → ((q : ℕ) → u q ≡ true → t q ≡ true)
+    → sumOver n u f ≤ sumOver n t f
 unfolding sumOver
 sum-mono zero t u f h = omega arith
 sum-mono (suc n) t u f h = go (u n) (t n) (h n) (sum-mono n t u f h)
@@ -110,7 +119,8 @@ unfolding count sumOver
 count-sum zero t = refl
 count-sum (suc n) t = go (t n) (count-sum n t)
   where
-    go : (b : Bool) → count n t ≡ sumOver n t (λ q. 1) → cond b (suc (count n t)) (count n t) ≡ cond b (sumOver n t (λ q. 1) + 1) (sumOver n t (λ q. 1))
+    go : (b : Bool) → count n t ≡ sumOver n t (λ q. 1)
+        → cond b (suc (count n t)) (count n t) ≡ cond b (sumOver n t (λ q. 1) + 1) (sumOver n t (λ q. 1))
     go true h = omega arith
     go false h = h
 
@@ -120,7 +130,8 @@ count-none zero t h = refl
 count-none (suc n) t h = rw (h n (omega arith)) (count-none n t (λ q l. h q (omega arith)))
 
 -- one cell more passes
-pub count-more : (n : ℕ) (t u : ℕ → Bool) (c : ℕ) → c < n → t c ≡ false → u c ≡ true → ((q : ℕ) → q < n → q ≢ c → u q ≡ t q) → count n u ≡ count n t + 1
+pub count-more : (n : ℕ) (t u : ℕ → Bool) (c : ℕ) → c < n → t c ≡ false → u c ≡ true
+    → ((q : ℕ) → q < n → q ≢ c → u q ≡ t q) → count n u ≡ count n t + 1
 count-more n t u c l old new same =
     let e : Either n u t (λ q. eqb q c) = record {
       split = λ q ql h. elim (ℕ-discrete q c) [ yes e ↦ inr (eq-eqb q c e) | no d ↦ inl (sym (same q ql d) ∙ h) ];

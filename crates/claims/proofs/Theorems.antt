@@ -31,20 +31,23 @@ use Rattle.claims.proofs.GridLaws.{area-least, area-most, area-most-cel
 use Rattle.claims.proofs.Written.{the-basin, label-written, digits-written, label-from-outlet, digits-from-outlet, is-label, label-fits}
 use Rattle.claims.proofs.FlowMeaning.{the-answer, answer-at, Answered, answered-yes, answered-undecided, answered-no}
 
-module _ (next : ℕ → Next) {inside : ℕ → Type 0} {digits written : ℕ → List ℕ} (same : (c : ℕ) → inside c → written c ≡ digits c) where
+module _ (next : ℕ → Next) {inside : ℕ → Type 0} {digits written : ℕ → List ℕ}
+    (same : (c : ℕ) → inside c → written c ≡ digits c) where
   to-written : (w : List ℕ) (x : ℕ) → Shares inside digits w x → Shares inside written w x
   to-written w x k = record { is-inside = k .is-inside; begins = rw (same x (k .is-inside)) (k .begins) }
 
   from-written : (w : List ℕ) (x : ℕ) → Shares inside written w x → Shares inside digits w x
   from-written w x k = record { is-inside = k .is-inside; begins = rw (same x (k .is-inside)) at (k .begins) }
 
-  drains-to-written : (w : List ℕ) (c : ℕ) → DrainsTo next (Shares inside digits w) c → DrainsTo next (Shares inside written w) c
+  drains-to-written : (w : List ℕ) (c : ℕ) → DrainsTo next (Shares inside digits w) c
+      → DrainsTo next (Shares inside written w) c
   drains-to-written w c d = record {
     among = to-written w c (d .among);
     drains = λ x k. drains-map (to-written w) (d .drains x (from-written w x k));
   }
 
-  drains-from-written : (w : List ℕ) (c : ℕ) → DrainsTo next (Shares inside written w) c → DrainsTo next (Shares inside digits w) c
+  drains-from-written : (w : List ℕ) (c : ℕ) → DrainsTo next (Shares inside written w) c
+      → DrainsTo next (Shares inside digits w) c
   drains-from-written w c d = record {
     among = from-written w c (d .among);
     drains = λ x k. drains-map (from-written w) (d .drains x (to-written w x k));
@@ -56,7 +59,9 @@ module _ (next : ℕ → Next) {inside : ℕ → Type 0} {digits written : ℕ �
       → DemandThree next inside depth digits digits → DemandThree next inside depth label written
   same-demand depth label alike D = record {
     labels-part = λ p q i j d. rw (same p i, same q j) (D .labels-part p q i j (λ e. d (alike p q i j e)));
-    cell-rule = λ p q i j l k t. rw (same p i, same q j) (D .cell-rule p q i j (rw (same p i) at l) k (rw (same p i, same q j) at t));
+    cell-rule =
+        λ p q i j l k t. rw (same p i, same q j)
+        (D .cell-rule p q i j (rw (same p i) at l) k (rw (same p i, same q j) at t));
     one-outlet = λ w c k.
         let o = D .one-outlet w c (from-written w c k) in
         record {
@@ -69,7 +74,8 @@ module _ (next : ℕ → Next) {inside : ℕ → Type 0} {digits written : ℕ �
   same-outlet-rule : OutletRule next inside digits → OutletRule next inside written
   same-outlet-rule D = record {
     rule = λ p q i j o d k t.
-        rw (same p i, same q j) (D .rule p q i j o (drains-from-written (digits p) o (rw (same p i) at d)) k (rw (same p i, same q j) at t));
+        rw (same p i, same q j)
+        (D .rule p q i j o (drains-from-written (digits p) o (rw (same p i) at d)) k (rw (same p i, same q j) at t));
   }
 
 -- every mouth counts
@@ -89,7 +95,9 @@ module _ (S : Sheet) (L : Lent) (accepted : outcome S L ≡ Accepted) where
 
   pub outlet-rule : OutletRuleOf S (lentAfter S L .labels)
   unfolding network
-  outlet-rule = same-outlet-rule (next (S .grid)) (digits-from-outlet S L accepted) (outlet-rule-holds (the-basin S L accepted) (S .depth))
+  outlet-rule =
+      same-outlet-rule (next (S .grid)) (digits-from-outlet S L accepted)
+      (outlet-rule-holds (the-basin S L accepted) (S .depth))
 
   -- ---- bounds
   pub label-bounds : LabelBounds S (lentAfter S L .labels)
@@ -99,13 +107,15 @@ module _ (S : Sheet) (L : Lent) (accepted : outcome S L ≡ Accepted) where
   module _ (p q : ℕ) (i : Inside S p) (j : Inside S q) where
     -- water that passes p meets the rule, at any depth
     met : (k : ℕ) → PartAt (digitsAt (lentAfter S L .labels) p) (digitsAt (lentAfter S L .labels) q) k
-        → Passes (next (S .grid)) q p → RuleAt (digitsAt (lentAfter S L .labels) p) (digitsAt (lentAfter S L .labels) q) k
+        → Passes (next (S .grid)) q p → RuleAt (digitsAt (lentAfter S L .labels) p)
+        (digitsAt (lentAfter S L .labels) q) k
     unfolding network
     met k t h =
         let f = digits-from-outlet S L accepted in
         rw (f p i, f q j) (passes-rule (the-basin S L accepted) (S .depth) p q i j k (rw (f p i, f q j) at t) h)
 
-    by-parting : (k : ℕ) → PartAt (digitsAt (lentAfter S L .labels) p) (digitsAt (lentAfter S L .labels) q) k → (a : Flow)
+    by-parting : (k : ℕ) → PartAt (digitsAt (lentAfter S L .labels) p) (digitsAt (lentAfter S L .labels) q) k
+        → (a : Flow)
         → Answered (S .depth) (digitsAt (lentAfter S L .labels) p) (digitsAt (lentAfter S L .labels) q) k a
         → asked S (lentAfter S L .labels) p q ≡ a → FlowMeaning S (lentAfter S L .labels) p q
     by-parting k t a (answered-yes r l) e = record {
@@ -129,7 +139,9 @@ module _ (S : Sheet) (L : Lent) (accepted : outcome S L ≡ Accepted) where
 
     pub flow-meaning : FlowMeaning S (lentAfter S L .labels) p q
     unfolding answerUnequal
-    flow-meaning = go (eqb (labelAt (lentAfter S L .labels) p) (labelAt (lentAfter S L .labels) q)) refl (the-answer S L accepted p q i j)
+    flow-meaning =
+        go (eqb (labelAt (lentAfter S L .labels) p) (labelAt (lentAfter S L .labels) q)) refl
+        (the-answer S L accepted p q i j)
       where
         answer : Flow
         answer = answerUnequal (S .depth) (labelAt (lentAfter S L .labels) p) (labelAt (lentAfter S L .labels) q)
@@ -143,8 +155,11 @@ module _ (S : Sheet) (L : Lent) (accepted : outcome S L ≡ Accepted) where
           never-refused = λ n g. let z : _≡_ {A = ℕ} 0 1 = cc in absurd (omega arith);
         }
         go false e f =
-            let t = demand-three .labels-part p q i j (eqb-false (labelAt (lentAfter S L .labels) p) (labelAt (lentAfter S L .labels) q) e) in
-            by-parting (t .0) (t .1) answer (answer-at (S .depth) (digitsAt (lentAfter S L .labels) p) (digitsAt (lentAfter S L .labels) q) (t .0) (t .1)) f
+            let t = demand-three .labels-part p q i j
+            (eqb-false (labelAt (lentAfter S L .labels) p) (labelAt (lentAfter S L .labels) q) e) in
+            by-parting (t .0) (t .1) answer
+            (answer-at (S .depth) (digitsAt (lentAfter S L .labels) p) (digitsAt (lentAfter S L .labels) q) (t .0)
+            (t .1)) f
 
   pub rivers-are-whole : RiversAreWhole S
   unfolding network

@@ -38,17 +38,21 @@ module _ {next : ℕ → Next} where
   mouth-drains {v = v} here f = drained (f v here)
   mouth-drains (there {q = q} e h) f = drains-on (f q (there e h)) e (mouth-drains h f)
 
-  pub chain-drains : {heavier : ℕ → ℕ → Bool} {S : ℕ → Type 0} {s c : ℕ} {old : Option ℕ} {R : Run} → Chain next heavier s old R
+  pub chain-drains : {heavier : ℕ → ℕ → Bool} {S : ℕ → Type 0} {s c : ℕ} {old : Option ℕ} {R : Run}
+      → Chain next heavier s old R
       → ((x : ℕ) → In next R x → S x) → S s → In next R c → Drains next S c s
   chain-drains (chain-stem {t = t} e a w) f b (at-head is-stem) = drains-on (f t (at-head is-stem)) e (drained b)
-  chain-drains (chain-stem {t = t} e a w) f b (in-tail i) = drains-more (chain-drains w (λ x j. f x (in-tail j)) (f t (at-head is-stem)) i) e b
-  chain-drains (chain-mouth e a w) f b (at-head (is-under h)) = drains-more (mouth-drains h (λ x k. f x (at-head (is-under k)))) e b
+  chain-drains (chain-stem {t = t} e a w) f b (in-tail i) = drains-more
+      (chain-drains w (λ x j. f x (in-tail j)) (f t (at-head is-stem)) i) e b
+  chain-drains (chain-mouth e a w) f b (at-head (is-under h)) =
+      drains-more (mouth-drains h (λ x k. f x (at-head (is-under k)))) e b
   chain-drains (chain-mouth e a w) f b (in-tail i) = chain-drains w (λ x j. f x (in-tail j)) b i
 
   -- there is at most one such cell
   pub one-outlet : (dist : ℕ → ℕ) → ((u r : ℕ) → next u ≡ To r → dist u ≡ suc (dist r))
       → {S : ℕ → Type 0} {c d : ℕ} → DrainsTo next S c → DrainsTo next S d → c ≡ d
-  one-outlet dist falls {c = c} {d = d} a b = pass-both dist falls (drains-passes (b .drains c (a .among))) (drains-passes (a .drains d (b .among)))
+  one-outlet dist falls {c = c} {d = d} a b = pass-both dist falls (drains-passes (b .drains c (a .among)))
+      (drains-passes (a .drains d (b .among)))
 
 begins-head : {a b : ℕ} {w x : List ℕ} → Begins (a ∷ w) (b ∷ x) → a ≡ b
 begins-head (begins-on h) = refl
@@ -85,14 +89,16 @@ module _ {next : ℕ → Next} where
   pair-digit (pair-more l n) e = absurd (omega arith)
 
 module _ {N : Network} {heavier : ℕ → ℕ → Bool} (O : Lawful N heavier) where
-  all-drain : (d : ℕ) (R : Run) (c : ℕ) → Headed (N .next) heavier R → In (N .next) R c → DrainsTo (N .next) (SharesIn N d R []) (firstStem R c)
+  all-drain : (d : ℕ) (R : Run) (c : ℕ) → Headed (N .next) heavier R → In (N .next) R c
+      → DrainsTo (N .next) (SharesIn N d R []) (firstStem R c)
   unfolding firstStem
   all-drain d [] c headed-none i = absurd (in-none i)
   all-drain d (stem s ∷ R) c (headed-stem w) i = record {
     among = record { held = at-head is-stem; begins = begins-none };
     drains = λ x k. elim (in-cons (k .held)) [
       | inl h ↦ rw (has-stem h) (drained (record { held = at-head is-stem; begins = begins-none }))
-      | inr h ↦ chain-drains w (λ y j. record { held = in-tail j; begins = begins-none }) (record { held = at-head is-stem; begins = begins-none }) h
+      | inr h ↦ chain-drains w (λ y j. record { held = in-tail j; begins = begins-none })
+          (record { held = at-head is-stem; begins = begins-none }) h
     ];
   }
 
@@ -101,26 +107,31 @@ module _ {N : Network} {heavier : ℕ → ℕ → Bool} (O : Lawful N heavier) w
   place-part R c t i j = rw (join-cut (taken N R) R) at (spot-part O (place-spot O R c i) t j)
 
   -- the cells of a part that share w are those of the run that share the part's digit and w
-  part-up : (d : ℕ) (R : Run) (a : ℕ) (w : List ℕ) (c : ℕ) → Headed (N .next) heavier R → In (N .next) R c → finished N R ≡ false
+  part-up : (d : ℕ) (R : Run) (a : ℕ) (w : List ℕ) (c : ℕ) → Headed (N .next) heavier R → In (N .next) R c
+      → finished N R ≡ false
       → a ≡ placeOf N R c .digit → (x : ℕ) → SharesIn N d (placeOf N R c .unit) w x → SharesIn N (suc d) R (a ∷ w) x
   part-up d R a w c u i f e x k =
       let j : In (N .next) R x = place-part R c x i (k .held) in
       let same : placeOf N R c ≡ placeOf N R x = pair-held (place-pair O R c x u i j) (k .held) in
       record { held = j; begins = rw (label-on N d R x f, ← same, e) (begins-on (k .begins)) }
 
-  part-down : (d : ℕ) (R : Run) (a : ℕ) (w : List ℕ) (c : ℕ) → Headed (N .next) heavier R → In (N .next) R c → finished N R ≡ false
+  part-down : (d : ℕ) (R : Run) (a : ℕ) (w : List ℕ) (c : ℕ) → Headed (N .next) heavier R → In (N .next) R c
+      → finished N R ≡ false
       → a ≡ placeOf N R c .digit → (x : ℕ) → SharesIn N (suc d) R (a ∷ w) x → SharesIn N d (placeOf N R c .unit) w x
   part-down d R a w c u i f e x k =
       let b = rw (label-on N d R x f) at (k .begins) in
-      let same : placeOf N R c ≡ placeOf N R x = pair-digit (place-pair O R c x u i (k .held)) (sym e ∙ begins-head b) in
+      let same : placeOf N R c ≡ placeOf N R x = pair-digit (place-pair O R c x u i (k .held))
+      (sym e ∙ begins-head b) in
       record { held = rw same (place-holds O R x (k .held)); begins = rw same (begins-tail b) }
 
   label-off : (d : ℕ) (R : Run) (c : ℕ) → finished N R ≡ true → label N (suc d) R c ≡ []
   unfolding label
   label-off d R c e = rw e
 
-  part-outlet : (d : ℕ) (R : Run) (a : ℕ) (w : List ℕ) (c o : ℕ) → Headed (N .next) heavier R → In (N .next) R c → finished N R ≡ false
-      → a ≡ placeOf N R c .digit → DrainsTo (N .next) (SharesIn N d (placeOf N R c .unit) w) o → DrainsTo (N .next) (SharesIn N (suc d) R (a ∷ w)) o
+  part-outlet : (d : ℕ) (R : Run) (a : ℕ) (w : List ℕ) (c o : ℕ) → Headed (N .next) heavier R → In (N .next) R c
+      → finished N R ≡ false
+      → a ≡ placeOf N R c .digit → DrainsTo (N .next) (SharesIn N d (placeOf N R c .unit) w) o → DrainsTo (N .next)
+      (SharesIn N (suc d) R (a ∷ w)) o
   part-outlet d R a w c o u i f e t = record {
     among = part-up d R a w c u i f e o (t .among);
     drains = λ x k. drains-map (part-up d R a w c u i f e) (t .drains x (part-down d R a w c u i f e x k));
@@ -131,10 +142,12 @@ module _ {N : Network} {heavier : ℕ → ℕ → Bool} (O : Lawful N heavier) w
   unfolding outletAt label
   outlet-at [] d R c u k = all-drain d R c u (k .held)
   outlet-at (a ∷ w) zero R c u k = absurd (begins-not (k .begins))
-  outlet-at (a ∷ w) (suc d) R c u k = go (finished N R) refl (λ j. outlet-at w d (placeOf N R c .unit) c (place-headed O R c u (k .held)) j)
+  outlet-at (a ∷ w) (suc d) R c u k =
+      go (finished N R) refl (λ j. outlet-at w d (placeOf N R c .unit) c (place-headed O R c u (k .held)) j)
     where
       go : (b : Bool) → finished N R ≡ b
-          → (SharesIn N d (placeOf N R c .unit) w c → DrainsTo (N .next) (SharesIn N d (placeOf N R c .unit) w) (outletAt N w (placeOf N R c .unit) c))
+          → (SharesIn N d (placeOf N R c .unit) w c → DrainsTo (N .next) (SharesIn N d (placeOf N R c .unit) w)
+          (outletAt N w (placeOf N R c .unit) c))
           → DrainsTo (N .next) (SharesIn N (suc d) R (a ∷ w)) (outletAt N w (placeOf N R c .unit) c)
       go true f r = absurd (begins-not (rw (label-off d R c f) at (k .begins)))
       go false f r =
@@ -147,8 +160,11 @@ module _ {N : Network} {heavier : ℕ → ℕ → Bool} (O : Lawful N heavier) w
   outlet-at-label zero R c = refl
   outlet-at-label (suc d) R c = go (finished N R) (outlet-at-label d (placeOf N R c .unit) c)
     where
-      go : (b : Bool) → outletAt N (label N d (placeOf N R c .unit) c) (placeOf N R c .unit) c ≡ unitOutlet N d (placeOf N R c .unit) c
-          → outletAt N (cond b [] (placeOf N R c .digit ∷ label N d (placeOf N R c .unit) c)) R c ≡ cond b (firstStem R c) (unitOutlet N d (placeOf N R c .unit) c)
+      go : (b : Bool)
+          → outletAt N (label N d (placeOf N R c .unit) c) (placeOf N R c .unit) c ≡ unitOutlet N d
+          (placeOf N R c .unit) c
+          → outletAt N (cond b [] (placeOf N R c .digit ∷ label N d (placeOf N R c .unit) c)) R c ≡ cond b
+          (firstStem R c) (unitOutlet N d (placeOf N R c .unit) c)
       go true e = refl
       go false e = e
 
@@ -173,9 +189,14 @@ module _ {N : Network} {heavier : ℕ → ℕ → Bool} (O : Lawful N heavier) (
       → DrainsTo (N .next) (Shares inside (digitsIn N outlet depth) w) (outletAt N w (river N outlet) c)
   unit-drains w c k =
       let t = outlet-at O w depth (river N outlet) c (river-headed O outlet) (share-in w c k) in
-      record { among = share-out w _ (t .among); drains = λ x j. drains-map (share-out w) (t .drains x (share-in w x j)) }
+      record {
+        among = share-out w _ (t .among);
+        drains = λ x j. drains-map (share-out w)
+            (t .drains x (share-in w x j));
+      }
 
-  pub unit-outlet : (w : List ℕ) (c : ℕ) → Shares inside (digitsIn N outlet depth) w c → OneOutlet (N .next) inside (digitsIn N outlet depth) w
+  pub unit-outlet : (w : List ℕ) (c : ℕ) → Shares inside (digitsIn N outlet depth) w c
+      → OneOutlet (N .next) inside (digitsIn N outlet depth) w
   unit-outlet w c k = record {
     cell = outletAt N w (river N outlet) c;
     drains = unit-drains w c k;
@@ -183,6 +204,10 @@ module _ {N : Network} {heavier : ℕ → ℕ → Bool} (O : Lawful N heavier) (
   }
 
   -- the outlet of the unit that a label names
-  pub named-outlet : (p : ℕ) → inside p → DrainsTo (N .next) (Shares inside (digitsIn N outlet depth) (digitsIn N outlet depth p)) (unitOutlet N depth (river N outlet) p)
+  pub named-outlet : (p : ℕ) → inside p
+      → DrainsTo (N .next) (Shares inside (digitsIn N outlet depth) (digitsIn N outlet depth p))
+      (unitOutlet N depth (river N outlet) p)
   named-outlet p i =
-      rw (outlet-at-label O depth (river N outlet) p) at (unit-drains (digitsIn N outlet depth p) p (record { is-inside = i; begins = begins-all (digitsIn N outlet depth p) }))
+      rw (outlet-at-label O depth (river N outlet) p) at
+      (unit-drains (digitsIn N outlet depth p) p
+      (record { is-inside = i; begins = begins-all (digitsIn N outlet depth p) }))

@@ -1,4 +1,5 @@
--- The labels that labelling writes by the definition, read back from the list: their digits are those of the definition.
+-- The labels that labelling writes by the definition, read back from the list: their digits are those of the
+-- definition.
 use mathlib.Core.Path.{_≡_, refl, _∙_, ap}
 use mathlib.Core.Bool.{Bool, true, cond}
 use mathlib.Core.List.{List}
@@ -43,7 +44,9 @@ module _ (S : Sheet) (L : Lent) (accepted : outcome S L ≡ Accepted) where
   unfolding network
   one-to-nine c i =
       let O = lawful (the-basin .forest) in
-      rw (own-digits S the-basin c i) (label-range O (S .depth) (river (network S) (outlet (S .grid))) c (river-headed O (outlet (S .grid))) (river-covers O (outlet (S .grid)) c (drain the-basin c i)))
+      rw (own-digits S the-basin c i)
+      (label-range O (S .depth) (river (network S) (outlet (S .grid))) c (river-headed O (outlet (S .grid)))
+      (river-covers O (outlet (S .grid)) c (drain the-basin c i)))
 
   pub at-most-depth : (c : ℕ) → length (labelDigits S c) ≤ S .depth
   unfolding labelDigits
@@ -62,11 +65,16 @@ module _ (S : Sheet) (L : Lent) (accepted : outcome S L ≡ Accepted) where
   label-written c i = go (outcome S L) accepted
     where
       go : (o : Outcome) → o ≡ Accepted → labelAt (ifAccepted o (labelsOf S) (L .labels)) c ≡ number (labelDigits S c)
-      go o e = rw e (written-at (labelOf S) (cells (S .grid)) c (L .labels) (inside-lt (S .grid) c i) ∙ label-inside c i)
+      go o e =
+          rw e (written-at (labelOf S) (cells (S .grid)) c (L .labels) (inside-lt (S .grid) c i) ∙ label-inside c i)
 
   pub digits-written : (c : ℕ) → Inside S c → digitsAt (lentAfter S L .labels) c ≡ labelDigits S c
   digits-written c i =
-      ap digitsOf (label-written c i) ∙ digits-number (labelDigits S c) (one-to-nine c i) (omega (arith, at-most-depth c, depth-most (S .depth) (checks .depth)))
+      ap digitsOf (label-written c i) ∙ digits-number (labelDigits S c) (one-to-nine c i) (omega (
+        arith,
+        at-most-depth c,
+        depth-most (S .depth) (checks .depth),
+      ))
 
   pub is-label : (c : ℕ) → Inside S c → isLabel (S .depth) (labelAt (lentAfter S L .labels) c) ≡ true
   unfolding isLabel
@@ -74,11 +82,17 @@ module _ (S : Sheet) (L : Lent) (accepted : outcome S L ≡ Accepted) where
 
   pub label-fits : (c : ℕ) → Inside S c → labelAt (lentAfter S L .labels) c < 2 ^ 64
   label-fits c i =
-      rw (label-written c i) (number-fits (labelDigits S c) (one-to-nine c i) (omega (arith, at-most-depth c, depth-most (S .depth) (checks .depth))))
+      rw (label-written c i) (number-fits (labelDigits S c) (one-to-nine c i) (omega (
+        arith,
+        at-most-depth c,
+        depth-most (S .depth) (checks .depth),
+      )))
 
   -- the digits as they were written are those from the outlet
-  pub digits-from-outlet : (c : ℕ) → Inside S c → digitsAt (lentAfter S L .labels) c ≡ digitsIn (network S) (outlet (S .grid)) (S .depth) c
+  pub digits-from-outlet : (c : ℕ) → Inside S c
+      → digitsAt (lentAfter S L .labels) c ≡ digitsIn (network S) (outlet (S .grid)) (S .depth) c
   digits-from-outlet c i = digits-written c i ∙ own-digits S the-basin c i
 
-  pub label-from-outlet : (c : ℕ) → Inside S c → labelAt (lentAfter S L .labels) c ≡ number (digitsIn (network S) (outlet (S .grid)) (S .depth) c)
+  pub label-from-outlet : (c : ℕ) → Inside S c
+      → labelAt (lentAfter S L .labels) c ≡ number (digitsIn (network S) (outlet (S .grid)) (S .depth) c)
   label-from-outlet c i = label-written c i ∙ ap number (own-digits S the-basin c i)

@@ -1,5 +1,5 @@
--- What the general theorems ask of a network: its inside cells drain to outlets, or to a single one, and counted mouths are
--- closed upwards.
+-- What the general theorems ask of a network: its inside cells drain to outlets, or to a single one, and counted mouths
+-- are closed upwards.
 use mathlib.Core.Path.{_≡_}
 use mathlib.Core.Bool.{true}
 use Prim.Native.Nat.{ℕ, zero, suc, _<_}

@@ -1,4 +1,5 @@
--- The third demand, about any labels: where water goes, which cells are inside, the depth, each cell's label and its digits.
+-- The third demand, about any labels: where water goes, which cells are inside, the depth, each cell's label and its
+-- digits.
 use mathlib.Core.Path.{_≡_}
 use mathlib.Core.Bool.{true}
 use mathlib.Core.List.{List}
@@ -27,14 +28,15 @@ pub record DemandThree (next : ℕ → Next) (inside : ℕ → Type 0) (depth : 
     (digits : ℕ → List ℕ) : Type 0 where
   -- every two different labels of inside cells part
   pub labels-part : (p q : ℕ) → inside p → inside q → label p ≢ label q → (i : ℕ) × PartAt (digits p) (digits q) i
-  -- water from q passes p exactly if, where their labels part, p's digit is smaller and p's digits from there on are all
-  -- odd; for a label of p that has fewer digits than the depth
+  -- water from q passes p exactly if, where their labels part, p's digit is smaller and p's digits from there on are
+  -- all odd; for a label of p that has fewer digits than the depth
   pub cell-rule : (p q : ℕ) → inside p → inside q → length (digits p) < depth
       → (i : ℕ) → PartAt (digits p) (digits q) i → Passes next q p ↔ RuleAt (digits p) (digits q) i
   -- the cells that share leading digits drain, through cells that share them, to exactly one of them
   pub one-outlet : (w : List ℕ) (c : ℕ) → Shares inside digits w c → OneOutlet next inside digits w
 
--- the outlet rule: water from q passes the outlet of the unit that p's label names, exactly under the digit rule, at any depth
+-- the outlet rule: water from q passes the outlet of the unit that p's label names, exactly under the digit rule, at
+-- any depth
 pub record OutletRule (next : ℕ → Next) (inside : ℕ → Type 0) (digits : ℕ → List ℕ) : Type 0 where
   pub rule : (p q : ℕ) → inside p → inside q → (o : ℕ) → DrainsTo next (Shares inside digits (digits p)) o
       → (i : ℕ) → PartAt (digits p) (digits q) i → Passes next q o ↔ RuleAt (digits p) (digits q) i

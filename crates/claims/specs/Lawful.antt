@@ -28,4 +28,5 @@ pub record Lawful (N : Network) (heavier : ℕ → ℕ → Bool) : Type 0 where
   pub lighter : (u v w : ℕ) → heavier w v ≡ true → heavier v u ≡ true → heavier w u ≡ true
   pub unlike : (u : ℕ) → heavier u u ≡ false
   -- a mouth of a run that is heavier than one taken of it is taken
-  pub upward : (R : Run) (u v : ℕ) → MouthOf R v → taken N R v ≡ true → MouthOf R u → heavier u v ≡ true → taken N R u ≡ true
+  pub upward : (R : Run) (u v : ℕ) → MouthOf R v → taken N R v ≡ true → MouthOf R u → heavier u v ≡ true
+      → taken N R u ≡ true

@@ -18,8 +18,8 @@ abbrev pub Above : (ℕ → ℕ → Bool) → Option ℕ → ℕ → Type 0
 Above heavier none v = Unit {0}
 Above heavier (some u) v = heavier v u ≡ true
 
--- the run goes on after the stem cell s, of which the donors up to `old` have been named: it ends there, goes on to a donor as the
--- next stem cell, or names the mouth of a tributary; donors are named from lightest to heaviest
+-- the run goes on after the stem cell s, of which the donors up to `old` have been named: it ends there, goes on to a
+-- donor as the next stem cell, or names the mouth of a tributary; donors are named from lightest to heaviest
 pub data Chain (next : ℕ → Next) (heavier : ℕ → ℕ → Bool) : ℕ → Option ℕ → Run → Type 0 where
   chain-end : {s : ℕ} {old : Option ℕ} → Chain next heavier s old []
   chain-stem : {s : ℕ} {old : Option ℕ} {t : ℕ} {R : Run} → next t ≡ To s → Above heavier old t

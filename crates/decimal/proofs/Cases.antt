@@ -69,7 +69,8 @@ pub text-of-largest : decimalText 18446744073709551615 ≡ ascii "18446744073709
 unfolding decimalText
 text-of-largest = refl
 
-pub text-in-buffer : writeText (decimalText 42) (ascii "row=..;") 4 ≡ record { answer = End 6; buffer = ascii "row=42;" }
+pub text-in-buffer : writeText (decimalText 42)
+    (ascii "row=..;") 4 ≡ record { answer = End 6; buffer = ascii "row=42;" }
 unfolding writeText decimalText
 text-in-buffer = refl
 

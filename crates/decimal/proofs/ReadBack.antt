@@ -29,19 +29,27 @@ text-number = text-induction (λ (n : ℕ) (s : List ℕ). valueFrom 0 s ≡ n) 
     small : (n : ℕ) → n < 10 → valueFrom 0 ((digitZero + n) ∷ []) ≡ n
     small n h = omega arith
 
-    large : (n : ℕ) → 10 ≤ n → valueFrom 0 (decimalText (n / 10)) ≡ n / 10 → valueFrom 0 (decimalText (n / 10) ++ ((digitZero + n % 10) ∷ [])) ≡ n
+    large : (n : ℕ) → 10 ≤ n → valueFrom 0 (decimalText (n / 10)) ≡ n / 10
+        → valueFrom 0 (decimalText (n / 10) ++ ((digitZero + n % 10) ∷ [])) ≡ n
     large n h ih = number-append 0 (decimalText (n / 10)) (digitZero + n % 10) ∙ omega arith
 
 -- a text is all digits
 pub text-run : (n : ℕ) (rest : List ℕ) → digitRun (decimalText n ++ rest) ≡ decimalText n ++ digitRun rest
-text-run n = text-induction (λ (n : ℕ) (s : List ℕ). (rest : List ℕ) → digitRun (s ++ rest) ≡ s ++ digitRun rest) small large n
+text-run n =
+    text-induction (λ (n : ℕ) (s : List ℕ). (rest : List ℕ) → digitRun (s ++ rest) ≡ s ++ digitRun rest) small large n
   where
     small : (n : ℕ) → n < 10 → (rest : List ℕ) → digitRun ((digitZero + n) ∷ rest) ≡ (digitZero + n) ∷ digitRun rest
     small n h rest = run-digit (digitZero + n) rest (is-digit (digitZero + n) (omega arith) (omega arith))
 
-    large : (n : ℕ) → 10 ≤ n → ((rest : List ℕ) → digitRun (decimalText (n / 10) ++ rest) ≡ decimalText (n / 10) ++ digitRun rest) → (rest : List ℕ) → digitRun ((decimalText (n / 10) ++ ((digitZero + n % 10) ∷ [])) ++ rest) ≡ (decimalText (n / 10) ++ ((digitZero + n % 10) ∷ [])) ++ digitRun rest
+    large : (n : ℕ) → 10 ≤ n
+        → ((rest : List ℕ) → digitRun (decimalText (n / 10) ++ rest) ≡ decimalText (n / 10) ++ digitRun rest) →
+        (rest : List ℕ)
+        → digitRun ((decimalText (n / 10) ++ ((digitZero + n % 10) ∷ [])) ++ rest)
+        ≡ (decimalText (n / 10) ++ ((digitZero + n % 10) ∷ [])) ++ digitRun rest
     large n h ih rest =
-        simp append-assoc (ih ((digitZero + n % 10) ∷ rest) ∙ ap (λ (s : List ℕ). decimalText (n / 10) ++ s) (run-digit (digitZero + n % 10) rest (is-digit (digitZero + n % 10) (omega arith) (omega arith))))
+        simp append-assoc
+        (ih ((digitZero + n % 10) ∷ rest) ∙ ap (λ (s : List ℕ). decimalText (n / 10) ++ s)
+        (run-digit (digitZero + n % 10) rest (is-digit (digitZero + n % 10) (omega arith) (omega arith))))
 
 -- the text of a number above 0 does not start with 0
 data Starts : List ℕ → Type 0 where
@@ -51,7 +59,9 @@ starts-append : {s : List ℕ} → Starts s → (t : List ℕ) → Starts (s ++ 
 starts-append (starts z) t = starts z
 
 text-starts : (n : ℕ) → 0 < n → Starts (decimalText n)
-text-starts = text-induction (λ (n : ℕ) (s : List ℕ). 0 < n → Starts s) (λ n h p. starts (omega arith)) (λ n h ih p. starts-append (ih (omega arith)) ((digitZero + n % 10) ∷ []))
+text-starts =
+    text-induction (λ (n : ℕ) (s : List ℕ). 0 < n → Starts s) (λ n h p. starts (omega arith))
+    (λ n h ih p. starts-append (ih (omega arith)) ((digitZero + n % 10) ∷ []))
 
 starts-value : {s : List ℕ} (k : ℕ) → Starts s → length s ≤ k → isValue k s ≡ true
 unfolding isValue
@@ -69,19 +79,29 @@ text-value k n h = go (eqb n 0) refl
     some (suc k) h z = omega arith
 
     go : (b : Bool) → eqb n 0 ≡ b → isValue k (decimalText n) ≡ true
-    go true e = ap (λ (m : ℕ). isValue k (decimalText m)) (eqb-true n 0 e) ∙ ap (isValue k) (text-small 0 (omega arith)) ∙ zero-value
-    go false e = starts-value k (text-starts n (omega (arith, eqb-false n 0 e))) (text-few k n (some k h (eqb-false n 0 e)) h)
+    go true e =
+        ap (λ (m : ℕ). isValue k (decimalText m)) (eqb-true n 0 e) ∙ ap (isValue k)
+        (text-small 0 (omega arith)) ∙ zero-value
+    go false e =
+        starts-value k (text-starts n (omega (arith, eqb-false n 0 e))) (text-few k n (some k h (eqb-false n 0 e)) h)
 
--- After the text of a number of at most k digits no digit may follow: it is read as the number, up to where the text ends.
+-- After the text of a number of at most k digits no digit may follow: it is read as the number, up to where the text
+-- ends.
 module _ (k n : ℕ) (few : k ≤ mostDigits) (small : n < 10 ^ k) (front : List ℕ) where
-  pub read-back : (rest : List ℕ) → digitRun rest ≡ [] → valueAt k (front ++ (decimalText n ++ rest)) (length front) ≡ Found n (length front + length (decimalText n))
+  pub read-back : (rest : List ℕ) → digitRun rest ≡ []
+      → valueAt k (front ++ (decimalText n ++ rest)) (length front) ≡ Found n (length front + length (decimalText n))
   unfolding valueAt foundAt
-  read-back rest e = rw (drop-append-seam, text-run, e, append-nil, le-leb k mostDigits few, text-value k n small, text-number)
+  read-back rest e =
+      rw (drop-append-seam, text-run, e, append-nil, le-leb k mostDigits few, text-value k n small, text-number)
 
-  pub read-back-end : valueAt k (front ++ decimalText n) (length front) ≡ Found n (length front + length (decimalText n))
+  pub read-back-end : valueAt k (front ++ decimalText n) (length front) ≡ Found n
+      (length front + length (decimalText n))
   unfolding digitRun
-  read-back-end = ap (λ (s : List ℕ). valueAt k (front ++ s) (length front)) (sym (append-nil (decimalText n))) ∙ read-back [] refl
+  read-back-end =
+      ap (λ (s : List ℕ). valueAt k (front ++ s) (length front)) (sym (append-nil (decimalText n))) ∙ read-back [] refl
 
-  pub read-back-comma : (rest : List ℕ) → valueAt k (front ++ (decimalText n ++ (comma ∷ rest))) (length front) ≡ Found n (length front + length (decimalText n))
+  pub read-back-comma : (rest : List ℕ)
+      → valueAt k (front ++ (decimalText n ++ (comma ∷ rest))) (length front) ≡ Found n
+      (length front + length (decimalText n))
   unfolding isDigit
   read-back-comma rest = read-back (comma ∷ rest) (run-stop comma rest refl)

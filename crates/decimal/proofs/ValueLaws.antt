@@ -45,11 +45,12 @@ module _ (s : List ℕ) (i : ℕ) where
   pub run-at-other : i < length s → isDigit (getD s i 0) ≡ false → digitRun (drop i s) ≡ []
   run-at-other h e = rw (drop-cons s i 0) (run-stop (getD s i 0) (drop (suc i) s) e)
 
-  pub run-at-digit : i < length s → isDigit (getD s i 0) ≡ true → digitRun (drop i s) ≡ getD s i 0 ∷ digitRun (drop (i + 1) s)
+  pub run-at-digit : i < length s → isDigit (getD s i 0) ≡ true
+      → digitRun (drop i s) ≡ getD s i 0 ∷ digitRun (drop (i + 1) s)
   run-at-digit h e = rw (add-one, drop-cons s i 0) (run-digit (getD s i 0) (drop (suc i) s) e)
 
--- A reader of the digits `all` at position `at`, of which at most `most` are allowed, has come to position i: it has gathered v,
--- `left` more digits are allowed, and the digits `rest` are still to come.
+-- A reader of the digits `all` at position `at`, of which at most `most` are allowed, has come to position i: it has
+-- gathered v, `left` more digits are allowed, and the digits `rest` are still to come.
 pub record Gathered (all rest : List ℕ) (at most i left v : ℕ) : Type 0 where
   pub number : valueFrom v rest ≡ valueFrom 0 all
   pub place : i + length rest ≡ at + length all
@@ -57,7 +58,8 @@ pub record Gathered (all rest : List ℕ) (at most i left v : ℕ) : Type 0 wher
   pub small : v < 10 ^ (mostDigits - left)
 
 pub gathered-none : (all : List ℕ) (at most : ℕ) → Gathered all all at most at most 0
-gathered-none all at most = record { number = refl; place = refl; count = refl; small = one-le-pow (mostDigits - most) 10 (omega arith) }
+gathered-none all at most =
+    record { number = refl; place = refl; count = refl; small = one-le-pow (mostDigits - most) 10 (omega arith) }
 
 module _ {all rest : List ℕ} {at most i left v : ℕ} (g : Gathered all rest at most i left v) where
   -- no digit is to come: the number is whole
@@ -69,12 +71,14 @@ module _ {all rest : List ℕ} {at most i left v : ℕ} (g : Gathered all rest a
       rw (le-leb (length all) most (omega (arith, g .count)), ← p, ← n)
 
   -- a digit is to come, and none is allowed
-  pub gathered-over : {b : ℕ} {more : List ℕ} → rest ≡ b ∷ more → left ≡ 0 → Bad ≡ foundAt (leb (length all) most) all at
+  pub gathered-over : {b : ℕ} {more : List ℕ} → rest ≡ b ∷ more → left ≡ 0
+      → Bad ≡ foundAt (leb (length all) most) all at
   unfolding foundAt
   gathered-over e z = rw (lt-leb (length all) most (omega (arith, g .count, g .place, ap length e)))
 
   -- a digit is to come, and is allowed
-  module _ {b : ℕ} {more : List ℕ} (e : rest ≡ b ∷ more) (digit : isDigit b ≡ true) (allowed : left ≡ 0 → ⊥) (few : left ≤ mostDigits) where
+  module _ {b : ℕ} {more : List ℕ} (e : rest ≡ b ∷ more) (digit : isDigit b ≡ true) (allowed : left ≡ 0 → ⊥)
+      (few : left ≤ mostDigits) where
     gathered-small : v * 10 + (b - digitZero) < 10 ^ (mostDigits - (left - 1))
     gathered-small =
         let p : mostDigits - (left - 1) ≡ suc (mostDigits - left) = omega arith in
@@ -91,7 +95,8 @@ module _ {all rest : List ℕ} {at most i left v : ℕ} (g : Gathered all rest a
 
     -- the number fits 32 bits
     pub gathered-fits : v * 10 + (b - digitZero) < 1000000000
-    gathered-fits = lt-of-lt-of-le gathered-small (pow-le-pow-right {n = 10} (omega arith) {j = mostDigits} (omega arith))
+    gathered-fits =
+        lt-of-lt-of-le gathered-small (pow-le-pow-right {n = 10} (omega arith) {j = mostDigits} (omega arith))
 
 -- The value at a position, by the byte there.
 module _ (most : ℕ) (s : List ℕ) (at : ℕ) where
@@ -104,15 +109,22 @@ module _ (most : ℕ) (s : List ℕ) (at : ℕ) where
     unfolding valueAt
     value-none e = rw (le-leb most mostDigits few, e)
 
-    pub value-zero : {b : ℕ} {more : List ℕ} → digitRun (drop at s) ≡ b ∷ more → b ≡ digitZero → valueAt most s at ≡ numberAt 1 s at
+    pub value-zero : {b : ℕ} {more : List ℕ} → digitRun (drop at s) ≡ b ∷ more → b ≡ digitZero
+        → valueAt most s at ≡ numberAt 1 s at
     unfolding valueAt
-    value-zero {b} {more} e z = rw (le-leb most mostDigits few, e, eq-eqb b digitZero z) (ap (λ (t : Bool). foundAt t (b ∷ more) at) (alone (length more)))
+    value-zero {b} {more} e z =
+        rw (
+          le-leb most mostDigits few,
+          e,
+          eq-eqb b digitZero z,
+        ) (ap (λ (t : Bool). foundAt t (b ∷ more) at) (alone (length more)))
       where
         alone : (n : ℕ) → eqb n 0 ≡ leb (suc n) 1
         alone zero = refl
         alone (suc n) = ne-eqb (suc n) 0 (omega arith) ∙ sym (lt-leb (suc (suc n)) 1 (omega arith))
 
-    pub value-more : {b : ℕ} {more : List ℕ} → digitRun (drop at s) ≡ b ∷ more → (b ≡ digitZero → ⊥) → valueAt most s at ≡ numberAt most s at
+    pub value-more : {b : ℕ} {more : List ℕ} → digitRun (drop at s) ≡ b ∷ more → (b ≡ digitZero → ⊥)
+        → valueAt most s at ≡ numberAt most s at
     unfolding valueAt
     value-more {b} {more} e z = rw (le-leb most mostDigits few, e, ne-eqb b digitZero z)
 
@@ -122,21 +134,25 @@ unfolding digitRun
 run-digits [] i h = absurd (omega arith)
 run-digits (b ∷ s) i h = go (isDigit b) refl (run-digits s) i h
   where
-    go : (t : Bool) → isDigit b ≡ t → ((i : ℕ) → i < length (digitRun s) → isDigit (getD s i 0) ≡ true) → (i : ℕ) → i < length (digitRun (b ∷ s)) → isDigit (getD (b ∷ s) i 0) ≡ true
+    go : (t : Bool) → isDigit b ≡ t → ((i : ℕ) → i < length (digitRun s) → isDigit (getD s i 0) ≡ true) → (i : ℕ)
+        → i < length (digitRun (b ∷ s)) → isDigit (getD (b ∷ s) i 0) ≡ true
     go false e ih i h = absurd (omega (arith, ap length (run-stop b s e)))
     go true e ih zero h = e
     go true e ih (suc i) h = ih i (omega (arith, ap length (run-digit b s e)))
 
-value-stops : (most : ℕ) (s : List ℕ) (at : ℕ) {v end : ℕ} → valueAt most s at ≡ Found v end → end ≡ at + length (digitRun (drop at s))
+value-stops : (most : ℕ) (s : List ℕ) (at : ℕ) {v end : ℕ} → valueAt most s at ≡ Found v end
+    → end ≡ at + length (digitRun (drop at s))
 unfolding valueAt
 value-stops most s at {v} {end} e = go (leb most mostDigits) (isValue most (digitRun (drop at s))) e
   where
-    go : (t u : Bool) → cond t (foundAt u (digitRun (drop at s)) at) Bad ≡ Found v end → end ≡ at + length (digitRun (drop at s))
+    go : (t u : Bool) → cond t (foundAt u (digitRun (drop at s)) at) Bad ≡ Found v end
+        → end ≡ at + length (digitRun (drop at s))
     go false u e = let z : _≡_ {A = ℕ} 0 1 = cc in absurd (omega arith)
     go true false e = let z : _≡_ {A = ℕ} 0 1 = cc in absurd (omega arith)
     go true true e = cc
 
-pub value-digits : (most : ℕ) (s : List ℕ) (at : ℕ) {v end : ℕ} → valueAt most s at ≡ Found v end → (i : ℕ) → at ≤ i → i < end → isDigit (getD s i 0) ≡ true
+pub value-digits : (most : ℕ) (s : List ℕ) (at : ℕ) {v end : ℕ} → valueAt most s at ≡ Found v end → (i : ℕ) → at ≤ i
+    → i < end → isDigit (getD s i 0) ≡ true
 value-digits most s at e i l h =
     let p : at + (i - at) ≡ i = omega arith in
     rw (getD-drop, p) at (run-digits (drop at s) (i - at) (omega (arith, value-stops most s at e)))

@@ -8,8 +8,8 @@ use Rattle.decimal.specs.Ascii.{digitZero}
 use Rattle.decimal.specs.declared.Written.{Written}
 use Rattle.decimal.specs.declared.Written.the-variants.{End, NoRoom}
 
--- A number below 10 is one digit; a larger one is the text of its tenth part, then its last digit. The first argument bounds the
--- recursion.
+-- A number below 10 is one digit; a larger one is the text of its tenth part, then its last digit. The first argument
+-- bounds the recursion.
 unfoldable pub textWithin : ℕ → ℕ → List ℕ
 textWithin zero n = (digitZero + n) ∷ []
 textWithin (suc k) n =

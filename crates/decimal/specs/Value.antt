@@ -40,8 +40,8 @@ foundAt good digits at = cond good (Found (valueFrom 0 digits) (at + length digi
 abbrev pub numberAt : ℕ → List ℕ → ℕ → Value
 numberAt most s at = let digits : List ℕ = digitRun (drop at s) in foundAt (leb (length digits) most) digits at
 
--- The value at a position of a line: all the digits that stand there have to make a value. Where a reader is to allow more digits
--- than fit 32 bits, there is no value.
+-- The value at a position of a line: all the digits that stand there have to make a value. Where a reader is to allow
+-- more digits than fit 32 bits, there is no value.
 unfoldable pub valueAt : ℕ → List ℕ → ℕ → Value
 unfolding isValue digitRun foundAt
 valueAt most s at =

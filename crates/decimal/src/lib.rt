@@ -60,7 +60,8 @@ fn read_digits(line: &[u8], at: usize, most: u8) -> Value
     Value::Found(value, end)
 }
 
-// The value at a position: 0 alone, or 1 to `most` digits not starting with 0. Where `most` is over MOST_DIGITS there is none.
+// The value at a position: 0 alone, or 1 to `most` digits not starting with 0. Where `most` is over MOST_DIGITS there
+// is none.
 pub fn read_value(line: &[u8], at: usize, most: u8) -> Value
     ensures value { λ r. ⌜ r ≡ valueAt most (now (line .entry)) at ⌝ }
     ensures values { λ r. ⌜ foundValues r ≡ foundValues (valueAt most (now (line .entry)) at) ⌝ }
@@ -97,8 +98,10 @@ pub fn decimal_length(n: u64) -> usize
 
 // Writes n in decimal from a position on.
 pub fn write_decimal(n: u64, out: &mut [u8], at: usize) -> Written
-    ensures written { λ r. ⌜ record { answer = r; buffer = now (out .exit) } ≡ writeText (decimalText n) (now (out .entry)) at ⌝ }
-    ensures values { λ r. ⌜ writtenValues r ≡ writtenValues (writeText (decimalText n) (now (out .entry)) at .answer) ⌝ }
+    ensures written { λ r. ⌜ record { answer = r; buffer = now (out .exit) }
+        ≡ writeText (decimalText n) (now (out .entry)) at ⌝ }
+    ensures values { λ r. ⌜ writtenValues r
+        ≡ writtenValues (writeText (decimalText n) (now (out .entry)) at .answer) ⌝ }
 {
     let count = decimal_length(n);
     if out.len() < at {

@@ -14,22 +14,27 @@ unfolding digitsAnswer
 digits-refused = refl
 
 -- 0 has no digits; 18 nines pass at depth 18
-pub digits-written : digitsAnswer 1 0 0 ∷ digitsAnswer 3 92 2 ∷ digitsAnswer 18 999999999999999999 18 ∷ [] ≡ Written 0 ∷ Written 2 ∷ Written 18 ∷ []
+pub digits-written : digitsAnswer 1 0 0 ∷ digitsAnswer 3 92 2 ∷ digitsAnswer 18 999999999999999999 18 ∷
+    [] ≡ Written 0 ∷ Written 2 ∷ Written 18 ∷ []
 unfolding digitsAnswer
 digits-written = refl
 
 -- the other places keep their values, and all do where the call is refused
-pub digits-placed : digitsPlaces 3 92 (7 ∷ 7 ∷ 7 ∷ []) ∷ digitsPlaces 3 105 (7 ∷ 7 ∷ 7 ∷ []) ∷ digitsPlaces 3 92 (7 ∷ []) ∷ [] ≡ (9 ∷ 2 ∷ 7 ∷ []) ∷ (7 ∷ 7 ∷ 7 ∷ []) ∷ (7 ∷ []) ∷ []
+pub digits-placed : digitsPlaces 3 92 (7 ∷ 7 ∷ 7 ∷ []) ∷ digitsPlaces 3 105 (7 ∷ 7 ∷ 7 ∷ []) ∷ digitsPlaces 3 92
+    (7 ∷ []) ∷ [] ≡ (9 ∷ 2 ∷ 7 ∷ []) ∷ (7 ∷ 7 ∷ 7 ∷ []) ∷ (7 ∷ []) ∷ []
 unfolding digitsPlaces
 digits-placed = refl
 
 -- ---- the label of digits
 
-pub label-refused : labelAnswer 0 [] ∷ labelAnswer 19 [] ∷ labelAnswer 3 (1 ∷ 0 ∷ 5 ∷ []) ∷ labelAnswer 3 (10 ∷ []) ∷ labelAnswer 18 (replicate 19 1) ∷ [] ≡ LabelRefused 2 ∷ LabelRefused 2 ∷ LabelRefused 11 ∷ LabelRefused 11 ∷ LabelRefused 11 ∷ []
+pub label-refused : labelAnswer 0 [] ∷ labelAnswer 19 [] ∷ labelAnswer 3 (1 ∷ 0 ∷ 5 ∷ []) ∷ labelAnswer 3
+    (10 ∷ []) ∷ labelAnswer 18
+    (replicate 19 1) ∷ [] ≡ LabelRefused 2 ∷ LabelRefused 2 ∷ LabelRefused 11 ∷ LabelRefused 11 ∷ LabelRefused 11 ∷ []
 unfolding labelAnswer
 label-refused = refl
 
-pub label-given : labelAnswer 3 [] ∷ labelAnswer 3 (9 ∷ 2 ∷ []) ∷ labelAnswer 18 (replicate 18 9) ∷ [] ≡ Label 0 ∷ Label 92 ∷ Label 999999999999999999 ∷ []
+pub label-given : labelAnswer 3 [] ∷ labelAnswer 3 (9 ∷ 2 ∷ []) ∷ labelAnswer 18
+    (replicate 18 9) ∷ [] ≡ Label 0 ∷ Label 92 ∷ Label 999999999999999999 ∷ []
 unfolding labelAnswer
 label-given = refl
 

@@ -24,11 +24,16 @@ record WrittenBy (depth m places n : ℕ) : Type 0 where
   room : leb (length (digitsOf m)) places ≡ true
   count : length (digitsOf m) ≡ n
 
-written-by : (depth label places count : ℕ) → digitsAnswer depth label places ≡ Written count → WrittenBy depth label places count
+written-by : (depth label places count : ℕ) → digitsAnswer depth label places ≡ Written count
+    → WrittenBy depth label places count
 unfolding digitsAnswer
-written-by depth label places count e = go (depthFits depth) refl (isLabel depth label) refl (leb (length (digitsOf label)) places) refl e
+written-by depth label places count e =
+    go (depthFits depth) refl (isLabel depth label) refl (leb (length (digitsOf label)) places) refl e
   where
-    go : (f : Bool) → depthFits depth ≡ f → (l : Bool) → isLabel depth label ≡ l → (r : Bool) → leb (length (digitsOf label)) places ≡ r → cond f (cond l (cond r (Written (length (digitsOf label))) (Refused 3)) (Refused 11)) (Refused 2) ≡ Written count → WrittenBy depth label places count
+    go : (f : Bool) → depthFits depth ≡ f → (l : Bool) → isLabel depth label ≡ l → (r : Bool)
+        → leb (length (digitsOf label)) places ≡ r → cond f
+        (cond l (cond r (Written (length (digitsOf label))) (Refused 3)) (Refused 11))
+        (Refused 2) ≡ Written count → WrittenBy depth label places count
     go true f true l true r e = record { fits = f; label = l; room = r; count = cc }
     go true f true l false r e = let z : _≡_ {A = ℕ} 0 1 = cc in absurd (omega arith)
     go true f false l r s e = let z : _≡_ {A = ℕ} 0 1 = cc in absurd (omega arith)
@@ -44,20 +49,30 @@ read-from : (depth : ℕ) (x : List ℕ) (label : ℕ) → labelAnswer depth x �
 unfolding labelAnswer
 read-from depth x label e = go (depthFits depth) refl (areDigits depth x) refl e
   where
-    go : (f : Bool) → depthFits depth ≡ f → (d : Bool) → areDigits depth x ≡ d → cond f (cond d (Label (number x)) (LabelRefused 11)) (LabelRefused 2) ≡ Label label → ReadFrom depth x label
+    go : (f : Bool) → depthFits depth ≡ f → (d : Bool) → areDigits depth x ≡ d
+        → cond f (cond d (Label (number x)) (LabelRefused 11)) (LabelRefused 2) ≡ Label label → ReadFrom depth x label
     go true f true d e = record { fits = f; digits = d; label = cc }
     go true f false d e = let z : _≡_ {A = ℕ} 0 1 = cc in absurd (omega arith)
     go false f d k e = let z : _≡_ {A = ℕ} 0 1 = cc in absurd (omega arith)
 
 -- the label is read again from the places that its digits were written to
-pub label-again : (depth label : ℕ) (out : List ℕ) (count : ℕ) → label < 2 ^ 64 → digitsAnswer depth label (length out) ≡ Written count → labelAnswer depth (take count (digitsPlaces depth label out)) ≡ Label label
+pub label-again : (depth label : ℕ) (out : List ℕ) (count : ℕ) → label < 2 ^ 64
+    → digitsAnswer depth label (length out) ≡ Written count → labelAnswer depth
+    (take count (digitsPlaces depth label out)) ≡ Label label
 unfolding digitsPlaces labelAnswer isLabel
 label-again depth label out count fits e =
     let w = written-by depth label (length out) count e in
-    rw (e, take-at (digitsOf label) (drop (length (digitsOf label)) out) count (w .count), w .fits, w .label, number-digits label (omega arith))
+    rw (
+      e,
+      take-at (digitsOf label) (drop (length (digitsOf label)) out) count (w .count),
+      w .fits,
+      w .label,
+      number-digits label (omega arith),
+    )
 
 -- the digits that a label was read from are written again
-pub digits-again : (depth : ℕ) (x out : List ℕ) (label : ℕ) → length x ≤ length out → labelAnswer depth x ≡ Label label → (digitsAnswer depth label (length out) ≡ Written (length x)) × (digitsPlaces depth label out ≡ written x out)
+pub digits-again : (depth : ℕ) (x out : List ℕ) (label : ℕ) → length x ≤ length out → labelAnswer depth x ≡ Label label
+    → (digitsAnswer depth label (length out) ≡ Written (length x)) × (digitsPlaces depth label out ≡ written x out)
 unfolding digitsAnswer digitsPlaces isLabel
 digits-again depth x out label room e =
     let r = read-from depth x label e in

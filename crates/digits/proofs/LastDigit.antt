@@ -54,7 +54,12 @@ module _ (m : ℕ) (fits : m < 2 ^ 64) (some : 0 < m) where
 
   pub label-zero : (depth : ℕ) → m % 10 < 1 → isLabel depth m ≡ false
   unfolding isLabel areDigits
-  label-zero depth h = rw (last-digit, every-snoc, within-below 9 (m % 10) h) (go (leb (length (digitsOf (m / 10) ++ (m % 10 ∷ []))) depth))
+  label-zero depth h =
+      rw (
+        last-digit,
+        every-snoc,
+        within-below 9 (m % 10) h,
+      ) (go (leb (length (digitsOf (m / 10) ++ (m % 10 ∷ []))) depth))
     where
       go : (b : Bool) → cond b false false ≡ false
       go true = refl
@@ -63,16 +68,35 @@ module _ (m : ℕ) (fits : m < 2 ^ 64) (some : 0 < m) where
   pub label-turn : (depth : ℕ) → 1 ≤ depth → 1 ≤ m % 10 → isLabel (depth - 1) (m / 10) ≡ isLabel depth m
   unfolding isLabel areDigits
   label-turn zero h g = absurd (omega arith)
-  label-turn (suc depth) h g = rw (sub-one (suc depth), digits-longer, leb·suc-suc, last-digit, every-snoc, within-yes 9 (m % 10) g (omega arith))
+  label-turn (suc depth) h g =
+      rw (
+        sub-one (suc depth),
+        digits-longer,
+        leb·suc-suc,
+        last-digit,
+        every-snoc,
+        within-yes 9 (m % 10) g (omega arith),
+      )
 
 -- ---- digits written from the last to the first
 
 -- one place more, before those that are written
-written-snoc : (x out : List ℕ) (a : ℕ) → length x < length out → written x (set out (length x) a) ≡ written (x ++ (a ∷ [])) out
-written-snoc x out a h = rw (set-split out (length x) a, drop-at (take (length x) out) (a ∷ drop (suc (length x)) out) (length x) (length-take-le (length x) out (omega arith)), append-assoc, length-append, add-one)
+written-snoc : (x out : List ℕ) (a : ℕ) → length x < length out
+    → written x (set out (length x) a) ≡ written (x ++ (a ∷ [])) out
+written-snoc x out a h =
+    rw (
+      set-split out (length x) a,
+      drop-at (take (length x) out) (a ∷ drop (suc (length x)) out) (length x)
+          (length-take-le (length x) out (omega arith)),
+      append-assoc,
+      length-append,
+      add-one,
+    )
 
-pub write-turn : (m : ℕ) (out : List ℕ) (at : ℕ) → m < 2 ^ 64 → 0 < m → at ≡ length (digitsOf (m / 10)) → at < length out → written (digitsOf (m / 10)) (set out at (m % 10)) ≡ written (digitsOf m) out
-write-turn m out at fits some e h = rw (e, last-digit m fits some) (written-snoc (digitsOf (m / 10)) out (m % 10) (omega arith))
+pub write-turn : (m : ℕ) (out : List ℕ) (at : ℕ) → m < 2 ^ 64 → 0 < m → at ≡ length (digitsOf (m / 10))
+    → at < length out → written (digitsOf (m / 10)) (set out at (m % 10)) ≡ written (digitsOf m) out
+write-turn m out at fits some e h =
+    rw (e, last-digit m fits some) (written-snoc (digitsOf (m / 10)) out (m % 10) (omega arith))
 
 pub write-end : (x out : List ℕ) → length x ≤ 0 → written x out ≡ out
 write-end [] out h = refl

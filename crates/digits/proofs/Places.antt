@@ -27,7 +27,8 @@ module _ (test : ℕ → Bool) (x : List ℕ) (i : ℕ) where
 
 -- ---- the number of digits, by place
 
-pub number-turn : (m : ℕ) (x : List ℕ) (i : ℕ) → i < length x → numberFrom (m * 10 + getD x i 0) (drop (i + 1) x) ≡ numberFrom m (drop i x)
+pub number-turn : (m : ℕ) (x : List ℕ) (i : ℕ) → i < length x
+    → numberFrom (m * 10 + getD x i 0) (drop (i + 1) x) ≡ numberFrom m (drop i x)
 unfolding numberFrom
 number-turn m x i h = rw (add-one i, drop-cons x i 0)
 

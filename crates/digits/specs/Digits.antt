@@ -1,4 +1,5 @@
--- Document 01's rules for a label given as a number or as digits: refusals 2, 11 and 3, and what a lent slice holds afterwards.
+-- Document 01's rules for a label given as a number or as digits: refusals 2, 11 and 3, and what a lent slice holds
+-- afterwards.
 use mathlib.Core.Bool.{cond}
 use mathlib.Core.List.{List}
 use Prim.Native.Nat.{ℕ}

@@ -52,7 +52,8 @@ pub fn count_digits(label: u64) -> usize
     count
 }
 
-// Writes the digits of a label, of which there are count, to the first places, the last digit first. A step for the flow question.
+// Writes the digits of a label, of which there are count, to the first places, the last digit first. A step for the
+// flow question.
 pub fn put_digits(label: u64, count: usize, out: &mut [u8])
     requires { ⌜ count ≡ length (digitsOf label) ⌝ }
     requires { ⌜ count ≤ length (now out) ⌝ }

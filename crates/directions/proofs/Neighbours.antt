@@ -36,13 +36,16 @@ moved-back {a} z {count} {b} l e =
     ap (below count) t ∙ ap (λ (y : Bool). cond y (At a) Off) (lt-ltb a count l)
 
 -- a step that is undone by another leads back
-end-back : (rows cols row col : ℕ) {s o : Step} → Opposite s o → row < rows → col < cols → {t : ℕ} → stepEnd rows cols row col s ≡ At t → stepEnd rows cols (t / cols) (t % cols) o ≡ At (row * cols + col)
+end-back : (rows cols row col : ℕ) {s o : Step} → Opposite s o → row < rows → col < cols → {t : ℕ}
+    → stepEnd rows cols row col s ≡ At t → stepEnd rows cols (t / cols) (t % cols) o ≡ At (row * cols + col)
 end-back rows cols row col {s} {o} opposite h k {t} e =
     let l = end-landed rows cols row col s e in
     let on = moved-lt _ _ (l .col-is) in
     let r : t / cols ≡ l .row = ap (λ (y : ℕ). y / cols) (sym (l .cell-is)) ∙ cell-row (l .row) on in
     let c : t % cols ≡ l .col = ap (λ (y : ℕ). y % cols) (sym (l .cell-is)) ∙ cell-col (l .row) on in
-    rw (r, c) (sym (end-at rows cols (l .row) (l .col) o (rw (opposite .row) (moved-back (s .row) h (l .row-is))) (rw (opposite .col) (moved-back (s .col) k (l .col-is)))))
+    rw (r, c)
+    (sym (end-at rows cols (l .row) (l .col) o (rw (opposite .row) (moved-back (s .row) h (l .row-is)))
+    (rw (opposite .col) (moved-back (s .col) k (l .col-is)))))
 
 -- ---- what is found against a step
 
@@ -60,7 +63,8 @@ module _ (G : Grid) (row col k : ℕ) where
   unfolding neighbourAgainst
   neighbour-off e = rw e
 
-  pub neighbour-no : {t : ℕ} → stepBack G row col k ≡ At t → (dirAt G t ≡ stepAt k .code → ⊥) → Off ≡ neighbourAgainst G row col k
+  pub neighbour-no : {t : ℕ} → stepBack G row col k ≡ At t → (dirAt G t ≡ stepAt k .code → ⊥)
+      → Off ≡ neighbourAgainst G row col k
   unfolding neighbourAgainst
   neighbour-no e ne = rw (e, ne-eqb _ _ ne)
 
@@ -72,8 +76,11 @@ module _ (G : Grid) (row col k : ℕ) where
   unfolding neighbourAgainst
   neighbour-found {u} e = go (stepBack G row col k) refl e
     where
-      own : (t : ℕ) → stepBack G row col k ≡ At t → (b : Bool) → eqb (dirAt G t) (stepAt k .code) ≡ b → cond b (At t) Off ≡ At u → FoundAgainst G row col k u
-      own t n true z e = let q : t ≡ u = cc in record { ends = n ∙ ap At q; code = ap (dirAt G) (sym q) ∙ eqb-true (dirAt G t) (stepAt k .code) z }
+      own : (t : ℕ) → stepBack G row col k ≡ At t → (b : Bool) → eqb (dirAt G t) (stepAt k .code) ≡ b
+          → cond b (At t) Off ≡ At u → FoundAgainst G row col k u
+      own t n true z e =
+          let q : t ≡ u = cc in
+          record { ends = n ∙ ap At q; code = ap (dirAt G) (sym q) ∙ eqb-true (dirAt G t) (stepAt k .code) z }
       own t n false z e = absurd (off-not-at e)
 
       go : (a : End) → stepBack G row col k ≡ a → withCode G k a ≡ At u → FoundAgainst G row col k u
@@ -84,31 +91,43 @@ module _ (G : Grid) (row col k : ℕ) where
   neighbour-lt e = end-lt (G .rows) (G .cols) row col (stepAt (back k)) (neighbour-found e .ends)
 
 -- no cell is found against two steps
-pub neighbour-once : (G : Grid) (row col : ℕ) {j k u : ℕ} → j < 8 → k < 8 → neighbourAgainst G row col j ≡ At u → neighbourAgainst G row col k ≡ At u → j ≡ k
-neighbour-once G row col {j} {k} h l e f = code-once j k h l (sym (neighbour-found G row col j e .code) ∙ neighbour-found G row col k f .code)
+pub neighbour-once : (G : Grid) (row col : ℕ) {j k u : ℕ} → j < 8 → k < 8 → neighbourAgainst G row col j ≡ At u
+    → neighbourAgainst G row col k ≡ At u → j ≡ k
+neighbour-once G row col {j} {k} h l e f =
+    code-once j k h l (sym (neighbour-found G row col j e .code) ∙ neighbour-found G row col k f .code)
 
 -- ---- the donors of a cell
 
 module _ (G : Grid) (row col : ℕ) (row-on : row < G .rows) (col-on : col < G .cols) where
   -- what is found against a step from an inside cell is a donor of it
-  pub neighbour-next : inside G (row * G .cols + col) ≡ true → {k u : ℕ} → k < 8 → neighbourAgainst G row col k ≡ At u → next G u ≡ To (row * G .cols + col)
+  pub neighbour-next : inside G (row * G .cols + col) ≡ true → {k u : ℕ} → k < 8 → neighbourAgainst G row col k ≡ At u
+      → next G u ≡ To (row * G .cols + col)
   unfolding endOf
   neighbour-next i {k} {u} h e =
       let f = neighbour-found G row col k e in
       let s : stepOf (dirAt G u) ≡ stepAt k = ap stepOf (f .code) ∙ table-step k h in
-      let n : endOf G u ≡ At (row * G .cols + col) = rw s (end-back (G .rows) (G .cols) row col (opposite-back k h) row-on col-on (f .ends)) in
+      let n : endOf G u ≡ At (row * G .cols + col) = rw s
+      (end-back (G .rows) (G .cols) row col (opposite-back k h) row-on col-on (f .ends)) in
       let ne : dirAt G u ≡ 0 → ⊥ = λ z. let l = code-positive k h in let c = f .code in omega arith in
-      sym (next-to G u (record { from-inside = inside-yes G u (neighbour-lt G row col k e) ne; ends = n; to-inside = i }))
+      sym (next-to G u
+      (record { from-inside = inside-yes G u (neighbour-lt G row col k e) ne; ends = n; to-inside = i }))
 
   -- each donor whose byte is a code is found against some step
-  pub next-neighbour : {u : ℕ} → isCode (dirAt G u) ≡ true → next G u ≡ To (row * G .cols + col) → (k : ℕ) × (k < 8) × (neighbourAgainst G row col k ≡ At u)
+  pub next-neighbour : {u : ℕ} → isCode (dirAt G u) ≡ true → next G u ≡ To (row * G .cols + col)
+      → (k : ℕ) × (k < 8) × (neighbourAgainst G row col k ≡ At u)
   unfolding endOf
   next-neighbour {u} code e =
       let g = next-goes G u e in
       let f = code-found (dirAt G u) code (inside-code G u (g .from-inside)) in
       let k = f .0 in
       let some : 0 < G .cols = omega arith in
-      let n : stepEnd (G .rows) (G .cols) (u / G .cols) (u % G .cols) (stepAt k) ≡ At (row * G .cols + col) = rw (f .2) at (g .ends) in
-      let b = end-back (G .rows) (G .cols) (u / G .cols) (u % G .cols) (back-opposite k (f .1)) (row-lt some (next-from-lt G u e)) (mod-lt u some) n in
-      let ends : stepBack G row col k ≡ At u = rw (cell-row row col-on, cell-col row col-on, div-add-mod' u (G .cols)) at b in
+      let n : stepEnd (G .rows) (G .cols) (u / G .cols) (u % G .cols) (stepAt k) ≡ At (row * G .cols + col) = rw
+      (f .2) at (g .ends) in
+      let b = end-back (G .rows) (G .cols) (u / G .cols) (u % G .cols) (back-opposite k (f .1))
+      (row-lt some (next-from-lt G u e)) (mod-lt u some) n in
+      let ends : stepBack G row col k ≡ At u = rw (
+        cell-row row col-on,
+        cell-col row col-on,
+        div-add-mod' u (G .cols),
+      ) at b in
       (k, f .1, sym (neighbour-yes G row col k (record { ends = ends; code = f .3 })))

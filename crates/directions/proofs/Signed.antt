@@ -1,4 +1,5 @@
--- A row or column moved by a signed step, in 32 bits: the sum fits, its bits are read back as the sum, and where it leads.
+-- A row or column moved by a signed step, in 32 bits: the sum fits, its bits are read back as the sum, and where it
+-- leads.
 use mathlib.Core.Path.{_≡_, refl, _∙_, ap₂, subst}
 use mathlib.Core.Bool.{Bool, true, false, cond}
 use Prim.Native.Nat.{ℕ, suc, _<_, _≤_, _-_, _^_}
@@ -23,7 +24,8 @@ sub-small a b h k = go (ltb a b)
 
 sum-small : (a : ℕ) (z : ℤ) → Near a z → mag (pos a +ℤ z) < 2 ^ 31
 sum-small a (pos b) h = omega arith
-sum-small a (negsuc b) h = let s : mag (subℕ a (suc b)) < 256 = sub-small a (suc b) (omega arith) (omega arith) in omega arith
+sum-small a (negsuc b) h =
+    let s : mag (subℕ a (suc b)) < 256 = sub-small a (suc b) (omega arith) (omega arith) in omega arith
 
 -- a signed argument reaches a callee as the number that its bits stand for
 pub read-step : (z : ℤ) → mag z < 2 → toZ w32 (ofZ w32 z) ≡ z
@@ -71,7 +73,8 @@ module _ (a : ℕ) (z : ℤ) (count : ℕ) (near : Near a z) where
 
   pub moved-in : ltZ (Sum a z) (pos 0) ≡ false → natAbs (Sum a z) < count → At (natAbs (Sum a z)) ≡ movedBy a z count
   unfolding movedBy
-  moved-in e h = rw (sum-is a z near) (below-in count (pos a +ℤ z) (rw (sum-is a z near) at e) (rw (sum-is a z near) at h))
+  moved-in e h =
+      rw (sum-is a z near) (below-in count (pos a +ℤ z) (rw (sum-is a z near) at e) (rw (sum-is a z near) at h))
 
   pub moved-out : ltZ (Sum a z) (pos 0) ≡ false → count ≤ natAbs (Sum a z) → Off ≡ movedBy a z count
   unfolding movedBy

@@ -1,4 +1,5 @@
--- Laws of the table of steps: each is short, a code's step stands in it, no code stands twice, and the step back is four entries on.
+-- Laws of the table of steps: each is short, a code's step stands in it, no code stands twice, and the step back is
+-- four entries on.
 use mathlib.Core.Path.{_≡_, refl, sym, _∙_, ap, subst}
 use mathlib.Core.Bool.{Bool, true, false, cond}
 use mathlib.Core.List.{List, [], _∷_}
@@ -32,7 +33,8 @@ at-each P a b c d e f g h (suc (suc (suc (suc (suc (suc (suc (suc k)))))))) l = 
 -- ---- a code's step
 
 -- one more step of the table is tried
-pub step-in : (k code : ℕ) → k < 8 → stepIn (drop k steps) code ≡ cond (eqb (stepAt k .code) code) (stepAt k) (stepIn (drop (k + 1) steps) code)
+pub step-in : (k code : ℕ) → k < 8
+    → stepIn (drop k steps) code ≡ cond (eqb (stepAt k .code) code) (stepAt k) (stepIn (drop (k + 1) steps) code)
 unfolding stepIn
 step-in k code h = rw (add-one k, drop-cons steps k noStep h)
 
@@ -44,7 +46,8 @@ unfolding stepIn
 in-found [] code = inr refl
 in-found (s ∷ ss) code = go (eqb (s .code) code) (in-found ss code)
   where
-    go : (b : Bool) → InTable ss (stepIn ss code) ⊎ (stepIn ss code ≡ noStep) → InTable (s ∷ ss) (cond b s (stepIn ss code)) ⊎ (cond b s (stepIn ss code) ≡ noStep)
+    go : (b : Bool) → InTable ss (stepIn ss code) ⊎ (stepIn ss code ≡ noStep)
+        → InTable (s ∷ ss) (cond b s (stepIn ss code)) ⊎ (cond b s (stepIn ss code) ≡ noStep)
     go true h = inl (0, omega arith, refl)
     go false h = ⊎-elim (λ t. inl (suc (t .0), omega arith, t .2)) (λ e. inr e) h
 
@@ -54,11 +57,17 @@ unfolding stepOf
 step-found code = in-found steps code
 
 -- the step of a code other than 0 stands in the table, under that code
-pub code-found : (code : ℕ) → isCode code ≡ true → (code ≡ 0 → ⊥) → (k : ℕ) × (k < 8) × (stepOf code ≡ stepAt k) × (code ≡ stepAt k .code)
+pub code-found : (code : ℕ) → isCode code ≡ true → (code ≡ 0 → ⊥)
+    → (k : ℕ) × (k < 8) × (stepOf code ≡ stepAt k) × (code ≡ stepAt k .code)
 unfolding isCode
 code-found code is ne =
     let own : stepOf code .code ≡ code = eqb-true (stepOf code .code) code is in
-    ⊎-elim (λ t. (t .0, t .1, t .2, sym own ∙ ap (λ (s : Step). s .code) (t .2))) (λ e. absurd (ne (sym own ∙ ap (λ (s : Step). s .code) e)))
+    ⊎-elim (λ t. (
+      t .0,
+      t .1,
+      t .2,
+      sym own ∙ ap (λ (s : Step). s .code) (t .2),
+    )) (λ e. absurd (ne (sym own ∙ ap (λ (s : Step). s .code) e)))
     (step-found code)
 
 -- ---- the entries
@@ -68,7 +77,8 @@ short {s} r c = record { rows = ltb-true (mag (s .row)) 2 r; cols = ltb-true (ma
 
 each-short : (k : ℕ) → k < 8 → Short (stepAt k)
 each-short =
-    at-each (λ k. Short (stepAt k)) (short refl refl) (short refl refl) (short refl refl) (short refl refl) (short refl refl) (short refl refl)
+    at-each (λ k. Short (stepAt k)) (short refl refl) (short refl refl) (short refl refl) (short refl refl)
+    (short refl refl) (short refl refl)
     (short refl refl) (short refl refl)
 
 pub table-short : (k : ℕ) → Short (stepAt k)
@@ -90,7 +100,9 @@ table-step = at-each (λ k. stepOf (stepAt k .code) ≡ stepAt k) refl refl refl
 
 -- no code of the table is 0
 pub code-positive : (k : ℕ) → k < 8 → 0 < stepAt k .code
-code-positive = at-each (λ k. 0 < stepAt k .code) (omega arith) (omega arith) (omega arith) (omega arith) (omega arith) (omega arith) (omega arith) (omega arith)
+code-positive =
+    at-each (λ k. 0 < stepAt k .code) (omega arith) (omega arith) (omega arith) (omega arith) (omega arith)
+    (omega arith) (omega arith) (omega arith)
 
 -- the entry with a code
 abbrev entryOf : List Step → ℕ → ℕ
@@ -125,8 +137,10 @@ opposite r c = record { row = r; col = c }
 
 pub back-opposite : (k : ℕ) → k < 8 → Opposite (stepAt k) (stepAt (back k))
 back-opposite =
-    at-each (λ k. Opposite (stepAt k) (stepAt (back k))) (opposite refl refl) (opposite refl refl) (opposite refl refl) (opposite refl refl)
+    at-each (λ k. Opposite (stepAt k) (stepAt (back k))) (opposite refl refl) (opposite refl refl) (opposite refl refl)
+    (opposite refl refl)
     (opposite refl refl) (opposite refl refl) (opposite refl refl) (opposite refl refl)
 
 pub opposite-back : (k : ℕ) → k < 8 → Opposite (stepAt (back k)) (stepAt k)
-opposite-back k h = subst (λ (j : ℕ). Opposite (stepAt (back k)) (stepAt j)) (back-back k h) (back-opposite (back k) (back-lt k))
+opposite-back k h =
+    subst (λ (j : ℕ). Opposite (stepAt (back k)) (stepAt j)) (back-back k h) (back-opposite (back k) (back-lt k))

@@ -30,7 +30,8 @@ unfoldable pub withCode : Grid → ℕ → End → End
 withCode G k Off = Off
 withCode G k (At t) = cond (eqb (dirAt G t) (stepAt k .code)) (At t) Off
 
--- the neighbour of the cell in a row and a column against the k-th step: the cell one step back, if that step is its own
+-- the neighbour of the cell in a row and a column against the k-th step: the cell one step back, if that step is its
+-- own
 unfoldable pub neighbourAgainst : Grid → ℕ → ℕ → ℕ → End
 unfolding stepEnd withCode
 neighbourAgainst G row col k = withCode G k (stepEnd (G .rows) (G .cols) row col (stepAt ((k + 4) % 8)))

@@ -9,7 +9,8 @@ ghost use Rattle.sheet.specs.Sheet.{grid, next, isOutlet};
 ghost use Rattle.directions.specs.Sizes.{OnSheet, Sized};
 ghost use Rattle.directions.specs.Steps.{stepAt, Near, Short, neighbourAgainst};
 
-// The eight codes from east on, each an eighth of a turn clockwise from the one before: the step back is four entries on.
+// The eight codes from east on, each an eighth of a turn clockwise from the one before: the step back is four entries
+// on.
 const STEPS: [Step; 8] = [
     Step {
         code: 1,
@@ -53,8 +54,8 @@ const STEPS: [Step; 8] = [
     },
 ];
 
-// The k-th step of the table. Each entry is named by its number: compiled, that is a look-up in fixed memory, where an index that is
-// not known would have the table built anew at each call.
+// The k-th step of the table. Each entry is named by its number: compiled, that is a look-up in fixed memory, where an
+// index that is not known would have the table built anew at each call.
 fn step_at(k: usize) -> Step
     requires { ⌜ k < 8 ⌝ }
     ensures { λ r. ⌜ r ≡ stepAt k ⌝ }
@@ -164,8 +165,8 @@ pub fn is_outlet(dirs: &[u8], rows: usize, cols: usize, row: usize, col: usize) 
     }
 }
 
-// The neighbour of a cell against the k-th step of the table: the cell one step back, if that step is its own. Of an inside
-// cell it is a donor.
+// The neighbour of a cell against the k-th step of the table: the cell one step back, if that step is its own. Of an
+// inside cell it is a donor.
 pub fn neighbour_against(
     dirs: &[u8],
     rows: usize,

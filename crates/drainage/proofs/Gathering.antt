@@ -1,5 +1,5 @@
--- The totals while they are gathered, from the end of the queue to its start: those of the ways whose steps are the cells
--- passed so far.
+-- The totals while they are gathered, from the end of the queue to its start: those of the ways whose steps are the
+-- cells passed so far.
 use mathlib.Core.Path.{_≡_, refl, sym, _∙_, ap}
 use mathlib.Core.Bool.{Bool, true, false, cond}
 use mathlib.Core.List.{List}
@@ -56,7 +56,9 @@ module _ {n : ℕ} {work : List ℕ} {queued : ℕ} (q : Queue n work queued) wh
   -- ---- at the end of the queue no step is taken
 
   all-shut : (c : ℕ) → c < n → cutAt n work queued c ≡ Outlet
-  all-shut c l = cut-shut n work queued c (elim (ℕ-discrete (rankOf n work c) 0) [ yes e ↦ omega arith | no d ↦ q .stands c l (omega arith) .most ])
+  all-shut c l =
+      cut-shut n work queued c
+      (elim (ℕ-discrete (rankOf n work c) 0) [ yes e ↦ omega arith | no d ↦ q .stands c l (omega arith) .most ])
 
   only-itself : (k p c : ℕ) → p < n → 0 < k → passes (cutAt n work queued) k p c ≡ eqb p c
   unfolding passes onward
@@ -70,7 +72,8 @@ module _ {n : ℕ} {work : List ℕ} {queued : ℕ} (q : Queue n work queued) wh
   pub total-start : (f : ℕ → ℕ) (c : ℕ) → c < n → total n (cutAt n work queued) f c ≡ f c
   unfolding total
   total-start f c l =
-      sum-same n (λ p. passes (cutAt n work queued) n p c) (λ p. eqb p c) f f (λ p h. only-itself n p c h (omega arith)) (λ p h. refl)
+      sum-same n (λ p. passes (cutAt n work queued) n p c) (λ p. eqb p c) f f
+      (λ p h. only-itself n p c h (omega arith)) (λ p h. refl)
       ∙ sum-one n c f l
 
   -- ---- the place i takes one step more: that of the cell x
@@ -85,7 +88,8 @@ module _ {n : ℕ} {work : List ℕ} {queued : ℕ} (q : Queue n work queued) wh
     cut-other : (c : ℕ) → c < n → c ≢ x → cutAt n work i c ≡ cutAt n work (i + 1) c
     cut-other c l d = elim (decLt i (rankOf n work c)) [
       | yes h ↦
-          let ne : rankOf n work c ≢ i + 1 = λ e. d (rank-once q c x l (item .on) (omega arith) (e ∙ sym (item .rank))) in
+          let ne : rankOf n work c ≢ i + 1 = λ e. d
+          (rank-once q c x l (item .on) (omega arith) (e ∙ sym (item .rank))) in
           cut-open n work i c h ∙ sym (cut-open n work (i + 1) c (omega arith))
       | no h ↦ cut-shut n work i c (omega arith) ∙ sym (cut-shut n work (i + 1) c (omega arith))
     ]
@@ -97,7 +101,8 @@ module _ {n : ℕ} {work : List ℕ} {queued : ℕ} (q : Queue n work queued) wh
     x-open = cut-open n work i x (omega (arith, item .rank))
 
     -- an outlet
-    none-opens : receiverOf n work x ≡ 0 → (f : ℕ → ℕ) (c : ℕ) → total n (cutAt n work i) f c ≡ total n (cutAt n work (i + 1)) f c
+    none-opens : receiverOf n work x ≡ 0 → (f : ℕ → ℕ) (c : ℕ)
+        → total n (cutAt n work i) f c ≡ total n (cutAt n work (i + 1)) f c
     none-opens e = total-same (cut-stays (i + 1)) (λ c l. elim (ℕ-discrete c x) [
       | yes z ↦ rw z (x-open ∙ ap nextOfNumber e ∙ sym x-shut)
       | no d ↦ cut-other c l d
@@ -112,7 +117,9 @@ module _ {n : ℕ} {work : List ℕ} {queued : ℕ} (q : Queue n work queued) wh
           t-on = b .on;
           x-shut = x-shut;
           t-shut = cut-shut n work (i + 1) t (omega (arith, b .earlier));
-          apart = λ z. let s : rankOf n work t ≡ rankOf n work x = ap (rankOf n work) z in omega (arith, item .rank, b .earlier);
+          apart =
+              λ z. let s : rankOf n work t ≡ rankOf n work x =
+              ap (rankOf n work) z in omega (arith, item .rank, b .earlier);
           opened = x-open ∙ ap nextOfNumber (e ∙ add-one t);
           same = cut-other;
         }
@@ -123,7 +130,8 @@ pub added-none : (totals : List ℕ) (c v : ℕ) → v ≡ 0 → totals ≡ adde
 unfolding added
 added-none totals c v e = rw e
 
-pub added-some : (totals : List ℕ) (c v : ℕ) → 0 < v → set totals (v - 1) (getD totals (v - 1) 0 + getD totals c 0) ≡ added v totals c
+pub added-some : (totals : List ℕ) (c v : ℕ) → 0 < v
+    → set totals (v - 1) (getD totals (v - 1) 0 + getD totals c 0) ≡ added v totals c
 unfolding added
 added-some totals c zero l = absurd (omega arith)
 added-some totals c (suc r) l = let e : suc r - 1 ≡ r = omega arith in rw e
@@ -138,7 +146,8 @@ pub record Gathered (n : ℕ) (work : List ℕ) (i : ℕ) (totals₀ totals : Li
 
 module _ {n : ℕ} {work : List ℕ} {queued : ℕ} {totals₀ : List ℕ} (g : Gathers n work queued totals₀) where
   pub gathered-start : Gathered n work queued totals₀ totals₀
-  gathered-start = record { values = λ c l. sym (total-start (g .queue) (valueAt totals₀) c l); long = refl; kept = refl }
+  gathered-start =
+      record { values = λ c l. sym (total-start (g .queue) (valueAt totals₀) c l); long = refl; kept = refl }
 
   module _ {i : ℕ} {totals : List ℕ} (on : i < queued) (h : Gathered n work (i + 1) totals₀ totals) where
     abbrev cell : ℕ
@@ -151,7 +160,8 @@ module _ {n : ℕ} {work : List ℕ} {queued : ℕ} {totals₀ : List ℕ} (g : 
     room = omega (arith, g .room, h .long)
 
     -- the receiver's new total
-    sum-is : (t : ℕ) → receiverOf n work cell ≡ t + 1 → valueAt totals t + valueAt totals cell ≡ total n (cutAt n work i) (valueAt totals₀) t
+    sum-is : (t : ℕ) → receiverOf n work cell ≡ t + 1
+        → valueAt totals t + valueAt totals cell ≡ total n (cutAt n work i) (valueAt totals₀) t
     sum-is t e =
         let o = opens (g .queue) i on t e in
         omega (arith, h .values t (o .t-on), h .values cell (it .on), total-more o (valueAt totals₀))
@@ -162,14 +172,21 @@ module _ {n : ℕ} {work : List ℕ} {queued : ℕ} {totals₀ : List ℕ} (g : 
     sum-fits t e = omega (arith, sum-is t e, sum-most n (λ p. passes (cutAt n work i) n p t) (valueAt totals₀), g .fits)
 
     pub adds : Adds n work cell totals
-    adds = record { on = it .on; receivers = g .queue .room; room = room; receiver-on = λ t e. it .before t e .on; fits = sum-fits }
+    adds =
+        record { on = it .on; receivers = g .queue .room; room = room; receiver-on = λ t e. it .before t e .on; fits = sum-fits }
 
     pub gathered-more : Gathered n work i totals₀ (added (receiverOf n work cell) totals cell)
     unfolding added
     gathered-more = go (receiverOf n work cell) refl
       where
         go : (v : ℕ) → receiverOf n work cell ≡ v → Gathered n work i totals₀ (added v totals cell)
-        go zero e = record { values = λ c l. h .values c l ∙ sym (none-opens (g .queue) i on e (valueAt totals₀) c); long = h .long; kept = h .kept }
+        go zero e =
+            record {
+              values = λ c l. h .values c l ∙ sym
+                  (none-opens (g .queue) i on e (valueAt totals₀) c);
+              long = h .long;
+              kept = h .kept;
+            }
         go (suc t) e =
             let e′ : receiverOf n work cell ≡ t + 1 = e ∙ sym (add-one t) in
             let o = opens (g .queue) i on t e′ in
@@ -183,7 +200,8 @@ module _ {n : ℕ} {work : List ℕ} {queued : ℕ} {totals₀ : List ℕ} (g : 
               kept = drop-set-lt n totals t v (o .t-on) ∙ h .kept;
             }
 
-  pub gathered-end : {totals : List ℕ} → Gathered n work 0 totals₀ totals → totals ≡ written (totalsIn n work (valueAt totals₀)) totals₀
+  pub gathered-end : {totals : List ℕ} → Gathered n work 0 totals₀ totals
+      → totals ≡ written (totalsIn n work (valueAt totals₀)) totals₀
   unfolding totalsIn
   gathered-end {totals} h =
       written-from (total n (nextIn n work) (valueAt totals₀)) n totals₀ totals (omega (arith, g .room, h .long))

@@ -35,14 +35,16 @@ module _ {n : ℕ} {work work′ : List ℕ} (s : SameSearch n work work′) whe
   receiver-same c l = s .same (receiversPart * n + c) (omega arith)
 
   before-same : {i r : ℕ} → Before n work i r → Before n work′ i r
-  before-same {r = r} b = let e = rank-same r (b .on) in record { on = b .on; reached = omega (arith, b .reached); earlier = omega (arith, b .earlier) }
+  before-same {r = r} b = let e = rank-same r
+      (b .on) in record { on = b .on; reached = omega (arith, b .reached); earlier = omega (arith, b .earlier) }
 
   pub queue-same : {queued : ℕ} → Queue n work queued → Queue n work′ queued
   queue-same q = record {
     room = s .room;
     counted =
         q .counted ∙ count-sum n (isReached n work)
-        ∙ sum-same n (isReached n work) (isReached n work′) (λ c. 1) (λ c. 1) (λ c l. ap (λ (r : ℕ). ltb 0 r) (sym (rank-same c l))) (λ c l. refl)
+        ∙ sum-same n (isReached n work) (isReached n work′) (λ c. 1) (λ c. 1)
+        (λ c l. ap (λ (r : ℕ). ltb 0 r) (sym (rank-same c l))) (λ c l. refl)
         ∙ sym (count-sum n (isReached n work′));
     item = λ i l.
         let t = q .item i l in
@@ -52,7 +54,11 @@ module _ {n : ℕ} {work work′ : List ℕ} (s : SameSearch n work work′) whe
     stands = λ c l h.
         let e = rank-same c l in
         let t = q .stands c l (omega arith) in
-        record { most = omega (arith, t .most); place = rw e (place-same (rankOf n work c - 1) (omega (arith, t .most, queued-most q)) ∙ t .place) };
+        record {
+          most = omega (arith, t .most);
+          place = rw e
+              (place-same (rankOf n work c - 1) (omega (arith, t .most, queued-most q)) ∙ t .place);
+        };
   }
 
 module _ {G : Grid} {work work′ : List ℕ} (s : SameSearch (cells G) work work′) where
@@ -61,7 +67,8 @@ module _ {G : Grid} {work work′ : List ℕ} (s : SameSearch (cells G) work wor
     queue = queue-same s (u .queue);
     is-inside = λ i l. rw (place-same s i (omega (arith, queued-most (u .queue)))) (u .is-inside i l);
     receiver = λ i l.
-        rw (place-same s i (omega (arith, queued-most (u .queue)))) (receiver-same s (queuedAt work i) (u .queue .item i l .on) ∙ u .receiver i l);
+        rw (place-same s i (omega (arith, queued-most (u .queue))))
+        (receiver-same s (queuedAt work i) (u .queue .item i l .on) ∙ u .receiver i l);
   }
 
   outlets-same : OutletsFirst G work → OutletsFirst G work′
@@ -104,7 +111,9 @@ module _ (n : ℕ) (sizes work : List ℕ) (room : sizesPart * n ≤ length work
   unfolding withSizes
   with-sizes-same = record {
     room = omega (arith, front, length-append (take (sizesPart * n) work) (written sizes (drop (sizesPart * n) work)));
-    same = λ j l. List·getD-append (take (sizesPart * n) work) (written sizes (drop (sizesPart * n) work)) 0 j (omega (arith, front)) ∙ getD-take (sizesPart * n) work j 0 l;
+    same =
+        λ j l. List·getD-append (take (sizesPart * n) work) (written sizes (drop (sizesPart * n) work)) 0 j
+        (omega (arith, front)) ∙ getD-take (sizesPart * n) work j 0 l;
   }
 
   abbrev rest : List ℕ
@@ -130,7 +139,9 @@ module _ (n : ℕ) (sizes work : List ℕ) (room : sizesPart * n ≤ length work
       ∙ ap (λ (k : ℕ). drop k work) f
 
 -- the sizes of a sheet, once they are written
-pub size-written : (G : Grid) (work : List ℕ) → sizesPart * cells G ≤ length work → (c : ℕ) → c < cells G → sizeAt (cells G) (withSizes (cells G) (sizesOf G) work) c ≡ size G c
+pub size-written : (G : Grid) (work : List ℕ) → sizesPart * cells G ≤ length work → (c : ℕ) → c < cells G
+    → sizeAt (cells G) (withSizes (cells G) (sizesOf G) work) c ≡ size G c
 unfolding sizesOf
 size-written G work room c l =
-    with-sizes-at (cells G) (sizesOf G) work room c (omega (arith, sizes-long G)) ∙ list-at (size G) 0 (cells G) c l ∙ ap (size G) (let z : 0 + c ≡ c = omega arith in z)
+    with-sizes-at (cells G) (sizesOf G) work room c (omega (arith, sizes-long G)) ∙ list-at (size G) 0
+    (cells G) c l ∙ ap (size G) (let z : 0 + c ≡ c = omega arith in z)

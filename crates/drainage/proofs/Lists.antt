@@ -35,7 +35,8 @@ list-take n l h =
     ext-getD 0 (listFrom (λ c. getD l c 0) 0 n) (take n l) (length-list (λ c. getD l c 0) 0 n ∙ sym long)
     (λ i k.
     let k′ : i < n = omega (arith, length-list (λ c. getD l c 0) 0 n) in
-    list-at (λ c. getD l c 0) 0 n i k′ ∙ ap (λ (c : ℕ). getD l c 0) (let z : 0 + i ≡ i = omega arith in z) ∙ sym (getD-take n l i 0 k′))
+    list-at (λ c. getD l c 0) 0 n i k′ ∙ ap (λ (c : ℕ). getD l c 0) (let z : 0 + i ≡ i = omega arith in z) ∙ sym
+    (getD-take n l i 0 k′))
 
 -- ---- a loop that writes them
 
@@ -47,16 +48,26 @@ pub filled-none : (f : ℕ → ℕ) (old : List ℕ) → old ≡ filled f 0 old
 unfolding listFrom
 filled-none f old = refl
 
-pub filled-more : (f : ℕ → ℕ) (k : ℕ) (old : List ℕ) (v : ℕ) → k < length old → v ≡ f k → set (filled f k old) k v ≡ filled f (k + 1) old
+pub filled-more : (f : ℕ → ℕ) (k : ℕ) (old : List ℕ) (v : ℕ) → k < length old → v ≡ f k
+    → set (filled f k old) k v ≡ filled f (k + 1) old
 filled-more f k old v l e =
-    rw (drop-cons old k 0 l, set-at (listFrom f 0 k) (getD old k 0) (drop (suc k) old) v k (length-list f 0 k), add-one k, list-more f 0 k, append-assoc, e)
+    rw (
+      drop-cons old k 0 l,
+      set-at (listFrom f 0 k) (getD old k 0) (drop (suc k) old) v k (length-list f 0 k),
+      add-one k,
+      list-more f 0 k,
+      append-assoc,
+      e,
+    )
     (ap (λ (x : ℕ). listFrom f 0 k ++ (f x ∷ drop (suc k) old)) (let z : k ≡ 0 + k = omega arith in z))
 
 pub filled-long : (f : ℕ → ℕ) (k : ℕ) (old : List ℕ) → k ≤ length old → length (filled f k old) ≡ length old
 filled-long f k old l = omega (arith, length-append (listFrom f 0 k) (drop k old), length-list f 0 k, length-drop k old)
 
 pub filled-at : (f : ℕ → ℕ) (k : ℕ) (old : List ℕ) (c : ℕ) → c < k → getD (filled f k old) c 0 ≡ f c
-filled-at f k old c l = List·getD-append (listFrom f 0 k) (drop k old) 0 c (omega (arith, length-list f 0 k)) ∙ list-at f 0 k c l ∙ ap f (let z : 0 + c ≡ c = omega arith in z)
+filled-at f k old c l =
+    List·getD-append (listFrom f 0 k) (drop k old) 0 c (omega (arith, length-list f 0 k)) ∙ list-at f 0 k c l ∙ ap f
+    (let z : 0 + c ≡ c = omega arith in z)
 
 pub filled-kept : (f : ℕ → ℕ) (k : ℕ) (old : List ℕ) → KeptFrom k old (filled f k old)
 filled-kept f k old = drop-at (listFrom f 0 k) (drop k old) k (length-list f 0 k)
@@ -65,10 +76,12 @@ pub filled-written : (f : ℕ → ℕ) (n : ℕ) (old : List ℕ) → filled f n
 filled-written f n old = ap (λ (k : ℕ). listFrom f 0 n ++ drop k old) (sym (length-list f 0 n))
 
 -- a slice from its places
-pub written-from : (f : ℕ → ℕ) (n : ℕ) (old new : List ℕ) → n ≤ length new → ((c : ℕ) → c < n → getD new c 0 ≡ f c) → KeptFrom n old new → new ≡ written (listFrom f 0 n) old
+pub written-from : (f : ℕ → ℕ) (n : ℕ) (old new : List ℕ) → n ≤ length new → ((c : ℕ) → c < n → getD new c 0 ≡ f c)
+    → KeptFrom n old new → new ≡ written (listFrom f 0 n) old
 written-from f n old new l values kept =
     let long : length (take n new) ≡ n = length-take-le n new l in
     let front : take n new ≡ listFrom f 0 n =
     ext-getD 0 (take n new) (listFrom f 0 n) (long ∙ sym (length-list f 0 n))
-    (λ c h. let h′ : c < n = omega arith in getD-take n new c 0 h′ ∙ values c h′ ∙ sym (list-at f 0 n c h′ ∙ ap f (let z : 0 + c ≡ c = omega arith in z))) in
+    (λ c h. let h′ : c < n = omega arith in getD-take n new c 0 h′ ∙ values c h′ ∙ sym
+    (list-at f 0 n c h′ ∙ ap f (let z : 0 + c ≡ c = omega arith in z))) in
     sym (take-append-drop n new) ∙ ap₂ (λ (a b : List ℕ). a ++ b) front kept ∙ filled-written f n old

@@ -66,14 +66,17 @@ module _ (G : Grid) where
   -- an outside cell is passed by itself alone
   passed-outside : {q c : ℕ} → inside G c ≡ false → Passes (next G) q c → q ≡ c
   passed-outside out here = refl
-  passed-outside {c = c} out (there {q = q} e h) = absurd (true≢false (sym (way-inside G (next-goes G q e .from-inside) (there e h)) ∙ out))
+  passed-outside {c = c} out (there {q = q} e h) = absurd
+      (true≢false (sym (way-inside G (next-goes G q e .from-inside) (there e h)) ∙ out))
 
   module _ (f : ℕ → ℕ) where
     own-outside : (c : ℕ) → c < cells G → inside G c ≡ false → ownValues (G .dirs) f c ≡ 0
     unfolding ownValue
-    own-outside c l out = let z : eqb (dirAt G c) 0 ≡ true = not-false (eqb (dirAt G c) 0) (sym (inside-is G c l) ∙ out) in rw z
+    own-outside c l out =
+        let z : eqb (dirAt G c) 0 ≡ true = not-false (eqb (dirAt G c) 0) (sym (inside-is G c l) ∙ out) in rw z
 
-    own-drains : (c q : ℕ) → q < cells G → cond (passes (next G) (cells G) q c) (ownValues (G .dirs) f q) 0 ≡ cond (drainsInto G c q) (f q) 0
+    own-drains : (c q : ℕ) → q < cells G
+        → cond (passes (next G) (cells G) q c) (ownValues (G .dirs) f q) 0 ≡ cond (drainsInto G c q) (f q) 0
     unfolding drainsInto ownValue
     own-drains c q l = rw (inside-is G q l) (pick (eqb (dirAt G q) 0) (passes (next G) (cells G) q c))
       where
@@ -89,11 +92,14 @@ module _ (G : Grid) where
         test : ℕ → Bool
         test q = passes (next G) (cells G) q c
 
-        none : inside G c ≡ false → (q : ℕ) → (p : Bool) → passes (next G) (cells G) q c ≡ p → cond p (ownValues (G .dirs) f q) 0 ≡ 0
-        none out q true e = let z = passed-outside out (passes-true (next G) (cells G) q c e) in rw z (own-outside c l out)
+        none : inside G c ≡ false → (q : ℕ) → (p : Bool) → passes (next G) (cells G) q c ≡ p
+            → cond p (ownValues (G .dirs) f q) 0 ≡ 0
+        none out q true e =
+            let z = passed-outside out (passes-true (next G) (cells G) q c e) in rw z (own-outside c l out)
         none out q false e = refl
 
-        go : (b : Bool) → inside G c ≡ b → sumOver (cells G) test (ownValues (G .dirs) f) ≡ cond b (sumOver (cells G) (drainsInto G c) f) 0
+        go : (b : Bool) → inside G c ≡ b
+            → sumOver (cells G) test (ownValues (G .dirs) f) ≡ cond b (sumOver (cells G) (drainsInto G c) f) 0
         go true i = sum-alike (cells G) test (drainsInto G c) (ownValues (G .dirs) f) f (λ q h. own-drains c q h)
         go false i = sum-zero (cells G) test (ownValues (G .dirs) f) (λ q h. none i q (test q) refl)
 
@@ -120,47 +126,64 @@ module _ {G : Grid} {work : List ℕ} {queued : ℕ} (d : Drained G work queued)
   totals-are : (c : ℕ) → c < cells G → total (cells G) (nextIn (cells G) work) (valueAt own) c ≡ sumInto G ones c
   totals-are c l =
       total-same (λ q r h e. next-to-lt G q e) (next-in d) (valueAt own) c
-      ∙ total-alike (cells G) (next G) (valueAt own) (ownValues (G .dirs) ones) c (λ q h. filled-at (ownValues (G .dirs) ones) (cells G) old q h)
+      ∙ total-alike (cells G) (next G) (valueAt own) (ownValues (G .dirs) ones) c
+      (λ q h. filled-at (ownValues (G .dirs) ones) (cells G) old q h)
       ∙ total-own G ones c l
 
   -- the totals, where g gives them
-  totals-written : (g : ℕ → ℕ) → ((c : ℕ) → sumInto G ones c ≡ g c) → written (totalsIn (cells G) work (valueAt own)) own ≡ written (listFrom g 0 (cells G)) old
+  totals-written : (g : ℕ → ℕ) → ((c : ℕ) → sumInto G ones c ≡ g c)
+      → written (totalsIn (cells G) work (valueAt own)) own ≡ written (listFrom g 0 (cells G)) old
   unfolding totalsIn
   totals-written g same =
-      ap (λ (l : List ℕ). written l own) (list-same (total (cells G) (nextIn (cells G) work) (valueAt own)) g (cells G) (λ c l. totals-are c l ∙ same c))
-      ∙ ap (λ (l : List ℕ). listFrom g 0 (cells G) ++ l) (rw (length-list g 0 (cells G)) (filled-kept (ownValues (G .dirs) ones) (cells G) old))
+      ap (λ (l : List ℕ). written l own)
+      (list-same (total (cells G) (nextIn (cells G) work) (valueAt own)) g (cells G) (λ c l. totals-are c l ∙ same c))
+      ∙ ap (λ (l : List ℕ). listFrom g 0 (cells G) ++ l)
+      (rw (length-list g 0 (cells G)) (filled-kept (ownValues (G .dirs) ones) (cells G) old))
 
   pub sizes-written : written (totalsIn (cells G) work (valueAt own)) own ≡ written (sizesOf G) old
   unfolding sizesOf
   sizes-written = totals-written (size G) (sum-size G)
 
-  pub areas-written : (S : Sheet) → S .grid ≡ G → written (totalsIn (cells G) work (valueAt own)) own ≡ written (areasOf S) old
+  pub areas-written : (S : Sheet) → S .grid ≡ G
+      → written (totalsIn (cells G) work (valueAt own)) own ≡ written (areasOf S) old
   unfolding areasOf
-  areas-written S e = totals-written (area S) (sum-area G S e) ∙ ap (λ (H : Grid). written (listFrom (area S) 0 (cells H)) old) (sym e)
+  areas-written S e =
+      totals-written (area S) (sum-area G S e) ∙ ap (λ (H : Grid). written (listFrom (area S) 0 (cells H)) old) (sym e)
 
   -- own counts are small enough to be gathered
   pub own-gathers : cells G ≤ 65536 → cells G ≤ length old → Gathers (cells G) work queued own
   own-gathers small room = record {
     queue = d .searched .upstream .queue;
     room = omega (arith, filled-long (ownValues (G .dirs) ones) (cells G) old room);
-    fits = omega (arith, sum-ones (cells G) (valueAt own) (λ q l. rw (filled-at (ownValues (G .dirs) ones) (cells G) old q l) (own-most (dirAt G q) 1)));
+    fits =
+        omega (
+          arith,
+          sum-ones (cells G) (valueAt own)
+              (λ q l. rw (filled-at (ownValues (G .dirs) ones) (cells G) old q l) (own-most (dirAt G q) 1)),
+        );
   }
 
 -- a slice that is written twice
-pub written-over : (new former old : List ℕ) → length former ≡ length new → written new (written former old) ≡ written new old
+pub written-over : (new former old : List ℕ) → length former ≡ length new
+    → written new (written former old) ≡ written new old
 written-over new former old e =
-    ap (λ (l : List ℕ). new ++ l) (drop-at former (drop (length former) old) (length new) e ∙ ap (λ (k : ℕ). drop k old) e)
+    ap (λ (l : List ℕ). new ++ l)
+    (drop-at former (drop (length former) old) (length new) e ∙ ap (λ (k : ℕ). drop k old) e)
 
 pub areas-long : (S : Sheet) → length (areasOf S) ≡ cells (S .grid)
 unfolding areasOf
 areas-long S = length-list (area S) 0 (cells (S .grid))
 
 -- sizes that are copied into their part of the work places
-pub sizes-put : (n : ℕ) (work sizes areas old : List ℕ) → sizesPart * n ≤ length work → length sizes ≡ n → areas ≡ written sizes old
-    → putMid (sizesPart * n) (length work - sizesPart * n) work (take n areas ++ drop n (take (length work - sizesPart * n) (drop (sizesPart * n) work))) ≡ withSizes n sizes work
+pub sizes-put : (n : ℕ) (work sizes areas old : List ℕ) → sizesPart * n ≤ length work → length sizes ≡ n
+    → areas ≡ written sizes old
+    → putMid (sizesPart * n) (length work - sizesPart * n) work
+    (take n areas ++ drop n (take (length work - sizesPart * n) (drop (sizesPart * n) work))) ≡ withSizes n sizes work
 unfolding withSizes
 sizes-put n work sizes areas old l long e =
-    let part : take (length work - sizesPart * n) (drop (sizesPart * n) work) ≡ drop (sizesPart * n) work = take-all (length work - sizesPart * n) (drop (sizesPart * n) work) (omega (arith, length-drop (sizesPart * n) work)) in
-    let rest : postOf (sizesPart * n) (length work - sizesPart * n) work ≡ [] = post-is (sizesPart * n) (length work) work l ∙ drop-length work in
+    let part : take (length work - sizesPart * n) (drop (sizesPart * n) work) ≡ drop (sizesPart * n) work = take-all
+    (length work - sizesPart * n) (drop (sizesPart * n) work) (omega (arith, length-drop (sizesPart * n) work)) in
+    let rest : postOf (sizesPart * n) (length work - sizesPart * n) work ≡ [] = post-is (sizesPart * n)
+    (length work) work l ∙ drop-length work in
     let front : take n areas ≡ sizes = ap (take n) e ∙ take-at sizes (drop (length sizes) old) n long in
     rw (part, rest, front, append-nil, long)

@@ -35,9 +35,11 @@ use Rattle.upstream.proofs.Upstream.{outlet-lt, way-inside}
 -- ---- what was looked for is what the definition looks for
 
 -- the part of the work places that has the ranks
-pub ranks-part : (n : ℕ) (work : List ℕ) (c : ℕ) → c < n → getD (take (ranksPart * n + n - ranksPart * n) (drop (ranksPart * n) work)) c 0 ≡ rankOf n work c
+pub ranks-part : (n : ℕ) (work : List ℕ) (c : ℕ) → c < n
+    → getD (take (ranksPart * n + n - ranksPart * n) (drop (ranksPart * n) work)) c 0 ≡ rankOf n work c
 ranks-part n work c l =
-    getD-take (ranksPart * n + n - ranksPart * n) (drop (ranksPart * n) work) c 0 (omega arith) ∙ getD-drop (ranksPart * n) work c 0
+    getD-take (ranksPart * n + n - ranksPart * n) (drop (ranksPart * n) work) c 0 (omega arith) ∙ getD-drop
+    (ranksPart * n) work c 0
 
 rank-none : (r : ℕ) → eqb r 0 ≡ not (ltb 0 r)
 rank-none r = elim (ℕ-discrete r 0) [
@@ -54,14 +56,21 @@ module _ (G : Grid) where
     unfolding isTarget
     inside-is = first-same (isTarget G reached Inside) (inside G) (cells G) (λ c l. refl)
 
-    pub outlet-from-is : (from : ℕ) → first (isTarget G reached (OutletFrom from)) (cells G) ≡ first (outletFrom G from) (cells G)
+    pub outlet-from-is : (from : ℕ)
+        → first (isTarget G reached (OutletFrom from)) (cells G) ≡ first (outletFrom G from) (cells G)
     unfolding isTarget
     outlet-from-is from = first-same (isTarget G reached (OutletFrom from)) (outletFrom G from) (cells G) (λ c l. refl)
 
-    pub undrained-is : {work : List ℕ} {queued : ℕ} → Searched G work queued → ((c : ℕ) → c < cells G → getD reached c 0 ≡ rankOf (cells G) work c)
+    pub undrained-is : {work : List ℕ} {queued : ℕ} → Searched G work queued
+        → ((c : ℕ) → c < cells G → getD reached c 0 ≡ rankOf (cells G) work c)
         → first (isTarget G reached Unreached) (cells G) ≡ first (undrained G) (cells G)
     unfolding isTarget undrained
-    undrained-is {work} s ranks = first-same (isTarget G reached Unreached) (undrained G) (cells G) (λ c l. rw (ranks c l, rank-none (rankOf (cells G) work c), s .reached c l) (go (inside G c) (reachesOutlet (next G) (cells G) c)))
+    undrained-is {work} s ranks =
+        first-same (isTarget G reached Unreached) (undrained G) (cells G) (λ c l. rw (
+          ranks c l,
+          rank-none (rankOf (cells G) work c),
+          s .reached c l,
+        ) (go (inside G c) (reachesOutlet (next G) (cells G) c)))
       where
         go : (a b : Bool) → both a (not (both a b)) ≡ both a (not b)
         go true b = refl
@@ -85,7 +94,8 @@ module _ (G : Grid) where
   unfolding outcomeOn
   refused-5 e f = rw (e, f)
 
-  pub refused-later : {x : ℕ} → First (badCode G) Nothing → First (inside G) (At x) → refusedAt 6 (first (undrained G) (cells G)) (refusedAt 7 (secondOutlet G) Accepted) ≡ outcomeOn G
+  pub refused-later : {x : ℕ} → First (badCode G) Nothing → First (inside G) (At x)
+      → refusedAt 6 (first (undrained G) (cells G)) (refusedAt 7 (secondOutlet G) Accepted) ≡ outcomeOn G
   unfolding outcomeOn
   refused-later e f = rw (e, f)
 
@@ -109,7 +119,8 @@ module _ (G : Grid) where
     pub all-reach : (c : ℕ) → inside G c ≡ true → reachesOutlet (next G) (cells G) c ≡ true
     unfolding undrained
     all-reach c i =
-        let u : both (inside G c) (not (reachesOutlet (next G) (cells G) c)) ≡ false = none-first (undrained G) (cells G) none c (inside-lt G c i) in
+        let u : both (inside G c) (not (reachesOutlet (next G) (cells G) c)) ≡ false = none-first (undrained G)
+        (cells G) none c (inside-lt G c i) in
         not-false _ (rw i at u)
 
     pub drained-of : Coded G → Drained G work queued
@@ -132,7 +143,8 @@ module _ (G : Grid) where
   unfolding outletFrom
   from-after {f} {c} l = rw (le-leb (f + 1) c (omega arith))
 
-  none-after : {f : ℕ} → first (isOutlet G) (cells G) ≡ At f → secondOutlet G ≡ Nothing → First G (outletFrom G (f + 1)) Nothing
+  none-after : {f : ℕ} → first (isOutlet G) (cells G) ≡ At f → secondOutlet G ≡ Nothing
+      → First G (outletFrom G (f + 1)) Nothing
   none-after e n = second-after G (from-start ∙ e) ∙ n
 
   module _ {f : ℕ} (found : first (isOutlet G) (cells G) ≡ At f) (second : secondOutlet G ≡ Nothing) where
@@ -145,7 +157,9 @@ module _ (G : Grid) where
             | yes l ↦ absurd (true≢false (sym o ∙ a .none-before c l))
             | no g ↦
                 let l : f < c = omega arith in
-                absurd (true≢false (sym o ∙ sym (from-after l) ∙ none-first (outletFrom G (f + 1)) (cells G) (none-after found second) c (outlet-lt G c o)))
+                absurd (true≢false
+                (sym o ∙ sym (from-after l) ∙ none-first (outletFrom G (f + 1)) (cells G) (none-after found second) c
+                (outlet-lt G c o)))
           ]
         ]
 
@@ -173,7 +187,8 @@ module _ (G : Grid) where
         }
 
   -- an inside cell whose water comes to an outlet: there is an outlet
-  pub outlet-some : (x : ℕ) → inside G x ≡ true → reachesOutlet (next G) (cells G) x ≡ true → (f : ℕ) × (first (isOutlet G) (cells G) ≡ At f)
+  pub outlet-some : (x : ℕ) → inside G x ≡ true → reachesOutlet (next G) (cells G) x ≡ true
+      → (f : ℕ) × (first (isOutlet G) (cells G) ≡ At f)
   outlet-some x i h = go (first (isOutlet G) (cells G)) refl
     where
       go : (y : Found) → first (isOutlet G) (cells G) ≡ y → (f : ℕ) × (first (isOutlet G) (cells G) ≡ At f)
@@ -187,7 +202,8 @@ module _ (G : Grid) where
 
 -- 4 and 5 are told before the search
 pub inspected-before : {G : Grid} {work : List ℕ} {r : Inspection} {number place : ℕ}
-    → r .outcome ≡ Refused number place → number < 6 → Refused number place ≡ outcomeOn G → InspectionResult G work work r
+    → r .outcome ≡ Refused number place → number < 6 → Refused number place
+    ≡ outcomeOn G → InspectionResult G work work r
 inspected-before {number = number} e early o = record {
   outcome = e ∙ o;
   unwritten = λ a. refl;
@@ -205,11 +221,15 @@ after-both Nothing (At c) = refl
 after-both Nothing Nothing = refl
 
 -- a sheet of codes with an inside cell, searched
-pub inspected : {G : Grid} {work work′ : List ℕ} {r : Inspection} {x : ℕ} → First G (badCode G) Nothing → First G (inside G) (At x) → Searched G work′ (r .queued)
-    → r .outcome ≡ refusedAt 6 (first (undrained G) (cells G)) (refusedAt 7 (secondOutlet G) Accepted) → KeptFrom (sizesPart * cells G) work work′ → InspectionResult G work work′ r
+pub inspected : {G : Grid} {work work′ : List ℕ} {r : Inspection} {x : ℕ} → First G (badCode G) Nothing
+    → First G (inside G) (At x) → Searched G work′ (r .queued)
+    → r .outcome ≡ refusedAt 6 (first (undrained G) (cells G)) (refusedAt 7 (secondOutlet G) Accepted) → KeptFrom
+    (sizesPart * cells G) work work′ → InspectionResult G work work′ r
 inspected {G} {work} {work′} {r} {x} bad some s e kept = record {
   outcome = e ∙ refused-later G bad some;
-  unwritten = λ a. absurd (true≢false (sym (after-both (first (undrained G) (cells G)) (secondOutlet G)) ∙ ap afterSearch (sym e) ∙ a));
+  unwritten =
+      λ a. absurd
+      (true≢false (sym (after-both (first (undrained G) (cells G)) (secondOutlet G)) ∙ ap afterSearch (sym e) ∙ a));
   searched = λ a. s;
   drained = λ a. drained-of G s (none a .0) (coded-of G bad);
   single = λ a. let f = outlet-some G x is (all-reach G s (none a .0) x is) in single-of G (f .1) (none a .1) s;

@@ -23,7 +23,8 @@ pub way-stays : {n : ℕ} {next : ℕ → Next} → Stays n next → {q c : ℕ}
 way-stays stay l here = l
 way-stays stay l (there {q = q} {r = r} e h) = way-stays stay (stay q r l e) h
 
-pub passes-yes : {n : ℕ} {next : ℕ → Next} → Stays n next → {q c : ℕ} → q < n → Passes next q c → passes next n q c ≡ true
+pub passes-yes : {n : ℕ} {next : ℕ → Next} → Stays n next → {q c : ℕ} → q < n → Passes next q c
+    → passes next n q c ≡ true
 passes-yes {n} stay l p = passes-enough n (λ x h. way-stays stay l h) p
 
 -- ---- the same steps on n cells
@@ -35,7 +36,8 @@ module _ {n : ℕ} {A B : ℕ → Next} (stay : Stays n A) (same : (q : ℕ) →
   passes-same (suc k) q c l = go (A q) (B q) refl (same q l) (passes-same k)
     where
       go : (x y : Next) → A q ≡ x → y ≡ A q → ((r c : ℕ) → r < n → passes B k r c ≡ passes A k r c)
-          → cond (eqb q c) true (onward y false (λ r. passes B k r c)) ≡ cond (eqb q c) true (onward x false (λ r. passes A k r c))
+          → cond (eqb q c) true (onward y false (λ r. passes B k r c)) ≡ cond (eqb q c) true
+          (onward x false (λ r. passes A k r c))
       go Outlet y e f ih = rw (f ∙ e)
       go (To r) y e f ih = rw (f ∙ e, ih r c (stay q r l e))
 
@@ -43,7 +45,8 @@ module _ {n : ℕ} {A B : ℕ → Next} (stay : Stays n A) (same : (q : ℕ) →
   unfolding total
   total-same f c = sum-same n (λ q. passes B n q c) (λ q. passes A n q c) f f (λ q l. passes-same n q c l) (λ q l. refl)
 
-pub total-alike : (n : ℕ) (next : ℕ → Next) (f g : ℕ → ℕ) (c : ℕ) → ((q : ℕ) → q < n → f q ≡ g q) → total n next f c ≡ total n next g c
+pub total-alike : (n : ℕ) (next : ℕ → Next) (f g : ℕ → ℕ) (c : ℕ) → ((q : ℕ) → q < n → f q ≡ g q)
+    → total n next f c ≡ total n next g c
 unfolding total
 total-alike n next f g c h = sum-same n (λ q. passes next n q c) (λ q. passes next n q c) f g (λ q l. refl) h
 
@@ -111,16 +114,23 @@ module _ {n : ℕ} {A B : ℕ → Next} {x t : ℕ} (o : Opens n A B x t) where
   -- the total of another cell is kept
   pub total-kept : (f : ℕ → ℕ) (c : ℕ) → c ≢ t → total n B f c ≡ total n A f c
   unfolding total
-  total-kept f c d = sum-same n (in-B c) (in-A c) f f (λ q l. same-truth (in-B c q) (in-A c q) (down q l) (λ h. passes-yes stay-open l (kept l (passes-true A n q c h)))) (λ q l. refl)
+  total-kept f c d =
+      sum-same n (in-B c) (in-A c) f f
+      (λ q l. same-truth (in-B c q) (in-A c q) (down q l)
+      (λ h. passes-yes stay-open l (kept l (passes-true A n q c h)))) (λ q l. refl)
     where
       down : (q : ℕ) → q < n → in-B c q ≡ true → in-A c q ≡ true
-      down q l h = elim (split l (passes-true B n q c h)) [ inl p ↦ passes-yes (o .stay) l p | inr p ↦ absurd (d (p .0)) ]
+      down q l h =
+          elim (split l (passes-true B n q c h)) [ inl p ↦ passes-yes (o .stay) l p | inr p ↦ absurd (d (p .0)) ]
 
   -- that of t grows by that of x
   pub total-more : (f : ℕ → ℕ) → total n B f t ≡ total n A f t + total n A f x
   unfolding total
   total-more f = sum-either n (in-B t) (in-A t) (in-A x) f (record {
-    split = λ q l h. elim (split l (passes-true B n q t h)) [ inl p ↦ inl (passes-yes (o .stay) l p) | inr p ↦ inr (passes-yes (o .stay) l (p .1)) ];
+    split =
+        λ q l h. elim
+        (split l (passes-true B n q t h))
+        [ inl p ↦ inl (passes-yes (o .stay) l p) | inr p ↦ inr (passes-yes (o .stay) l (p .1)) ];
     left = λ q l h. passes-yes stay-open l (kept l (passes-true A n q t h));
     right = λ q l h. passes-yes stay-open l (pass-trans (kept l (passes-true A n q x h)) (there (o .opened) here));
     apart = λ q l h k. o .apart (one-end (o .t-shut) (o .x-shut) (passes-true A n q t h) (passes-true A n q x k));

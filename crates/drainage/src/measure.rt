@@ -45,7 +45,8 @@ fn add_to_receiver(work: &[u32], n: usize, cell: usize, totals: &mut [u32])
 // Adds up own values along the queue, backwards: afterwards each cell has the sum over the cells whose water passes it.
 fn gather(work: &[u32], n: usize, queued: usize, totals: &mut [u32])
     requires { ⌜ Gathers n (now work) queued (now totals) ⌝ }
-    ensures { λ _. ⌜ now (totals .exit) ≡ written (totalsIn n (now (work .entry)) (valueAt (now (totals .entry)))) (now (totals .entry)) ⌝ }
+    ensures { λ _. ⌜ now (totals .exit)
+        ≡ written (totalsIn n (now (work .entry)) (valueAt (now (totals .entry)))) (now (totals .entry)) ⌝ }
 {
     let mut i = queued;
     while 0 < i {
@@ -56,7 +57,8 @@ fn gather(work: &[u32], n: usize, queued: usize, totals: &mut [u32])
 
 // The areas of a drained sheet: of any sheet with this grid.
 fn areas(dirs: &[u8], rows: usize, cols: usize, work: &[u32], queued: usize, areas: &mut [u32])
-    requires { ⌜ Sized rows cols (now dirs) × Drained (grid rows cols (now dirs)) (now work) queued × (rows * cols ≤ length (now areas)) ⌝ }
+    requires { ⌜ Sized rows cols (now dirs) × Drained (grid rows cols (now dirs)) (now work) queued
+        × (rows * cols ≤ length (now areas)) ⌝ }
     ensures { λ _. ⌜ ((S : Sheet) → S .grid ≡ grid rows cols (now (dirs .entry))
         → now (areas .exit) ≡ written (areasOf S) (now (areas .entry))) ⌝ }
 {
@@ -77,8 +79,11 @@ fn copy(from: &[u32], n: usize, to: &mut [u32])
 
 // The sizes of a drained sheet, into their part of the work places. They are gathered in the places lent for areas.
 fn sizes(dirs: &[u8], rows: usize, cols: usize, work: &mut [u32], queued: usize, areas: &mut [u32])
-    requires { ⌜ Sized rows cols (now dirs) × Drained (grid rows cols (now dirs)) (now work) queued × (rows * cols ≤ length (now areas)) × (positionsPart * (rows * cols) ≤ length (now work)) ⌝ }
-    ensures { λ _. ⌜ (now (work .exit) ≡ withSizes (rows * cols) (sizesOf (grid rows cols (now (dirs .entry)))) (now (work .entry))) × (now (areas .exit) ≡ written (sizesOf (grid rows cols (now (dirs .entry)))) (now (areas .entry))) ⌝ }
+    requires { ⌜ Sized rows cols (now dirs) × Drained (grid rows cols (now dirs)) (now work) queued
+        × (rows * cols ≤ length (now areas)) × (positionsPart * (rows * cols) ≤ length (now work)) ⌝ }
+    ensures { λ _. ⌜ (now (work .exit)
+        ≡ withSizes (rows * cols) (sizesOf (grid rows cols (now (dirs .entry)))) (now (work .entry)))
+        × (now (areas .exit) ≡ written (sizesOf (grid rows cols (now (dirs .entry)))) (now (areas .entry))) ⌝ }
 {
     let n = rows * cols;
     own_counts(dirs, n, areas);
@@ -96,7 +101,8 @@ pub fn measure(
     queued: usize,
     lent_areas: &mut [u32],
 )
-    requires { ⌜ Sized rows cols (now dirs) × Drained (grid rows cols (now dirs)) (now work) queued × (rows * cols ≤ length (now «lent_areas»)) × (positionsPart * (rows * cols) ≤ length (now work)) ⌝ }
+    requires { ⌜ Sized rows cols (now dirs) × Drained (grid rows cols (now dirs)) (now work) queued
+        × (rows * cols ≤ length (now «lent_areas»)) × (positionsPart * (rows * cols) ≤ length (now work)) ⌝ }
     ensures { λ _. ⌜ (now (work .exit)
         ≡ withSizes (rows * cols) (sizesOf (grid rows cols (now (dirs .entry)))) (now (work .entry)))
         × ((S : Sheet) → S .grid ≡ grid rows cols (now (dirs .entry))

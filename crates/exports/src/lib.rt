@@ -1,4 +1,5 @@
-// The calls for hosts in C and in languages that call C; include/pfafstetter.h declares them. Each only calls proved functions.
+// The calls for hosts in C and in languages that call C; include/pfafstetter.h declares them. Each only calls proved
+// functions.
 use sheet::Outcome;
 ghost use mathlib.Core.Path.{_≡_};
 ghost use Prim.Native.Nat.{_<_};
@@ -29,8 +30,11 @@ pub extern "C" fn pf_label(
     labels: &mut [u64],
     work: &mut [u32],
 ) -> u64
-    ensures outcome { λ r. ⌜ r ≡ outcomeCode (outcome (sheet rows cols depth (now (dirs .entry))) (lent (now (areas .entry)) (now (labels .entry)) (now (work .entry)))) ⌝ }
-    ensures lent { λ _. ⌜ lent (now (areas .exit)) (now (labels .exit)) (now (work .exit)) ≡ lentAfter (sheet rows cols depth (now (dirs .entry))) (lent (now (areas .entry)) (now (labels .entry)) (now (work .entry))) ⌝ }
+    ensures outcome { λ r. ⌜ r ≡ outcomeCode (outcome (sheet rows cols depth (now (dirs .entry)))
+        (lent (now (areas .entry)) (now (labels .entry)) (now (work .entry)))) ⌝ }
+    ensures lent { λ _. ⌜ lent (now (areas .exit)) (now (labels .exit)) (now (work .exit))
+        ≡ lentAfter (sheet rows cols depth (now (dirs .entry)))
+        (lent (now (areas .entry)) (now (labels .entry)) (now (work .entry))) ⌝ }
 {
     outcome_code(labelling::label(rows, cols, depth, dirs, areas, labels, work))
 }

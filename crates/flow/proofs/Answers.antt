@@ -25,9 +25,16 @@ answer-of Yes = refl
 answer-of Same = refl
 answer-of Undecided = refl
 answer-of (Refused number) =
-    let not-below : (k : ℕ) → k < 128 → eqb (128 + number) k ≡ false = λ k l. ne-eqb (128 + number) k (λ e. omega arith) in
+    let not-below : (k : ℕ) → k < 128 → eqb (128 + number) k ≡ false = λ k l. ne-eqb (128 + number) k
+    (λ e. omega arith) in
     let back : 128 + number - 128 ≡ number = omega arith in
-    rw (not-below 0 (omega arith), not-below 1 (omega arith), not-below 2 (omega arith), not-below 3 (omega arith), back)
+    rw (
+      not-below 0 (omega arith),
+      not-below 1 (omega arith),
+      not-below 2 (omega arith),
+      not-below 3 (omega arith),
+      back,
+    )
 
 pub answer-number-apart : (a b : Flow) → answerNumber a ≡ answerNumber b → a ≡ b
 answer-number-apart a b e = sym (answer-of a) ∙ ap answerOf e ∙ answer-of b

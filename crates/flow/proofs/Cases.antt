@@ -10,7 +10,8 @@ unfolding flow
 flow-depth = refl
 
 -- 11 for either label, by a 0 or by one digit too many
-pub flow-label : flow 3 105 9 ∷ flow 3 9 105 ∷ flow 3 1111 9 ∷ flow 18 9 1111111111111111111 ∷ [] ≡ Refused 11 ∷ Refused 11 ∷ Refused 11 ∷ Refused 11 ∷ []
+pub flow-label : flow 3 105 9 ∷ flow 3 9 105 ∷ flow 3 1111 9 ∷ flow 18 9 1111111111111111111 ∷
+    [] ≡ Refused 11 ∷ Refused 11 ∷ Refused 11 ∷ Refused 11 ∷ []
 unfolding flow
 flow-label = refl
 
@@ -20,7 +21,8 @@ unfolding flow
 flow-same = refl
 
 -- 12 where one begins the other, at any length of P; 0 begins all
-pub flow-begins : flow 3 9 91 ∷ flow 3 91 9 ∷ flow 3 0 5 ∷ flow 2 91 9 ∷ [] ≡ Refused 12 ∷ Refused 12 ∷ Refused 12 ∷ Refused 12 ∷ []
+pub flow-begins : flow 3 9 91 ∷ flow 3 91 9 ∷ flow 3 0 5 ∷ flow 2 91 9 ∷
+    [] ≡ Refused 12 ∷ Refused 12 ∷ Refused 12 ∷ Refused 12 ∷ []
 unfolding flow
 flow-begins = refl
 
@@ -29,10 +31,13 @@ pub flow-rule : flow 3 91 92 ∷ flow 3 92 91 ∷ flow 3 21 3 ∷ flow 3 12 3 �
 unfolding flow
 flow-rule = refl
 
--- P has as many digits as the depth: from 14 past 131, from 91 past 92, from 3 past 12; one digit less: from 14 past 131
-pub flow-depth-reached : flow 3 131 14 ∷ flow 2 92 91 ∷ flow 2 12 3 ∷ flow 4 131 14 ∷ [] ≡ Undecided ∷ No ∷ No ∷ Yes ∷ []
+-- P has as many digits as the depth: from 14 past 131, from 91 past 92, from 3 past 12; one digit less: from 14 past
+-- 131
+pub flow-depth-reached : flow 3 131 14 ∷ flow 2 92 91 ∷ flow 2 12 3 ∷ flow 4 131 14 ∷ [] ≡ Undecided ∷ No ∷ No ∷ Yes ∷
+    []
 unfolding flow
 flow-depth-reached = refl
 
-pub answer-numbers : answerNumber No ∷ answerNumber Yes ∷ answerNumber Same ∷ answerNumber Undecided ∷ answerNumber (Refused 12) ∷ [] ≡ 0 ∷ 1 ∷ 2 ∷ 3 ∷ 140 ∷ []
+pub answer-numbers : answerNumber No ∷ answerNumber Yes ∷ answerNumber Same ∷ answerNumber Undecided ∷ answerNumber
+    (Refused 12) ∷ [] ≡ 0 ∷ 1 ∷ 2 ∷ 3 ∷ 140 ∷ []
 answer-numbers = refl

@@ -1,4 +1,5 @@
--- Laws of the definitions from place to place: where two labels part, and the part of a slice that digits were written to.
+-- Laws of the definitions from place to place: where two labels part, and the part of a slice that digits were written
+-- to.
 use mathlib.Core.Path.{_≡_, sym, ap, _∙_}
 use mathlib.Core.Bool.{Bool, true, false, cond}
 use mathlib.Core.List.{List, [], _∷_}
@@ -24,7 +25,8 @@ module _ (x y : List ℕ) (i : ℕ) where
   unfolding partFrom
   part-short g h = rw (drop-cons x i 0, drop-of-length-le y)
 
-  pub part-same : i < length x → i < length y → getD x i 0 ≡ getD y i 0 → partFrom (i + 1) (drop (i + 1) x) (drop (i + 1) y) ≡ partFrom i (drop i x) (drop i y)
+  pub part-same : i < length x → i < length y → getD x i 0 ≡ getD y i 0
+      → partFrom (i + 1) (drop (i + 1) x) (drop (i + 1) y) ≡ partFrom i (drop i x) (drop i y)
   unfolding partFrom
   part-same g h e = rw (add-one i, drop-cons x i 0, drop-cons y i 0, eq-eqb _ _ e)
 
@@ -40,7 +42,8 @@ part-in i [] y j e = let z : _≡_ {A = ℕ} 0 1 = cc in absurd (omega arith)
 part-in i (a ∷ x) [] j e = let z : _≡_ {A = ℕ} 0 1 = cc in absurd (omega arith)
 part-in i (a ∷ x) (b ∷ y) j e = go (eqb a b) (part-in (suc i) x y j) e
   where
-    go : (same : Bool) → (partFrom (suc i) x y ≡ At j → (j < suc i + length x) × (j < suc i + length y)) → cond same (partFrom (suc i) x y) (At i) ≡ At j → (j < i + suc (length x)) × (j < i + suc (length y))
+    go : (same : Bool) → (partFrom (suc i) x y ≡ At j → (j < suc i + length x) × (j < suc i + length y))
+        → cond same (partFrom (suc i) x y) (At i) ≡ At j → (j < i + suc (length x)) × (j < i + suc (length y))
     go true rest f = (omega (arith, rest f .0), omega (arith, rest f .1))
     go false rest f = let s : i ≡ j = cc in (omega arith, omega arith)
 

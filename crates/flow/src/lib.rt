@@ -114,8 +114,8 @@ pub fn flow_of(depth: usize, p: u64, q: u64) -> Flow
     Flow::Refused(2)
 }
 
-// The number of an answer: 0 No, 1 Yes, 2 Same, 3 Undecided, 128 + the refusal's number. A refusal may carry any byte, so
-// this is no byte; the number of an answer of flow_of fits one.
+// The number of an answer: 0 No, 1 Yes, 2 Same, 3 Undecided, 128 + the refusal's number. A refusal may carry any byte,
+// so this is no byte; the number of an answer of flow_of fits one.
 pub fn answer_number(a: Flow) -> u32
     ensures { λ r. ⌜ r ≡ answerNumber a ⌝ }
 {

@@ -29,7 +29,8 @@ pub record BadLine (line : List ℕ) : Type 0 where
   pub values : valuesLine line ≡ BadValues
 
 pub line-feed : (line : List ℕ) (at : ℕ) → at < length line → getD line at 0 ≡ lineFeed → BadLine line
-line-feed line at h e = record { names = λ expected. names-line-feed expected line at h e; values = values-line-feed line at h e }
+line-feed line at h e =
+    record { names = λ expected. names-line-feed expected line at h e; values = values-line-feed line at h e }
 
 pub over-eighty : (line : List ℕ) → lineBytes < length line → BadLine line
 over-eighty line h = record { names = λ expected. names-long expected line h; values = values-long line h }
@@ -42,7 +43,8 @@ badLineNumber (WaitingForCellNames z) = 8
 badLineNumber (TakingCells z c) = 8
 badLineNumber (Ended z) = 13
 
-bad-line-in : (stage : Stage) (line dirs : List ℕ) → BadLine line → lineIn stage line dirs ≡ refuse stage dirs (badLineNumber stage)
+bad-line-in : (stage : Stage) (line dirs : List ℕ) → BadLine line
+    → lineIn stage line dirs ≡ refuse stage dirs (badLineNumber stage)
 unfolding lineIn
 bad-line-in WaitingForSizeNames line dirs b = rw (b .names _)
 bad-line-in (WaitingForSizes c) line dirs b = rw (b .values)
@@ -51,25 +53,42 @@ bad-line-in (TakingCells z c) line dirs b = rw (b .values)
 bad-line-in (Ended z) line dirs b = refl
 
 -- the state's sizes go before 8
-pub bad-line : (i : Intake) (line dirs : List ℕ) → BadLine line → lineAfter i line dirs ≡ unless (stateFault (i .stage) (length dirs)) (i .stage) dirs (refuse (i .stage) dirs (badLineNumber (i .stage)))
+pub bad-line : (i : Intake) (line dirs : List ℕ) → BadLine line
+    → lineAfter i line dirs ≡ unless (stateFault (i .stage) (length dirs)) (i .stage) dirs
+    (refuse (i .stage) dirs (badLineNumber (i .stage)))
 unfolding lineAfter
-bad-line i line dirs b = ap (unless (stateFault (i .stage) (length dirs)) (i .stage) dirs) (bad-line-in (i .stage) line dirs b)
+bad-line i line dirs b =
+    ap (unless (stateFault (i .stage) (length dirs)) (i .stage) dirs) (bad-line-in (i .stage) line dirs b)
 
 -- all bad lines get the same answer
-pub bad-lines-alike : (i : Intake) (line other dirs : List ℕ) → BadLine line → BadLine other → lineAfter i line dirs ≡ lineAfter i other dirs
+pub bad-lines-alike : (i : Intake) (line other dirs : List ℕ) → BadLine line → BadLine other
+    → lineAfter i line dirs ≡ lineAfter i other dirs
 bad-lines-alike i line other dirs b d = bad-line i line dirs b ∙ sym (bad-line i other dirs d)
 
-pub bad-line-refused : (i : Intake) (line dirs : List ℕ) → BadLine line → lineAfter i line dirs .taken .outcome ≡ Accepted → ⊥
-bad-line-refused i line dirs b e = go (stateFault (i .stage) (length dirs)) (sym (ap (λ (a : After). a .taken .outcome) (bad-line i line dirs b)) ∙ e)
+pub bad-line-refused : (i : Intake) (line dirs : List ℕ) → BadLine line
+    → lineAfter i line dirs .taken .outcome ≡ Accepted → ⊥
+bad-line-refused i line dirs b e =
+    go (stateFault (i .stage) (length dirs)) (sym (ap (λ (a : After). a .taken .outcome) (bad-line i line dirs b)) ∙ e)
   where
-    go : (fault : ℕ) → unless fault (i .stage) dirs (refuse (i .stage) dirs (badLineNumber (i .stage))) .taken .outcome ≡ Accepted → ⊥
-    go zero e = accepted-not-refused (sym e ∙ ap (λ (a : After). a .taken .outcome) (unless-none {fault = 0} (i .stage) dirs _ refl))
-    go (suc n) e = accepted-not-refused (sym e ∙ ap (λ (a : After). a .taken .outcome) (unless-some {fault = suc n} (i .stage) dirs _ (λ z. omega arith)))
+    go : (fault : ℕ)
+        → unless fault (i .stage) dirs
+        (refuse (i .stage) dirs (badLineNumber (i .stage))) .taken .outcome ≡ Accepted → ⊥
+    go zero e =
+        accepted-not-refused
+        (sym e ∙ ap (λ (a : After). a .taken .outcome) (unless-none {fault = 0} (i .stage) dirs _ refl))
+    go (suc n) e =
+        accepted-not-refused
+        (sym e ∙ ap (λ (a : After). a .taken .outcome)
+        (unless-some {fault = suc n} (i .stage) dirs _ (λ z. omega arith)))
 
 -- "a byte 10 in it gives 8": in a state that has not ended and whose sizes, if it has them, are good
-module _ (stage : Stage) (line dirs : List ℕ) (at : ℕ) (within : at < length line) (is : getD line at 0 ≡ lineFeed) where
-  pub line-feed-eight : stageNumber stage < 4 → stateFault stage (length dirs) ≡ 0 → lineAfter (record { stage = stage }) line dirs ≡ refuse stage dirs 8
-  line-feed-eight early good = bad-line _ line dirs (line-feed line at within is) ∙ unless-none stage dirs _ good ∙ ap (refuse stage dirs) (eight stage early)
+module _ (stage : Stage) (line dirs : List ℕ) (at : ℕ) (within : at < length line)
+    (is : getD line at 0 ≡ lineFeed) where
+  pub line-feed-eight : stageNumber stage < 4 → stateFault stage (length dirs) ≡ 0
+      → lineAfter (record { stage = stage }) line dirs ≡ refuse stage dirs 8
+  line-feed-eight early good =
+      bad-line _ line dirs (line-feed line at within is) ∙ unless-none stage dirs _ good ∙ ap (refuse stage dirs)
+      (eight stage early)
     where
       eight : (s : Stage) → stageNumber s < 4 → badLineNumber s ≡ 8
       eight WaitingForSizeNames h = refl

@@ -1,4 +1,5 @@
--- The definitions tried by computation: document 01's sample A line by line, one line for each refusal, and the boundaries.
+-- The definitions tried by computation: document 01's sample A line by line, one line for each refusal, and the
+-- boundaries.
 use mathlib.Core.Path.{_≡_, refl}
 use mathlib.Core.List.{List, [], _∷_}
 use Prim.Native.Nat.{ℕ}
@@ -92,7 +93,8 @@ pub cols-0 : lineAfter (in-stage atSizes) (ascii "3,0,2") bytes ≡ refuse atSiz
 unfolding lineAfter
 cols-0 = refl
 
-pub rows-256 : lineAfter (in-stage atSizes) (ascii "256,1,2") (replicate 256 7) ≡ accept (WaitingForCellNames (sizesOf 256 1 2)) (replicate 256 0)
+pub rows-256 : lineAfter (in-stage atSizes) (ascii "256,1,2") (replicate 256 7) ≡ accept
+    (WaitingForCellNames (sizesOf 256 1 2)) (replicate 256 0)
 unfolding lineAfter
 rows-256 = refl
 
@@ -100,7 +102,8 @@ pub rows-257 : lineAfter (in-stage atSizes) (ascii "257,1,2") (replicate 257 7) 
 unfolding lineAfter
 rows-257 = refl
 
-pub cols-256 : lineAfter (in-stage atSizes) (ascii "1,256,2") (replicate 256 7) ≡ accept (WaitingForCellNames (sizesOf 1 256 2)) (replicate 256 0)
+pub cols-256 : lineAfter (in-stage atSizes) (ascii "1,256,2") (replicate 256 7) ≡ accept
+    (WaitingForCellNames (sizesOf 1 256 2)) (replicate 256 0)
 unfolding lineAfter
 cols-256 = refl
 
@@ -113,7 +116,8 @@ pub depth-0 : lineAfter (in-stage atSizes) (ascii "3,4,0") bytes ≡ refuse atSi
 unfolding lineAfter
 depth-0 = refl
 
-pub depth-18 : lineAfter (in-stage atSizes) (ascii "3,4,18") bytes ≡ accept (WaitingForCellNames (sizesOf 3 4 18)) (replicate 12 0)
+pub depth-18 : lineAfter (in-stage atSizes) (ascii "3,4,18") bytes ≡ accept (WaitingForCellNames (sizesOf 3 4 18))
+    (replicate 12 0)
 unfolding lineAfter
 depth-18 = refl
 
@@ -126,7 +130,8 @@ unfolding lineAfter
 one-before-two = refl
 
 -- 3: too few direction bytes
-pub cells-2048 : lineAfter (in-stage atSizes) (ascii "32,64,2") (replicate 2048 7) ≡ accept (WaitingForCellNames (sizesOf 32 64 2)) (replicate 2048 0)
+pub cells-2048 : lineAfter (in-stage atSizes) (ascii "32,64,2") (replicate 2048 7) ≡ accept
+    (WaitingForCellNames (sizesOf 32 64 2)) (replicate 2048 0)
 unfolding lineAfter
 cells-2048 = refl
 
@@ -152,7 +157,8 @@ unfolding lineAfter
 four-before-ten = refl
 
 -- 8: a line that breaks the rules of its stage
-pub no-size-names : lineAfter (in-stage WaitingForSizeNames) (ascii "row,col,dir") bytes ≡ refuse WaitingForSizeNames bytes 8
+pub no-size-names : lineAfter (in-stage WaitingForSizeNames)
+    (ascii "row,col,dir") bytes ≡ refuse WaitingForSizeNames bytes 8
 unfolding lineAfter
 no-size-names = refl
 
@@ -261,18 +267,22 @@ thirteen-first = refl
 
 -- ---- columns in another order; a column twice gives the first of the two, and a missing one 0
 
-pub names-turned : lineAfter newIntake (ascii "depth,rows,cols") bytes ≡ accept (WaitingForSizes (record { first = Depth; second = Rows; third = Cols })) bytes
+pub names-turned : lineAfter newIntake (ascii "depth,rows,cols") bytes ≡ accept
+    (WaitingForSizes (record { first = Depth; second = Rows; third = Cols })) bytes
 unfolding lineAfter
 names-turned = refl
 
-pub sizes-turned : lineAfter (in-stage (WaitingForSizes (record { first = Depth; second = Rows; third = Cols }))) (ascii "2,3,4") bytes ≡ accept atCellNames (replicate 12 0)
+pub sizes-turned : lineAfter (in-stage (WaitingForSizes (record { first = Depth; second = Rows; third = Cols })))
+    (ascii "2,3,4") bytes ≡ accept atCellNames (replicate 12 0)
 unfolding lineAfter
 sizes-turned = refl
 
-pub cell-names-turned : lineAfter (in-stage atCellNames) (ascii "dir,row,col") bytes ≡ accept (TakingCells (sizesOf 3 4 2) (record { first = Dir; second = Row; third = Col })) bytes
+pub cell-names-turned : lineAfter (in-stage atCellNames) (ascii "dir,row,col") bytes ≡ accept
+    (TakingCells (sizesOf 3 4 2) (record { first = Dir; second = Row; third = Col })) bytes
 unfolding lineAfter
 cell-names-turned = refl
 
-pub column-twice : lineAfter (in-stage (WaitingForSizes (record { first = Rows; second = Rows; third = Cols }))) (ascii "3,4,1") bytes ≡ refuse (WaitingForSizes (record { first = Rows; second = Rows; third = Cols })) bytes 2
+pub column-twice : lineAfter (in-stage (WaitingForSizes (record { first = Rows; second = Rows; third = Cols })))
+    (ascii "3,4,1") bytes ≡ refuse (WaitingForSizes (record { first = Rows; second = Rows; third = Cols })) bytes 2
 unfolding lineAfter
 column-twice = refl

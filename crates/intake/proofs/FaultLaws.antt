@@ -61,7 +61,9 @@ codesMost (s ∷ ss) = both (leb (s .code) 128) (codesMost ss)
 in-most : (l : List Step) (dir : ℕ) → codesMost l ≡ true → stepIn l dir .code ≤ 128
 unfolding codesMost stepIn
 in-most [] dir e = omega arith
-in-most (s ∷ ss) dir e = let w = both-true (leb (s .code) 128) (codesMost ss) e in go (eqb (s .code) dir) (leb-true (s .code) 128 (w .0)) (in-most ss dir (w .1))
+in-most (s ∷ ss) dir e =
+    let w = both-true (leb (s .code) 128) (codesMost ss) e in
+    go (eqb (s .code) dir) (leb-true (s .code) 128 (w .0)) (in-most ss dir (w .1))
   where
     go : (t : Bool) → s .code ≤ 128 → stepIn ss dir .code ≤ 128 → cond t s (stepIn ss dir) .code ≤ 128
     go true h k = h
@@ -90,7 +92,8 @@ pub on-sheet-placed : (z : Sizes) (x : Cell) (lent : ℕ) → Fits z lent → on
 unfolding onSheet
 on-sheet-placed z x lent f e =
     let on = both-true (ltb (x .row) (z .rows)) (ltb (x .col) (z .cols)) e in
-    let number : cellNumber (z .cols) (x .row) (x .col) < cellCount z = cell-lt (ltb-true (x .row) (z .rows) (on .0)) (ltb-true (x .col) (z .cols) (on .1)) in
+    let number : cellNumber (z .cols) (x .row) (x .col) < cellCount z = cell-lt (ltb-true (x .row) (z .rows) (on .0))
+    (ltb-true (x .col) (z .cols) (on .1)) in
     let count : cellCount z ≤ 65536 = cells-most (f .rows-most) (f .cols-most) in
     record { byte-lent = omega (arith, f .lent-enough); number-small = omega arith }
 

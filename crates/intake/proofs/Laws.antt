@@ -1,4 +1,5 @@
--- Laws of the intake, for every state, line and slice: what a refused line leaves, what an accepted line leaves, and the sizes that a state holds.
+-- Laws of the intake, for every state, line and slice: what a refused line leaves, what an accepted line leaves, and
+-- the sizes that a state holds.
 use mathlib.Core.Path.{_≡_, refl, sym, ap, _∙_, subst}
 use mathlib.Core.List.{List}
 use mathlib.Core.Logic.{_⊎_, inl, inr}
@@ -58,7 +59,8 @@ pub record Acceptance (stage : Stage) (dirs : List ℕ) (a : After) : Type 0 whe
 abbrev pub Answer : Stage → List ℕ → After → Type 0
 Answer stage dirs a = Refusal stage dirs a ⊎ Acceptance stage dirs a
 
-sizes-written-length : (z : Sizes) (dirs : List ℕ) → cellCount z ≤ length dirs → length (sizesWritten z dirs) ≡ length dirs
+sizes-written-length : (z : Sizes) (dirs : List ℕ) → cellCount z ≤ length dirs
+    → length (sizesWritten z dirs) ≡ length dirs
 unfolding sizesWritten
 sizes-written-length z dirs h = simp (length-append, length-replicate, length-drop) (omega arith)
 
@@ -70,13 +72,17 @@ module _ (stage : Stage) (dirs : List ℕ) where
   refuses : (number : ℕ) → 0 < number → Answer stage dirs (refuse stage dirs number)
   refuses number some = inl (record { number = number; number-some = some; is = refl })
 
-  accepts : (next : Stage) (new : List ℕ) → stageNumber stage ≤ stageNumber next → length new ≡ length dirs → heldFault next (length dirs) ≡ 0 → Answer stage dirs (accept next new)
-  accepts next new onward as-long fits = inr (record { next = next; new = new; is = refl; onward = onward; as-long = as-long; fits = fits })
+  accepts : (next : Stage) (new : List ℕ) → stageNumber stage ≤ stageNumber next → length new ≡ length dirs
+      → heldFault next (length dirs) ≡ 0 → Answer stage dirs (accept next new)
+  accepts next new onward as-long fits =
+      inr (record { next = next; new = new; is = refl; onward = onward; as-long = as-long; fits = fits })
 
-  unless-answer : (fault : ℕ) (next : After) → (fault ≡ 0 → Answer stage dirs next) → Answer stage dirs (unless fault stage dirs next)
+  unless-answer : (fault : ℕ) (next : After) → (fault ≡ 0 → Answer stage dirs next)
+      → Answer stage dirs (unless fault stage dirs next)
   unless-answer zero next h = subst (Answer stage dirs) (sym (unless-none stage dirs next refl)) (h refl)
   unless-answer (suc n) next h =
-      subst (Answer stage dirs) (sym (unless-some {fault = suc n} stage dirs next (λ e. omega arith))) (refuses (suc n) (omega arith))
+      subst (Answer stage dirs) (sym (unless-some {fault = suc n} stage dirs next (λ e. omega arith)))
+      (refuses (suc n) (omega arith))
 
 sizes-answer : (c : Columns) (v : ValuesLine) (dirs : List ℕ) → Answer (WaitingForSizes c) dirs (onSizes c v dirs)
 unfolding onSizes
@@ -87,7 +93,8 @@ sizes-answer c (Valued v) dirs =
     unless-answer (WaitingForSizes c) dirs (sizesFault z (length dirs)) next
     (λ e. accepts _ _ _ _ (omega arith) (sizes-written-length z dirs (sizes-fit z (length dirs) e .lent-enough)) e)
 
-cells-answer : (z : Sizes) (c : Columns) (v : ValuesLine) (dirs : List ℕ) → sizesFault z (length dirs) ≡ 0 → Answer (TakingCells z c) dirs (onCells z c v dirs)
+cells-answer : (z : Sizes) (c : Columns) (v : ValuesLine) (dirs : List ℕ) → sizesFault z (length dirs) ≡ 0
+    → Answer (TakingCells z c) dirs (onCells z c v dirs)
 unfolding onCells
 cells-answer z c BadValues dirs good = refuses _ _ 8 (omega arith)
 cells-answer z c (Valued v) dirs good =
@@ -96,7 +103,8 @@ cells-answer z c (Valued v) dirs good =
     unless-answer (TakingCells z c) dirs (cellFault z x dirs) next
     (λ e. accepts _ _ _ _ (omega arith) (cell-written-length z x dirs) good)
 
-line-in-answer : (stage : Stage) (line dirs : List ℕ) → stateFault stage (length dirs) ≡ 0 → Answer stage dirs (lineIn stage line dirs)
+line-in-answer : (stage : Stage) (line dirs : List ℕ) → stateFault stage (length dirs) ≡ 0
+    → Answer stage dirs (lineIn stage line dirs)
 unfolding lineIn stateFault
 line-in-answer WaitingForSizeNames line dirs good = go (namesLine sizeColumns line)
   where
@@ -123,11 +131,14 @@ accepted-not-refused {n} e = let z : _≡_ {A = ℕ} 0 1 = cc in omega arith
 
 module _ (i : Intake) (line dirs : List ℕ) where
   -- "A refused line or end returns the state it got and writes no byte."
-  pub refused-line : {n : ℕ} → lineAfter i line dirs .taken .outcome ≡ Refused n → lineAfter i line dirs ≡ refuse (i .stage) dirs n
+  pub refused-line : {n : ℕ} → lineAfter i line dirs .taken .outcome ≡ Refused n
+      → lineAfter i line dirs ≡ refuse (i .stage) dirs n
   refused-line {n} e = go (line-answer i line dirs)
     where
       go : Answer (i .stage) dirs (lineAfter i line dirs) → lineAfter i line dirs ≡ refuse (i .stage) dirs n
-      go (inl r) = let same : r .number ≡ n = cc (ap (λ (a : After). a .taken .outcome) (r .is)) in r .is ∙ ap (refuse (i .stage) dirs) same
+      go (inl r) =
+          let same : r .number ≡ n = cc (ap (λ (a : After). a .taken .outcome) (r .is)) in
+          r .is ∙ ap (refuse (i .stage) dirs) same
       go (inr a) = absurd (accepted-not-refused (sym (ap (λ (b : After). b .taken .outcome) (a .is)) ∙ e))
 
   pub line-length : length (lineAfter i line dirs .dirs) ≡ length dirs
@@ -138,11 +149,17 @@ module _ (i : Intake) (line dirs : List ℕ) where
       go (inr a) = ap (λ (b : After). length (b .dirs)) (a .is) ∙ a .as-long
 
   -- no refusal has the number 0, so the number tells the outcome
-  pub accepted-number : takenValues (lineAfter i line dirs .taken .outcome) .number ≡ 0 → lineAfter i line dirs .taken .outcome ≡ Accepted
+  pub accepted-number : takenValues (lineAfter i line dirs .taken .outcome) .number ≡ 0
+      → lineAfter i line dirs .taken .outcome ≡ Accepted
   accepted-number e = go (line-answer i line dirs)
     where
       go : Answer (i .stage) dirs (lineAfter i line dirs) → lineAfter i line dirs .taken .outcome ≡ Accepted
-      go (inl r) = absurd (omega (arith, r .number-some, sym (ap (λ (b : After). takenValues (b .taken .outcome) .number) (r .is)) ∙ e))
+      go (inl r) =
+          absurd (omega (
+            arith,
+            r .number-some,
+            sym (ap (λ (b : After). takenValues (b .taken .outcome) .number) (r .is)) ∙ e,
+          ))
       go (inr a) = ap (λ (b : After). b .taken .outcome) (a .is)
 
   module _ (e : lineAfter i line dirs .taken .outcome ≡ Accepted) where
@@ -155,10 +172,14 @@ module _ (i : Intake) (line dirs : List ℕ) where
 
     -- an accepted line never goes back a stage
     pub accepted-onward : stageNumber (i .stage) ≤ stageNumber (lineAfter i line dirs .taken .intake .stage)
-    accepted-onward = subst (λ (b : After). stageNumber (i .stage) ≤ stageNumber (b .taken .intake .stage)) (sym (acceptance .is)) (acceptance .onward)
+    accepted-onward =
+        subst (λ (b : After). stageNumber (i .stage) ≤ stageNumber (b .taken .intake .stage)) (sym (acceptance .is))
+        (acceptance .onward)
 
     pub accepted-fits : heldFault (lineAfter i line dirs .taken .intake .stage) (length dirs) ≡ 0
-    accepted-fits = subst (λ (b : After). heldFault (b .taken .intake .stage) (length dirs) ≡ 0) (sym (acceptance .is)) (acceptance .fits)
+    accepted-fits =
+        subst (λ (b : After). heldFault (b .taken .intake .stage) (length dirs) ≡ 0) (sym (acceptance .is))
+        (acceptance .fits)
 
 -- ---- the end
 
@@ -188,8 +209,11 @@ end-holds (Ended z) lent = refl
 -- a state that is reached from a new one by accepted lines and an accepted end, and the bytes then
 pub data Reached : Intake → List ℕ → Type 0 where
   at-start : (dirs : List ℕ) → Reached newIntake dirs
-  by-line : {i : Intake} {dirs : List ℕ} → Reached i dirs → (line : List ℕ) → lineAfter i line dirs .taken .outcome ≡ Accepted → Reached (lineAfter i line dirs .taken .intake) (lineAfter i line dirs .dirs)
-  by-end : {i : Intake} {dirs : List ℕ} → Reached i dirs → endTaken i .outcome ≡ Accepted → Reached (endTaken i .intake) dirs
+  by-line : {i : Intake} {dirs : List ℕ} → Reached i dirs → (line : List ℕ)
+      → lineAfter i line dirs .taken .outcome ≡ Accepted → Reached (lineAfter i line dirs .taken .intake)
+      (lineAfter i line dirs .dirs)
+  by-end : {i : Intake} {dirs : List ℕ} → Reached i dirs → endTaken i .outcome ≡ Accepted
+      → Reached (endTaken i .intake) dirs
 
 pub reached-fits : {i : Intake} {dirs : List ℕ} → Reached i dirs → heldFault (i .stage) (length dirs) ≡ 0
 unfolding endTaken
@@ -210,5 +234,6 @@ held lent cells e = e
 held lent ended e = e
 
 -- the sizes in a state that is reached are within document 01's bounds and fit the slice
-pub reached-sizes : {i : Intake} {dirs : List ℕ} {z : Sizes} → Reached i dirs → Holds (i .stage) z → Fits z (length dirs)
+pub reached-sizes : {i : Intake} {dirs : List ℕ} {z : Sizes} → Reached i dirs → Holds (i .stage) z
+    → Fits z (length dirs)
 reached-sizes {i} {dirs} {z} r h = sizes-fit z (length dirs) (held (length dirs) h (reached-fits r))

@@ -25,24 +25,30 @@ module _ {fault : ℕ} (stage : Stage) (dirs : List ℕ) (next : After) where
 
 -- the sizes z of a size line
 module _ (c : Columns) (v : Values) (dirs : List ℕ) {z : Sizes} (is : z ≡ sizesIn c v) where
-  sizes-line : onSizes c (Valued v) dirs ≡ unless (sizesFault z (length dirs)) (WaitingForSizes c) dirs (accept (WaitingForCellNames z) (sizesWritten z dirs))
+  sizes-line : onSizes c (Valued v) dirs ≡ unless (sizesFault z (length dirs)) (WaitingForSizes c) dirs
+      (accept (WaitingForCellNames z) (sizesWritten z dirs))
   unfolding onSizes
   sizes-line = rw is
 
-  pub sizes-accepted : sizesFault z (length dirs) ≡ 0 → onSizes c (Valued v) dirs ≡ accept (WaitingForCellNames z) (sizesWritten z dirs)
+  pub sizes-accepted : sizesFault z (length dirs) ≡ 0
+      → onSizes c (Valued v) dirs ≡ accept (WaitingForCellNames z) (sizesWritten z dirs)
   sizes-accepted e = sizes-line ∙ unless-none _ _ _ e
 
-  pub sizes-refused : (sizesFault z (length dirs) ≡ 0 → ⊥) → onSizes c (Valued v) dirs ≡ refuse (WaitingForSizes c) dirs (sizesFault z (length dirs))
+  pub sizes-refused : (sizesFault z (length dirs) ≡ 0 → ⊥)
+      → onSizes c (Valued v) dirs ≡ refuse (WaitingForSizes c) dirs (sizesFault z (length dirs))
   sizes-refused n = sizes-line ∙ unless-some _ _ _ n
 
 -- the cell x of a cell line
 module _ (z : Sizes) (c : Columns) (v : Values) (dirs : List ℕ) {x : Cell} (is : x ≡ cellIn c v) where
-  cell-line : onCells z c (Valued v) dirs ≡ unless (cellFault z x dirs) (TakingCells z c) dirs (accept (TakingCells z c) (cellWritten z x dirs))
+  cell-line : onCells z c (Valued v) dirs ≡ unless (cellFault z x dirs) (TakingCells z c) dirs
+      (accept (TakingCells z c) (cellWritten z x dirs))
   unfolding onCells
   cell-line = rw is
 
-  pub cell-accepted : cellFault z x dirs ≡ 0 → onCells z c (Valued v) dirs ≡ accept (TakingCells z c) (cellWritten z x dirs)
+  pub cell-accepted : cellFault z x dirs ≡ 0
+      → onCells z c (Valued v) dirs ≡ accept (TakingCells z c) (cellWritten z x dirs)
   cell-accepted e = cell-line ∙ unless-none _ _ _ e
 
-  pub cell-refused : (cellFault z x dirs ≡ 0 → ⊥) → onCells z c (Valued v) dirs ≡ refuse (TakingCells z c) dirs (cellFault z x dirs)
+  pub cell-refused : (cellFault z x dirs ≡ 0 → ⊥)
+      → onCells z c (Valued v) dirs ≡ refuse (TakingCells z c) dirs (cellFault z x dirs)
   cell-refused n = cell-line ∙ unless-some _ _ _ n

@@ -67,8 +67,8 @@ sizesWritten z dirs = replicate (cellCount z) 0 ++ drop (cellCount z) dirs
 unfoldable pub cellWritten : Sizes → Cell → List ℕ → List ℕ
 cellWritten z x dirs = set dirs (cellNumber (z .cols) (x .row) (x .col)) (x .dir)
 
--- Each stage gives 8 for a line that breaks the file's rules for it. One with a byte 10 breaks those of every stage that takes lines
--- (proofs/BadLines.antt); an ended intake gives 13 for it, as for any line.
+-- Each stage gives 8 for a line that breaks the file's rules for it. One with a byte 10 breaks those of every stage
+-- that takes lines (proofs/BadLines.antt); an ended intake gives 13 for it, as for any line.
 unfoldable pub onSizeNames : NamesLine → Taken
 onSizeNames (Named c) = accepted (WaitingForSizes c)
 onSizeNames BadNames = refused WaitingForSizeNames 8

@@ -77,7 +77,8 @@ fn write_cell(sizes: Sizes, cell: Cell, dirs: &mut [u8])
 
 fn take_cell(sizes: Sizes, columns: Columns, values: Values, dirs: &mut [u8]) -> Taken
     requires { ⌜ sizesFault sizes (length (now dirs)) ≡ 0 ⌝ }
-    ensures { λ r. ⌜ record { taken = r; dirs = now (dirs .exit) } ≡ onCells sizes columns (ValuesLine.Values values) (now (dirs .entry)) ⌝ }
+    ensures { λ r. ⌜ record { taken = r; dirs = now (dirs .exit) }
+        ≡ onCells sizes columns (ValuesLine.Values values) (now (dirs .entry)) ⌝ }
 {
     let cell = cell_in(columns, values);
     let fault = cell_fault(sizes, cell, dirs);
@@ -93,7 +94,8 @@ fn take_cell(sizes: Sizes, columns: Columns, values: Values, dirs: &mut [u8]) ->
 
 pub fn cell_line(sizes: Sizes, columns: Columns, line: &[u8], dirs: &mut [u8]) -> Taken
     requires { ⌜ sizesFault sizes (length (now dirs)) ≡ 0 ⌝ }
-    ensures { λ r. ⌜ record { taken = r; dirs = now (dirs .exit) } ≡ onCells sizes columns (valuesLine (now (line .entry))) (now (dirs .entry)) ⌝ }
+    ensures { λ r. ⌜ record { taken = r; dirs = now (dirs .exit) }
+        ≡ onCells sizes columns (valuesLine (now (line .entry))) (now (dirs .entry)) ⌝ }
 {
     let ValuesLine::Values(values) = lines::values::read_values(line) else {
         return answer(Stage::TakingCells(sizes, columns), TakenOutcome::Refused(8));

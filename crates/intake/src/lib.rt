@@ -88,7 +88,8 @@ fn state_fault(stage: Stage, lent: usize) -> u8
 // A line in a state whose sizes are good.
 fn line_in(stage: Stage, line: &[u8], dirs: &mut [u8]) -> Taken
     requires { ⌜ stateFault stage (length (now dirs)) ≡ 0 ⌝ }
-    ensures { λ r. ⌜ record { taken = r; dirs = now (dirs .exit) } ≡ lineIn stage (now (line .entry)) (now (dirs .entry)) ⌝ }
+    ensures { λ r. ⌜ record { taken = r; dirs = now (dirs .exit) }
+        ≡ lineIn stage (now (line .entry)) (now (dirs .entry)) ⌝ }
 {
     match stage {
         Stage::WaitingForSizeNames => size_names_line(line),
@@ -110,8 +111,10 @@ impl Intake {
 
     // Takes one line, without its line feed.
     pub fn line(self, line: &[u8], dirs: &mut [u8]) -> Taken
-        ensures after { λ r. ⌜ record { taken = r; dirs = now (dirs .exit) } ≡ lineAfter self (now (line .entry)) (now (dirs .entry)) ⌝ }
-        ensures values { λ r. ⌜ takenValues (r .outcome) ≡ takenValues (lineAfter self (now (line .entry)) (now (dirs .entry)) .taken .outcome) ⌝ }
+        ensures after { λ r. ⌜ record { taken = r; dirs = now (dirs .exit) }
+            ≡ lineAfter self (now (line .entry)) (now (dirs .entry)) ⌝ }
+        ensures values { λ r. ⌜ takenValues (r .outcome)
+            ≡ takenValues (lineAfter self (now (line .entry)) (now (dirs .entry)) .taken .outcome) ⌝ }
     {
         let stage = self.stage;
         let fault = state_fault(stage, dirs.len());

@@ -61,7 +61,8 @@ fn clear(dirs: &mut [u8], n: usize)
 }
 
 fn take_sizes(columns: Columns, values: Values, dirs: &mut [u8]) -> Taken
-    ensures { λ r. ⌜ record { taken = r; dirs = now (dirs .exit) } ≡ onSizes columns (ValuesLine.Values values) (now (dirs .entry)) ⌝ }
+    ensures { λ r. ⌜ record { taken = r; dirs = now (dirs .exit) }
+        ≡ onSizes columns (ValuesLine.Values values) (now (dirs .entry)) ⌝ }
 {
     let sizes = sizes_in(columns, values);
     let fault = sizes_fault(sizes, dirs.len());
@@ -76,7 +77,8 @@ fn take_sizes(columns: Columns, values: Values, dirs: &mut [u8]) -> Taken
 }
 
 pub fn sizes_line(columns: Columns, line: &[u8], dirs: &mut [u8]) -> Taken
-    ensures { λ r. ⌜ record { taken = r; dirs = now (dirs .exit) } ≡ onSizes columns (valuesLine (now (line .entry))) (now (dirs .entry)) ⌝ }
+    ensures { λ r. ⌜ record { taken = r; dirs = now (dirs .exit) }
+        ≡ onSizes columns (valuesLine (now (line .entry))) (now (dirs .entry)) ⌝ }
 {
     let ValuesLine::Values(values) = lines::values::read_values(line) else {
         return answer(Stage::WaitingForSizes(columns), TakenOutcome::Refused(8));

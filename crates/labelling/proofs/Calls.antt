@@ -28,7 +28,13 @@ pub record Bounded (rows cols : ℕ) : Type 0 where
 pub bounded : (rows cols : ℕ) → sizesFit rows cols ≡ true → Bounded rows cols
 bounded rows cols e =
     let m = rows-cols-most rows cols e in
-    record { rows-most = m .0; cols-most = m .1; cols-some = cols-some rows cols e; cells-fit = cells-most (m .0) (m .1) }
+    record {
+      rows-most = m .0;
+      cols-most = m .1;
+      cols-some = cols-some rows cols e;
+      cells-fit = cells-most (m .0)
+          (m .1);
+    }
 
 module _ (S : Sheet) (L : Lent) where
   -- what a direct call promises
@@ -60,17 +66,20 @@ module _ (S : Sheet) (L : Lent) where
           }
       go o e b f = rw (e, f)
 
-  outcome-by : (a b c : Bool) → sizesFit (S .grid .rows) (S .grid .cols) ≡ a → depthFits (S .depth) ≡ b → slicesFit (S .grid) L ≡ c
+  outcome-by : (a b c : Bool) → sizesFit (S .grid .rows) (S .grid .cols) ≡ a → depthFits (S .depth) ≡ b
+      → slicesFit (S .grid) L ≡ c
       → outcome S L ≡ cond a (cond b (cond c (outcomeOn (S .grid)) (Refused 3 0)) (Refused 2 0)) (Refused 1 0)
   unfolding outcome
-  outcome-by a b c e f g = go (sizesFit (S .grid .rows) (S .grid .cols)) e (depthFits (S .depth)) f (slicesFit (S .grid) L) g
+  outcome-by a b c e f g =
+      go (sizesFit (S .grid .rows) (S .grid .cols)) e (depthFits (S .depth)) f (slicesFit (S .grid) L) g
     where
       go : (x : Bool) → x ≡ a → (y : Bool) → y ≡ b → (z : Bool) → z ≡ c
           → cond x (cond y (cond z (outcomeOn (S .grid)) (Refused 3 0)) (Refused 2 0)) (Refused 1 0)
           ≡ cond a (cond b (cond c (outcomeOn (S .grid)) (Refused 3 0)) (Refused 2 0)) (Refused 1 0)
       go x p y q z r = rw (p, q, r)
 
-  fits-by : (a b c : Bool) → sizesFit (S .grid .rows) (S .grid .cols) ≡ a → depthFits (S .depth) ≡ b → slicesFit (S .grid) L ≡ c → fits ≡ both a (both b c)
+  fits-by : (a b c : Bool) → sizesFit (S .grid .rows) (S .grid .cols) ≡ a → depthFits (S .depth) ≡ b
+      → slicesFit (S .grid) L ≡ c → fits ≡ both a (both b c)
   fits-by a b c e f g = rw (e, f, g)
 
   pub refused-1 : sizesFit (S .grid .rows) (S .grid .cols) ≡ false → Answered (Refused 1 0) L
@@ -78,18 +87,21 @@ module _ (S : Sheet) (L : Lent) where
       let o = outcome-by false (depthFits (S .depth)) (slicesFit (S .grid) L) e refl refl in
       answered (sym o) (lent-kept 1 0 o (fits-by false (depthFits (S .depth)) (slicesFit (S .grid) L) e refl refl))
 
-  pub refused-2 : sizesFit (S .grid .rows) (S .grid .cols) ≡ true → depthFits (S .depth) ≡ false → Answered (Refused 2 0) L
+  pub refused-2 : sizesFit (S .grid .rows) (S .grid .cols) ≡ true → depthFits (S .depth) ≡ false
+      → Answered (Refused 2 0) L
   refused-2 e f =
       let o = outcome-by true false (slicesFit (S .grid) L) e f refl in
       answered (sym o) (lent-kept 2 0 o (fits-by true false (slicesFit (S .grid) L) e f refl))
 
-  pub refused-3 : sizesFit (S .grid .rows) (S .grid .cols) ≡ true → depthFits (S .depth) ≡ true → slicesFit (S .grid) L ≡ false
+  pub refused-3 : sizesFit (S .grid .rows) (S .grid .cols) ≡ true → depthFits (S .depth) ≡ true
+      → slicesFit (S .grid) L ≡ false
       → Answered (Refused 3 0) L
   refused-3 e f g =
       let o = outcome-by true true false e f g in
       answered (sym o) (lent-kept 3 0 o (fits-by true true false e f g))
 
-  module _ (e : sizesFit (S .grid .rows) (S .grid .cols) ≡ true) (f : depthFits (S .depth) ≡ true) (g : slicesFit (S .grid) L ≡ true) where
+  module _ (e : sizesFit (S .grid .rows) (S .grid .cols) ≡ true) (f : depthFits (S .depth) ≡ true)
+      (g : slicesFit (S .grid) L ≡ true) where
     -- enough places are lent
     long : Long
     unfolding slicesFit
@@ -112,7 +124,8 @@ module _ (S : Sheet) (L : Lent) where
     room = long .work
 
     -- checks 4 to 7 can begin
-    pub fitting : Fitting S (record { areas = L .areas; labels = L .labels; work = take (8 * cells (S .grid)) (L .work) })
+    pub fitting : Fitting S
+        (record { areas = L .areas; labels = L .labels; work = take (8 * cells (S .grid)) (L .work) })
     fitting =
         let b = bounded (S .grid .rows) (S .grid .cols) e in
         record {
@@ -129,8 +142,10 @@ module _ (S : Sheet) (L : Lent) where
         }
 
     -- after checks 4 to 7
-    pub labelled : {r : Outcome} {areas labels work : List ℕ} → r ≡ outcomeOn (S .grid) → areas ≡ ifAccepted r (areasOf S) (L .areas)
-        → labels ≡ ifAccepted r (labelsOf S) (L .labels) → work ≡ replicate (8 * cells (S .grid)) 0 ++ drop (8 * cells (S .grid)) (L .work)
+    pub labelled : {r : Outcome} {areas labels work : List ℕ} → r ≡ outcomeOn (S .grid)
+        → areas ≡ ifAccepted r (areasOf S) (L .areas)
+        → labels ≡ ifAccepted r (labelsOf S) (L .labels) → work ≡ replicate (8 * cells (S .grid)) 0 ++ drop
+        (8 * cells (S .grid)) (L .work)
         → Answered r (record { areas = areas; labels = labels; work = work })
     unfolding lentAfter
     labelled {r} {areas} {labels} {work} o a l w =

@@ -37,6 +37,7 @@ unfolding intakeOutcome
 ended = refl
 
 -- one area and one label are written, eight work places are cleared, and the places beyond keep their values
-pub ended-lent : intakeLent (record { stage = Ended sizes }) (1 ∷ []) one ≡ lent (1 ∷ 7 ∷ []) (0 ∷ 7 ∷ []) (0 ∷ 0 ∷ 0 ∷ 0 ∷ 0 ∷ 0 ∷ 0 ∷ 0 ∷ 7 ∷ [])
+pub ended-lent : intakeLent (record { stage = Ended sizes }) (1 ∷ []) one ≡ lent (1 ∷ 7 ∷ []) (0 ∷ 7 ∷ [])
+    (0 ∷ 0 ∷ 0 ∷ 0 ∷ 0 ∷ 0 ∷ 0 ∷ 0 ∷ 7 ∷ [])
 unfolding intakeLent
 ended-lent = refl

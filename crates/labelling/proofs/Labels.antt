@@ -32,7 +32,8 @@ written-length new old l = length-append new (drop (length new) old) ∙ (rw (le
 written-past : (new old : List ℕ) (c : ℕ) → length new ≤ c → getD (written new old) c 0 ≡ getD old c 0
 written-past new old c l =
     let e : length new + (c - length new) ≡ c = omega arith in
-    ap (λ (k : ℕ). getD (written new old) k 0) (sym e) ∙ getD-append-add new (drop (length new) old) (c - length new) 0 ∙ getD-drop (length new) old (c - length new) 0 ∙ ap (λ (k : ℕ). getD old k 0) e
+    ap (λ (k : ℕ). getD (written new old) k 0) (sym e) ∙ getD-append-add new (drop (length new) old)
+    (c - length new) 0 ∙ getD-drop (length new) old (c - length new) 0 ∙ ap (λ (k : ℕ). getD old k 0) e
 
 pub outside-past : (G : Grid) (c : ℕ) → cells G ≤ c → inside G c ≡ false
 outside-past G c l = go (inside G c) refl
@@ -47,17 +48,25 @@ module _ (S : Sheet) (B : Basin (network S) (λ c. inside (S .grid) c ≡ true) 
   held : (c : ℕ) → holds (network S) (river (network S) (outlet (S .grid))) c ≡ inside (S .grid) c
   held c = go (inside (S .grid) c) refl (in-test (lawful (B .forest)) (river (network S) (outlet (S .grid))) c)
     where
-      go : (b : Bool) → inside (S .grid) c ≡ b → Test (holds (network S) (river (network S) (outlet (S .grid))) c) (In (network S .next) (river (network S) (outlet (S .grid))) c) → holds (network S) (river (network S) (outlet (S .grid))) c ≡ b
+      go : (b : Bool) → inside (S .grid) c ≡ b
+          → Test (holds (network S) (river (network S) (outlet (S .grid))) c)
+          (In (network S .next) (river (network S) (outlet (S .grid))) c) → holds (network S)
+          (river (network S) (outlet (S .grid))) c ≡ b
       go true i (yes e h) = e
       go true i (no e n) = absurd (n (river-covers (lawful (B .forest)) (outlet (S .grid)) c (drain B c i)))
-      go false i (yes e h) = absurd (true≢false (sym (upstream-inside B c (river-passes (lawful (B .forest)) (outlet (S .grid)) c h)) ∙ i))
+      go false i (yes e h) =
+          absurd (true≢false (sym (upstream-inside B c (river-passes (lawful (B .forest)) (outlet (S .grid)) c h)) ∙ i))
       go false i (no e n) = e
 
-  label-of : (c : ℕ) → labelOf S c ≡ cond (inside (S .grid) c) (number (label (network S) (S .depth) (river (network S) (outlet (S .grid))) c)) 0
+  label-of : (c : ℕ)
+      → labelOf S c ≡ cond (inside (S .grid) c)
+      (number (label (network S) (S .depth) (river (network S) (outlet (S .grid))) c)) 0
   unfolding labelOf
   label-of c = go (inside (S .grid) c) refl
     where
-      go : (b : Bool) → inside (S .grid) c ≡ b → cond b (number (labelDigits S c)) 0 ≡ cond b (number (digitsIn (network S) (outlet (S .grid)) (S .depth) c)) 0
+      go : (b : Bool) → inside (S .grid) c ≡ b
+          → cond b (number (labelDigits S c)) 0 ≡ cond b
+          (number (digitsIn (network S) (outlet (S .grid)) (S .depth) c)) 0
       go true i = ap number (own-digits S B c i)
       go false i = refl
 
@@ -81,7 +90,8 @@ module _ (S : Sheet) (B : Basin (network S) (λ c. inside (S .grid) c ≡ true) 
 
     zero-at : (c : ℕ) → c < cells (S .grid) → getD zeros c 0 ≡ 0
     zero-at c l =
-        List·getD-append (replicate (cells (S .grid)) 0) (drop (length (replicate (cells (S .grid)) 0)) labels) 0 c (rw length-replicate l)
+        List·getD-append (replicate (cells (S .grid)) 0) (drop (length (replicate (cells (S .grid)) 0)) labels) 0 c
+        (rw length-replicate l)
         ∙ getD-replicate (cells (S .grid)) c 0 0 l
 
     label-at : (c : ℕ) → c < cells (S .grid) → getD (written (labelsOf S) labels) c 0 ≡ labelOf S c
@@ -98,10 +108,13 @@ module _ (S : Sheet) (B : Basin (network S) (λ c. inside (S .grid) c ≡ true) 
     pub basin-labels : relabelled (holds (network S) (river (network S) (outlet (S .grid))))
         (λ c. number (label (network S) (S .depth) (river (network S) (outlet (S .grid))) c)) zeros
         ≡ written (labelsOf S) labels
-    basin-labels = sym (relabelled-is _ _ zeros (written (labelsOf S) labels) (labels-length ∙ sym zeros-length) (λ c l. go c (cleared-at c (rw zeros-length at l))))
+    basin-labels =
+        sym (relabelled-is _ _ zeros (written (labelsOf S) labels) (labels-length ∙ sym zeros-length)
+        (λ c l. go c (cleared-at c (rw zeros-length at l))))
       where
         go : (c : ℕ) → (c < cells (S .grid)) ⊎ (cells (S .grid) ≤ c)
             → getD (written (labelsOf S) labels) c 0
-            ≡ cond (holds (network S) (river (network S) (outlet (S .grid))) c) (number (label (network S) (S .depth) (river (network S) (outlet (S .grid))) c)) (getD zeros c 0)
+            ≡ cond (holds (network S) (river (network S) (outlet (S .grid))) c)
+            (number (label (network S) (S .depth) (river (network S) (outlet (S .grid))) c)) (getD zeros c 0)
         go c (inl l) = label-at c l ∙ label-of c ∙ (rw (held c, zero-at c l))
         go c (inr l) = past c l ∙ (rw (held c, outside-past (S .grid) c l))

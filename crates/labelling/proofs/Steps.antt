@@ -51,20 +51,25 @@ module _ (S : Sheet) where
       let areas = written (areasOf S) old in
       fun-ext (λ c. elim (decLt c n) [
         | yes l ↦ getD-take n areas c 0 l ∙ written-at (area S) n c old l
-        | no h ↦ List·getD-eq-default (take n areas) 0 {n = c} (omega (arith, length-take n areas)) ∙ sym (area-past c (omega arith))
+        | no h ↦ List·getD-eq-default (take n areas) 0 {n = c} (omega (arith, length-take n areas)) ∙ sym
+            (area-past c (omega arith))
       ])
 
   -- so the network by them is the sheet's
-  pub network-in : {areas : List ℕ} (old : List ℕ) → areas ≡ written (areasOf S) old → networkIn (S .grid) areas (least S) (split S) ≡ network S
+  pub network-in : {areas : List ℕ} (old : List ℕ) → areas ≡ written (areasOf S) old
+      → networkIn (S .grid) areas (least S) (split S) ≡ network S
   unfolding network
-  network-in old e = ap (λ (f : ℕ → ℕ). networkBy (S .grid) f (least S) (split S)) (ap (areaIn (cells (S .grid))) e ∙ areas-in old)
+  network-in old e =
+      ap (λ (f : ℕ → ℕ). networkBy (S .grid) f (least S) (split S)) (ap (areaIn (cells (S .grid))) e ∙ areas-in old)
 
 pub queued-most : {G : Grid} {work : List ℕ} {queued : ℕ} → Drained G work queued → queued ≤ cells G
 queued-most d = queue-most (d .searched .upstream .queue)
 
 -- after the areas and sizes, the order along rivers can be worked out
-pub surveyed : {S : Sheet} {L : Lent} {queued : ℕ} {areas work : List ℕ} → Fitting S L → Inspected (S .grid) (L .work) queued
-    → work ≡ withSizes (cells (S .grid)) (sizesOf (S .grid)) (L .work) → areas ≡ written (areasOf S) (L .areas) → length work ≡ length (L .work)
+pub surveyed : {S : Sheet} {L : Lent} {queued : ℕ} {areas work : List ℕ} → Fitting S L
+    → Inspected (S .grid) (L .work) queued
+    → work ≡ withSizes (cells (S .grid)) (sizesOf (S .grid)) (L .work) → areas ≡ written (areasOf S)
+    (L .areas) → length work ≡ length (L .work)
     → Surveyed (S .grid) areas work queued
 surveyed {S} {L} {queued} {areas} {work} f i e a l = rw (e, a) (record {
   measured = record {
@@ -97,7 +102,8 @@ pub part-is : (a q : ℕ) (work : List ℕ) → take (a + q - a) (drop a work) �
 part-is a q work = let e : a + q - a ≡ q = omega arith in ap (λ (k : ℕ). take k (drop a work)) e
 
 -- the cells of an accepted sheet are a basin
-the-basin : (S : Sheet) → outcomeOn (S .grid) ≡ Accepted → Basin (network S) (λ c. inside (S .grid) c ≡ true) (outlet (S .grid))
+the-basin : (S : Sheet) → outcomeOn (S .grid) ≡ Accepted
+    → Basin (network S) (λ c. inside (S .grid) c ≡ true) (outlet (S .grid))
 unfolding network
 the-basin S accepted = basin (S .grid) (passed-on (S .grid) accepted) (area S) (least S) (split S)
 
@@ -130,24 +136,30 @@ module _ (S : Sheet) {areas work : List ℕ} {queued : ℕ} (accepted : outcomeO
   some-cell = rw (r .long) (r .some)
 
   -- the labels that a basin's river gets are those of the sheet
-  pub labels-written : (labels : List ℕ) {labels′ labels″ : List ℕ} → cells (S .grid) ≤ length labels → labels′ ≡ written (replicate (cells (S .grid)) 0) labels
+  pub labels-written : (labels : List ℕ) {labels′ labels″ : List ℕ} → cells (S .grid) ≤ length labels
+      → labels′ ≡ written (replicate (cells (S .grid)) 0) labels
       → ((n : NetworkOf cell size areas (split S) (least S))
-      → labels″ ≡ relabelled (holds (n .network) (river (n .network) (getD cell 0 0))) (λ c. number (label (n .network) (S .depth) (river (n .network) (getD cell 0 0)) c)) labels′)
+      → labels″ ≡ relabelled (holds (n .network) (river (n .network) (getD cell 0 0)))
+      (λ c. number (label (n .network) (S .depth) (river (n .network) (getD cell 0 0)) c)) labels′)
       → labels″ ≡ written (labelsOf S) labels
   unfolding network-of
   labels-written labels room e f =
       f network-of ∙ (rw (r .outlet-first, e) (basin-labels S (the-basin S accepted) labels room))
 
 -- ---- the work places
-pub cleared : (n : ℕ) (old : List ℕ) {work : List ℕ} → length old ≡ 8 * n → work ≡ replicate (length old) 0 → Cleared n work
+pub cleared : (n : ℕ) (old : List ℕ) {work : List ℕ} → length old ≡ 8 * n → work ≡ replicate (length old) 0
+    → Cleared n work
 cleared n old long e = rw (e, long) (record {
   room = rw length-replicate (omega arith);
   zero = λ j k. getD-replicate (8 * n) j 0 0 k;
 })
 
-pub other-work : {S : Sheet} {areas labels work work′ : List ℕ} → Fitting S (record { areas = areas; labels = labels; work = work }) → length work′ ≡ length work
+pub other-work : {S : Sheet} {areas labels work work′ : List ℕ}
+    → Fitting S (record { areas = areas; labels = labels; work = work }) → length work′ ≡ length work
     → Fitting S (record { areas = areas; labels = labels; work = work′ })
-other-work f e = record { sized = f .sized; depth-most = f .depth-most; areas = f .areas; labels = f .labels; work = e ∙ f .work }
+other-work f e =
+    record { sized = f .sized; depth-most = f .depth-most; areas = f .areas; labels = f .labels; work = e ∙ f .work }
 
-pub inspected : {G : Grid} {work work′ : List ℕ} {r : Inspection} → InspectionResult G work work′ r → r .outcome ≡ Accepted → Inspected G work′ (r .queued)
+pub inspected : {G : Grid} {work work′ : List ℕ} {r : Inspection} → InspectionResult G work work′ r
+    → r .outcome ≡ Accepted → Inspected G work′ (r .queued)
 inspected i h = record { accepted = sym (i .outcome) ∙ h; drained = i .drained h; single = i .single h }

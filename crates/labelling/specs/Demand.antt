@@ -32,4 +32,5 @@ pub record DemandThreeFrom (i : Intake) (dirs labels : List ℕ) : Type 0 where
 -- the third demand for all accepted sheets, however they are labelled
 pub record DemandThreeWhole : Type 1 where
   pub directly : (S : Sheet) (L L′ : Lent) → LabelledDirectly S L L′ → DemandThreeOf S (L′ .labels)
-  pub from-intake : (i : Intake) (dirs : List ℕ) (L L′ : Lent) → LabelledFrom i dirs L L′ → DemandThreeFrom i dirs (L′ .labels)
+  pub from-intake : (i : Intake) (dirs : List ℕ) (L L′ : Lent) → LabelledFrom i dirs L L′
+      → DemandThreeFrom i dirs (L′ .labels)

@@ -16,9 +16,14 @@ pub fn label_intake(
     labels: &mut [u64],
     work: &mut [u32],
 ) -> Outcome
-    ensures outcome { λ r. ⌜ r ≡ intakeOutcome intake (now (dirs .entry)) (lent (now (areas .entry)) (now (labels .entry)) (now (work .entry))) ⌝ }
-    ensures values { λ r. ⌜ outcomeValues r ≡ outcomeValues (intakeOutcome intake (now (dirs .entry)) (lent (now (areas .entry)) (now (labels .entry)) (now (work .entry)))) ⌝ }
-    ensures lent { λ _. ⌜ lent (now (areas .exit)) (now (labels .exit)) (now (work .exit)) ≡ intakeLent intake (now (dirs .entry)) (lent (now (areas .entry)) (now (labels .entry)) (now (work .entry))) ⌝ }
+    ensures outcome { λ r. ⌜ r ≡ intakeOutcome intake (now (dirs .entry))
+        (lent (now (areas .entry)) (now (labels .entry)) (now (work .entry))) ⌝ }
+    ensures values { λ r. ⌜ outcomeValues r
+        ≡ outcomeValues (intakeOutcome intake (now (dirs .entry))
+        (lent (now (areas .entry)) (now (labels .entry)) (now (work .entry)))) ⌝ }
+    ensures lent { λ _. ⌜ lent (now (areas .exit)) (now (labels .exit)) (now (work .exit))
+        ≡ intakeLent intake (now (dirs .entry))
+        (lent (now (areas .entry)) (now (labels .entry)) (now (work .entry))) ⌝ }
 {
     let stage = intake.stage;
     match stage {

@@ -52,9 +52,12 @@ fn write_labels(
 )
     requires { ⌜ Fitting (sheet rows cols depth (now dirs)) (lent (now areas) (now labels) (now work)) ⌝ }
     requires { ⌜ Inspected (grid rows cols (now dirs)) (now work) queued ⌝ }
-    ensures areas { λ _. ⌜ now (areas .exit) ≡ written (areasOf (sheet rows cols depth (now (dirs .entry)))) (now (areas .entry)) ⌝ }
-    ensures labels { λ _. ⌜ now (labels .exit) ≡ written (labelsOf (sheet rows cols depth (now (dirs .entry)))) (now (labels .entry)) ⌝ }
-    ensures order { λ _. ⌜ Arranged (grid rows cols (now (dirs .entry))) (now (areas .exit)) (now (work .exit)) queued ⌝ }
+    ensures areas { λ _. ⌜ now (areas .exit)
+        ≡ written (areasOf (sheet rows cols depth (now (dirs .entry)))) (now (areas .entry)) ⌝ }
+    ensures labels { λ _. ⌜ now (labels .exit)
+        ≡ written (labelsOf (sheet rows cols depth (now (dirs .entry)))) (now (labels .entry)) ⌝ }
+    ensures order { λ _. ⌜ Arranged (grid rows cols (now (dirs .entry))) (now (areas .exit))
+        (now (work .exit)) queued ⌝ }
 {
     drainage::measure::measure(dirs, rows, cols, work, queued, areas);
     order::positions::arrange(dirs, rows, cols, areas, queued, work);
@@ -87,10 +90,15 @@ fn write_if_accepted(
     work: &mut [u32],
 )
     requires { ⌜ Fitting (sheet rows cols depth (now dirs)) (lent (now areas) (now labels) (now work)) ⌝ }
-    requires { ⌜ (found .outcome ≡ Outcome.Accepted → Inspected (grid rows cols (now dirs)) (now work) (found .queued)) ⌝ }
-    ensures areas { λ _. ⌜ now (areas .exit) ≡ ifAccepted (found .outcome) (areasOf (sheet rows cols depth (now (dirs .entry)))) (now (areas .entry)) ⌝ }
-    ensures labels { λ _. ⌜ now (labels .exit) ≡ ifAccepted (found .outcome) (labelsOf (sheet rows cols depth (now (dirs .entry)))) (now (labels .entry)) ⌝ }
-    ensures order { λ _. ⌜ (found .outcome ≡ Outcome.Accepted → Arranged (grid rows cols (now (dirs .entry))) (now (areas .exit)) (now (work .exit)) (found .queued)) ⌝ }
+    requires { ⌜ (found .outcome
+        ≡ Outcome.Accepted → Inspected (grid rows cols (now dirs)) (now work) (found .queued)) ⌝ }
+    ensures areas { λ _. ⌜ now (areas .exit)
+        ≡ ifAccepted (found .outcome) (areasOf (sheet rows cols depth (now (dirs .entry)))) (now (areas .entry)) ⌝ }
+    ensures labels { λ _. ⌜ now (labels .exit)
+        ≡ ifAccepted (found .outcome) (labelsOf (sheet rows cols depth (now (dirs .entry)))) (now (labels .entry)) ⌝ }
+    ensures order { λ _. ⌜ (found .outcome
+        ≡ Outcome.Accepted
+        → Arranged (grid rows cols (now (dirs .entry))) (now (areas .exit)) (now (work .exit)) (found .queued)) ⌝ }
 {
     let outcome = found.outcome;
     let queued = found.queued;
@@ -100,8 +108,8 @@ fn write_if_accepted(
     }
 }
 
-// Labels a sheet that passed checks 1 to 3. Of an accepted sheet the order along rivers is left in the work places, with
-// the number of its cells.
+// Labels a sheet that passed checks 1 to 3. Of an accepted sheet the order along rivers is left in the work places,
+// with the number of its cells.
 fn label_in_order(
     rows: usize,
     cols: usize,
@@ -112,7 +120,9 @@ fn label_in_order(
     work: &mut [u32],
 ) -> Inspection
     requires { ⌜ Fitting (sheet rows cols depth (now dirs)) (lent (now areas) (now labels) (now work)) ⌝ }
-    ensures { λ r. ⌜ LabelledInOrder (sheet rows cols depth (now (dirs .entry))) (lent (now (areas .entry)) (now (labels .entry)) (now (work .entry))) (lent (now (areas .exit)) (now (labels .exit)) (now (work .exit))) r ⌝ }
+    ensures { λ r. ⌜ LabelledInOrder (sheet rows cols depth (now (dirs .entry)))
+        (lent (now (areas .entry)) (now (labels .entry)) (now (work .entry)))
+        (lent (now (areas .exit)) (now (labels .exit)) (now (work .exit))) r ⌝ }
 {
     clear_places(work);
     let found = drainage::inspect::inspect(dirs, rows, cols, work);
@@ -132,8 +142,10 @@ fn label_fitting(
 ) -> Outcome
     requires { ⌜ Fitting (sheet rows cols depth (now dirs)) (lent (now areas) (now labels) (now work)) ⌝ }
     ensures outcome { λ r. ⌜ r ≡ outcomeOn (grid rows cols (now (dirs .entry))) ⌝ }
-    ensures areas { λ r. ⌜ now (areas .exit) ≡ ifAccepted r (areasOf (sheet rows cols depth (now (dirs .entry)))) (now (areas .entry)) ⌝ }
-    ensures labels { λ r. ⌜ now (labels .exit) ≡ ifAccepted r (labelsOf (sheet rows cols depth (now (dirs .entry)))) (now (labels .entry)) ⌝ }
+    ensures areas { λ r. ⌜ now (areas .exit)
+        ≡ ifAccepted r (areasOf (sheet rows cols depth (now (dirs .entry)))) (now (areas .entry)) ⌝ }
+    ensures labels { λ r. ⌜ now (labels .exit)
+        ≡ ifAccepted r (labelsOf (sheet rows cols depth (now (dirs .entry)))) (now (labels .entry)) ⌝ }
     ensures work { λ _. ⌜ now (work .exit) ≡ replicate (8 * (rows * cols)) 0 ⌝ }
 {
     let found = label_in_order(rows, cols, depth, dirs, areas, labels, work);
@@ -158,8 +170,8 @@ fn slices_fit(n: usize, dirs: usize, areas: usize, labels: usize, work: usize) -
     8 * n <= work
 }
 
-// Labels a sheet: refusals 1 to 7 in order, with document 01's number and place; accepted, the first rows × cols areas and labels
-// are written.
+// Labels a sheet: refusals 1 to 7 in order, with document 01's number and place; accepted, the first rows × cols areas
+// and labels are written.
 pub fn label(
     rows: usize,
     cols: usize,
@@ -169,9 +181,14 @@ pub fn label(
     labels: &mut [u64],
     work: &mut [u32],
 ) -> Outcome
-    ensures outcome { λ r. ⌜ r ≡ outcome (sheet rows cols depth (now (dirs .entry))) (lent (now (areas .entry)) (now (labels .entry)) (now (work .entry))) ⌝ }
-    ensures values { λ r. ⌜ outcomeValues r ≡ outcomeValues (outcome (sheet rows cols depth (now (dirs .entry))) (lent (now (areas .entry)) (now (labels .entry)) (now (work .entry)))) ⌝ }
-    ensures lent { λ _. ⌜ lent (now (areas .exit)) (now (labels .exit)) (now (work .exit)) ≡ lentAfter (sheet rows cols depth (now (dirs .entry))) (lent (now (areas .entry)) (now (labels .entry)) (now (work .entry))) ⌝ }
+    ensures outcome { λ r. ⌜ r ≡ outcome (sheet rows cols depth (now (dirs .entry)))
+        (lent (now (areas .entry)) (now (labels .entry)) (now (work .entry))) ⌝ }
+    ensures values { λ r. ⌜ outcomeValues r
+        ≡ outcomeValues (outcome (sheet rows cols depth (now (dirs .entry)))
+        (lent (now (areas .entry)) (now (labels .entry)) (now (work .entry)))) ⌝ }
+    ensures lent { λ _. ⌜ lent (now (areas .exit)) (now (labels .exit)) (now (work .exit))
+        ≡ lentAfter (sheet rows cols depth (now (dirs .entry)))
+        (lent (now (areas .entry)) (now (labels .entry)) (now (work .entry))) ⌝ }
 {
     let sizes_fit = checks::sizes_fit(rows, cols);
     let depth_fits = checks::depth_fits(depth);

@@ -70,15 +70,19 @@ pub eighty-one-bytes : fitsLine (replicate 81 49) ≡ false
 unfolding fitsLine
 eighty-one-bytes = refl
 
--- The value in a column: by the columns' order; in the first of two columns of one name; and in a column that is not there.
-pub value-by-name : valueOf (record { first = Cols; second = Depth; third = Rows }) (record { first = 4; second = 2; third = 3 }) Rows ≡ 3
+-- The value in a column: by the columns' order; in the first of two columns of one name; and in a column that is not
+-- there.
+pub value-by-name : valueOf (record { first = Cols; second = Depth; third = Rows })
+    (record { first = 4; second = 2; third = 3 }) Rows ≡ 3
 unfolding valueOf sameColumn
 value-by-name = refl
 
-pub value-of-two : valueOf (record { first = Cols; second = Rows; third = Rows }) (record { first = 4; second = 2; third = 3 }) Rows ≡ 2
+pub value-of-two : valueOf (record { first = Cols; second = Rows; third = Rows })
+    (record { first = 4; second = 2; third = 3 }) Rows ≡ 2
 unfolding valueOf sameColumn
 value-of-two = refl
 
-pub value-of-none : valueOf (record { first = Cols; second = Rows; third = Rows }) (record { first = 4; second = 2; third = 3 }) Depth ≡ 0
+pub value-of-none : valueOf (record { first = Cols; second = Rows; third = Rows })
+    (record { first = 4; second = 2; third = 3 }) Depth ≡ 0
 unfolding valueOf sameColumn
 value-of-none = refl

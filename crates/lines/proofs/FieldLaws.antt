@@ -36,7 +36,9 @@ unfolding fields firstField laterFields
 fields-first [] = refl
 fields-first (b ∷ s) = go (eqb b comma) (fields-first s)
   where
-    go : (t : Bool) → fields s ≡ firstField s ∷ laterFields s → cond t ([] ∷ fields s) (longer b (fields s)) ≡ cond t [] (b ∷ firstField s) ∷ cond t (fields s) (laterFields s)
+    go : (t : Bool) → fields s ≡ firstField s ∷ laterFields s
+        → cond t ([] ∷ fields s) (longer b (fields s)) ≡ cond t [] (b ∷ firstField s) ∷ cond t (fields s)
+        (laterFields s)
     go true ih = refl
     go false ih = ap (longer b) ih
 
@@ -54,7 +56,8 @@ unfolding firstField
 first-take [] = refl
 first-take (b ∷ s) = go (eqb b comma) (first-take s)
   where
-    go : (t : Bool) → take (length (firstField s)) s ≡ firstField s → take (length (cond t [] (b ∷ firstField s))) (b ∷ s) ≡ cond t [] (b ∷ firstField s)
+    go : (t : Bool) → take (length (firstField s)) s ≡ firstField s
+        → take (length (cond t [] (b ∷ firstField s))) (b ∷ s) ≡ cond t [] (b ∷ firstField s)
     go true ih = refl
     go false ih = ap (λ (f : List ℕ). b ∷ f) ih
 
@@ -71,7 +74,8 @@ later-from (b ∷ s) = go (eqb b comma) (later-from s)
     next : suc (length (firstField s)) + 1 ≡ suc (length (firstField s) + 1)
     next = omega arith
 
-    go : (t : Bool) → laterFields s ≡ fieldsFrom s (length (firstField s) + 1) → cond t (fields s) (laterFields s) ≡ fieldsFrom (b ∷ s) (length (cond t [] (b ∷ firstField s)) + 1)
+    go : (t : Bool) → laterFields s ≡ fieldsFrom s (length (firstField s) + 1)
+        → cond t (fields s) (laterFields s) ≡ fieldsFrom (b ∷ s) (length (cond t [] (b ∷ firstField s)) + 1)
     go true ih = rw (le-leb 1 (suc (length s)) (omega arith))
     go false ih = rw (next, leb·suc-suc) ih
 
@@ -100,7 +104,15 @@ module _ (s : List ℕ) (at : ℕ) (within : at ≤ length s) where
       let next : at + n + 1 ≡ at + (n + 1) = omega arith in
       let past : leb (n + 1) (length (drop at s)) ≡ leb (at + (n + 1)) (length s) =
       rw length-drop (leb-shift at (n + 1) (length s) within) in
-      rw (le-leb at (length s) within, fields-first (drop at s), width, first-take, later-from, next, ← drop-drop (n + 1) at s)
+      rw (
+        le-leb at (length s) within,
+        fields-first (drop at s),
+        width,
+        first-take,
+        later-from,
+        next,
+        ← drop-drop (n + 1) at s,
+      )
       (ap (λ (t : Bool). firstField (drop at s) ∷ cond t (fields (drop (n + 1) (drop at s))) []) past)
 
 pub fields-all : (s : List ℕ) → fieldsFrom s 0 ≡ fields s
@@ -133,10 +145,12 @@ module _ (s t : List ℕ) (i : ℕ) where
   unfolding sameBytes
   same-at-end h g = rw (drop-of-length-le s, drop-of-length-le t)
 
-  pub same-at-different : i < length s → i < length t → (getD s i 0 ≡ getD t i 0 → ⊥) → sameBytes (drop i s) (drop i t) ≡ false
+  pub same-at-different : i < length s → i < length t → (getD s i 0 ≡ getD t i 0 → ⊥)
+      → sameBytes (drop i s) (drop i t) ≡ false
   unfolding sameBytes
   same-at-different h g n = rw (drop-cons s i 0, drop-cons t i 0, ne-eqb _ _ n)
 
-  pub same-at-equal : i < length s → i < length t → getD s i 0 ≡ getD t i 0 → sameBytes (drop (i + 1) s) (drop (i + 1) t) ≡ sameBytes (drop i s) (drop i t)
+  pub same-at-equal : i < length s → i < length t → getD s i 0 ≡ getD t i 0
+      → sameBytes (drop (i + 1) s) (drop (i + 1) t) ≡ sameBytes (drop i s) (drop i t)
   unfolding sameBytes
   same-at-equal h g e = rw (add-one, drop-cons s i 0, drop-cons t i 0, eq-eqb _ _ e)

@@ -38,7 +38,9 @@ unfolding contains
 at-contains b [] e = absurd (false≢true e)
 at-contains b (x ∷ s) e = go (eqb x b) refl e (at-contains b s)
   where
-    go : (t : Bool) → eqb x b ≡ t → (t || contains b s) ≡ true → (contains b s ≡ true → (i : ℕ) × (i < length s) × (getD s i 0 ≡ b)) → (i : ℕ) × (i < suc (length s)) × (getD (x ∷ s) i 0 ≡ b)
+    go : (t : Bool) → eqb x b ≡ t → (t || contains b s) ≡ true
+        → (contains b s ≡ true → (i : ℕ) × (i < length s) × (getD s i 0 ≡ b)) → (i : ℕ) × (i < suc (length s)) ×
+        (getD (x ∷ s) i 0 ≡ b)
     go true h e ih = (0, omega arith, eqb-true x b h)
     go false h e ih = let (i, l, g) = ih e in (suc i, omega arith, g)
 
@@ -52,7 +54,8 @@ fields-contain b (x ∷ s) n = go (eqb x comma) refl (fields-contain b s n)
     put [] = or-false (eqb x b || false) ∙ refl
     put (f ∷ fs) = or-assoc (eqb x b) (contains b f) (containsAny b fs)
 
-    go : (t : Bool) → eqb x comma ≡ t → contains b s ≡ containsAny b (fields s) → (eqb x b || contains b s) ≡ containsAny b (cond t ([] ∷ fields s) (longer x (fields s)))
+    go : (t : Bool) → eqb x comma ≡ t → contains b s ≡ containsAny b (fields s)
+        → (eqb x b || contains b s) ≡ containsAny b (cond t ([] ∷ fields s) (longer x (fields s)))
     go true h ih = rw (ne-eqb x b (λ e. n (sym e ∙ eqb-true x comma h))) ih
     go false h ih = rw ih (sym (put (fields s)))
 
@@ -62,32 +65,44 @@ module _ (b : ℕ) (other : isDigit b ≡ false) where
   unfolding fieldValue
   field-other f h = go (valueAt valueDigits f 0) refl
     where
-      whole : (v end : ℕ) → valueAt valueDigits f 0 ≡ Found v end → (t : Bool) → eqb end (length f) ≡ t → cond t (Found v end) NoValue ≡ NoValue
+      whole : (v end : ℕ) → valueAt valueDigits f 0 ≡ Found v end → (t : Bool) → eqb end (length f) ≡ t
+          → cond t (Found v end) NoValue ≡ NoValue
       whole v end e true w =
           let (i, l, g) = at-contains b f h in
-          absurd (false≢true (sym other ∙ ap isDigit (sym g) ∙ value-digits valueDigits f 0 e i (omega arith) (omega (arith, eqb-true end (length f) w))))
+          absurd (false≢true
+          (sym other ∙ ap isDigit (sym g) ∙ value-digits valueDigits f 0 e i (omega arith)
+          (omega (arith, eqb-true end (length f) w))))
       whole v end e false w = refl
 
       go : (x : Value) → valueAt valueDigits f 0 ≡ x → ifWhole f x ≡ NoValue
       go (Found v end) e = whole v end e (eqb end (length f)) refl
       go NoValue e = refl
 
-  values-from-other : (count place : ℕ) (fs : List (List ℕ)) (v : Values) → containsAny b fs ≡ true → valuesFrom count place fs v ≡ BadValues
+  values-from-other : (count place : ℕ) (fs : List (List ℕ)) (v : Values) → containsAny b fs ≡ true
+      → valuesFrom count place fs v ≡ BadValues
   unfolding containsAny
   values-from-other count place [] v h = absurd (false≢true h)
-  values-from-other count place (f ∷ fs) v h = go (contains b f) refl h (λ (x : ℕ). values-from-other count (place + 1) fs (withValue v place x))
+  values-from-other count place (f ∷ fs) v h =
+      go (contains b f) refl h (λ (x : ℕ). values-from-other count (place + 1) fs (withValue v place x))
     where
-      known : (x : Value) → fieldValue f ≡ x → ((y : ℕ) → valuesFrom count (place + 1) fs (withValue v place y) ≡ BadValues) → valuesFrom count place (f ∷ fs) v ≡ BadValues
+      known : (x : Value) → fieldValue f ≡ x
+          → ((y : ℕ) → valuesFrom count (place + 1) fs (withValue v place y) ≡ BadValues) → valuesFrom count place
+          (f ∷ fs) v ≡ BadValues
       known (Found y end) e ih = values-value count place v f fs e ∙ ih y
       known NoValue e ih = values-other count place v f fs e
 
-      go : (t : Bool) → contains b f ≡ t → (t || containsAny b fs) ≡ true → ((x : ℕ) → containsAny b fs ≡ true → valuesFrom count (place + 1) fs (withValue v place x) ≡ BadValues) → valuesFrom count place (f ∷ fs) v ≡ BadValues
+      go : (t : Bool) → contains b f ≡ t → (t || containsAny b fs) ≡ true
+          → ((x : ℕ) → containsAny b fs ≡ true → valuesFrom count (place + 1) fs (withValue v place x) ≡ BadValues)
+          → valuesFrom count place (f ∷ fs) v ≡ BadValues
       go true e h ih = values-other count place v f fs (field-other f e)
       go false e h ih = known (fieldValue f) refl (λ y. ih y h)
 
-  pub values-other-byte : (b ≡ comma → ⊥) → (s : List ℕ) (i : ℕ) → i < length s → getD s i 0 ≡ b → valuesLine s ≡ BadValues
+  pub values-other-byte : (b ≡ comma → ⊥) → (s : List ℕ) (i : ℕ) → i < length s → getD s i 0 ≡ b
+      → valuesLine s ≡ BadValues
   unfolding valuesLine
-  values-other-byte no-comma s i h e = rw (values-from-other columnCount 0 (fields s) noValues (sym (fields-contain b s no-comma) ∙ contains-at b s i h e)) (either (fitsLine s))
+  values-other-byte no-comma s i h e =
+      rw (values-from-other columnCount 0 (fields s) noValues
+      (sym (fields-contain b s no-comma) ∙ contains-at b s i h e)) (either (fitsLine s))
     where
       either : (t : Bool) → cond t BadValues BadValues ≡ BadValues
       either true = refl

@@ -32,11 +32,13 @@ module _ (f : List ℕ) where
 -- Column by column.
 module _ (count place : ℕ) (v : Values) where
   -- past the end of the line
-  pub values-at-done : (s : List ℕ) {at : ℕ} → length s < at → place ≡ count → valuesFrom count place (fieldsFrom s at) v ≡ Valued v
+  pub values-at-done : (s : List ℕ) {at : ℕ} → length s < at → place ≡ count
+      → valuesFrom count place (fieldsFrom s at) v ≡ Valued v
   unfolding valuesFrom
   values-at-done s h e = rw (fields-past s _ h, eq-eqb place count e)
 
-  pub values-at-short : (s : List ℕ) {at : ℕ} → length s < at → (place ≡ count → ⊥) → valuesFrom count place (fieldsFrom s at) v ≡ Bad
+  pub values-at-short : (s : List ℕ) {at : ℕ} → length s < at → (place ≡ count → ⊥)
+      → valuesFrom count place (fieldsFrom s at) v ≡ Bad
   unfolding valuesFrom
   values-at-short s h n = rw (fields-past s _ h, ne-eqb place count n)
 
@@ -45,20 +47,24 @@ module _ (count place : ℕ) (v : Values) where
     unfolding valuesFrom
     values-other e = rw e
 
-    pub values-value : {x end : ℕ} → fieldValue f ≡ Found x end → valuesFrom count place (f ∷ fs) v ≡ valuesFrom count (place + 1) fs (withValue v place x)
+    pub values-value : {x end : ℕ} → fieldValue f ≡ Found x end
+        → valuesFrom count place (f ∷ fs) v ≡ valuesFrom count (place + 1) fs (withValue v place x)
     unfolding valuesFrom
     values-value e = rw e
 
   -- A reader at the position `at` of the line s finds the end of the field there and the value that it is.
-  module _ (s : List ℕ) {at end : ℕ} {value : Value} (within : at ≤ length s) (e : end ≡ fieldEnd s at) (valued : value ≡ fieldValue (take (end - at) (drop at s))) where
+  module _ (s : List ℕ) {at end : ℕ} {value : Value} (within : at ≤ length s) (e : end ≡ fieldEnd s at)
+      (valued : value ≡ fieldValue (take (end - at) (drop at s))) where
     here : fieldsFrom s at ≡ take (end - at) (drop at s) ∷ fieldsFrom s (end + 1)
     here = rw e (fields-at s at within)
 
     pub values-at-other : value ≡ NoValue → valuesFrom count place (fieldsFrom s at) v ≡ Bad
     values-at-other n = rw here (values-other (take (end - at) (drop at s)) (fieldsFrom s (end + 1)) (sym valued ∙ n))
 
-    pub values-at-value : {x stop : ℕ} {next : Values} → value ≡ Found x stop → next ≡ withValue v place x → valuesFrom count (place + 1) (fieldsFrom s (end + 1)) next ≡ valuesFrom count place (fieldsFrom s at) v
-    values-at-value f w = rw (w, here) (sym (values-value (take (end - at) (drop at s)) (fieldsFrom s (end + 1)) (sym valued ∙ f)))
+    pub values-at-value : {x stop : ℕ} {next : Values} → value ≡ Found x stop → next ≡ withValue v place x
+        → valuesFrom count (place + 1) (fieldsFrom s (end + 1)) next ≡ valuesFrom count place (fieldsFrom s at) v
+    values-at-value f w =
+        rw (w, here) (sym (values-value (take (end - at) (drop at s)) (fieldsFrom s (end + 1)) (sym valued ∙ f)))
 
 -- The whole line.
 module _ (s : List ℕ) where
@@ -71,6 +77,8 @@ module _ (s : List ℕ) where
   values-fit h = rw (le-leb (length s) lineBytes h)
 
 -- Three fields that are values give these values, in their order.
-pub three-values : (f g h : List ℕ) {x y z p q r : ℕ} → fieldValue f ≡ Found x p → fieldValue g ≡ Found y q → fieldValue h ≡ Found z r → valuesFrom columnCount 0 (f ∷ g ∷ h ∷ []) noValues ≡ Valued (record { first = x; second = y; third = z })
+pub three-values : (f g h : List ℕ) {x y z p q r : ℕ} → fieldValue f ≡ Found x p → fieldValue g ≡ Found y q
+    → fieldValue h ≡ Found z r → valuesFrom columnCount 0 (f ∷ g ∷ h ∷ []) noValues ≡ Valued
+    (record { first = x; second = y; third = z })
 unfolding valuesFrom
 three-values f g h a b c = rw (a, b, c)

@@ -1,4 +1,5 @@
--- A line as fields. Document 01: "Commas part them; nothing else is allowed. A line has at most 80 bytes before its line feed."
+-- A line as fields. Document 01: "Commas part them; nothing else is allowed. A line has at most 80 bytes before its
+-- line feed."
 use Prim.Native.Nat.{ℕ, _+_}
 use mathlib.Core.List.{List, [], _∷_}
 use mathlib.Core.Bool.{Bool, true, false, cond, _&&_}

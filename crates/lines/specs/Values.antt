@@ -1,5 +1,5 @@
--- A values line. Document 01: "Values are decimal: 0 alone, or 1 to 5 digits not starting with 0. Commas part them; nothing else is
--- allowed."
+-- A values line. Document 01: "Values are decimal: 0 alone, or 1 to 5 digits not starting with 0. Commas part them;
+-- nothing else is allowed."
 use Prim.Native.Nat.{ℕ, _+_}
 use mathlib.Core.List.{List, [], _∷_}
 use mathlib.Core.Bool.{cond}
@@ -63,7 +63,8 @@ abbrev pub lineValues : ValuesLine → LineValues
 lineValues (Valued v) = record { number = 0; values = v }
 lineValues Bad = record { number = 8; values = noValues }
 
--- The value in a column: that of the first column of the name, and 0 where there is none. So a name that stands twice has a meaning.
+-- The value in a column: that of the first column of the name, and 0 where there is none. So a name that stands twice
+-- has a meaning.
 unfoldable pub valueOf : Columns → Values → Column → ℕ
 valueOf c v x =
     cond (sameColumn (c .first) x) (v .first)

@@ -23,24 +23,29 @@ unfolding textInto
 text-into text buffer room = rw (le-leb (length text) (length buffer) room)
 
 module _ (rows cols : ℕ) (dirs areas labels buffer : List ℕ) where
-  pub refused-sizes : sizesFit rows cols ≡ false → refused 1 buffer ≡ listingInto (grid rows cols dirs) areas labels buffer
+  pub refused-sizes : sizesFit rows cols ≡ false
+      → refused 1 buffer ≡ listingInto (grid rows cols dirs) areas labels buffer
   unfolding listingInto
   refused-sizes e = rw e
 
   module _ (sizes : sizesFit rows cols ≡ true) where
-    refused-places : placesFit (grid rows cols dirs) areas labels ≡ false → refused 3 buffer ≡ listingInto (grid rows cols dirs) areas labels buffer
+    refused-places : placesFit (grid rows cols dirs) areas labels ≡ false
+        → refused 3 buffer ≡ listingInto (grid rows cols dirs) areas labels buffer
     unfolding listingInto
     refused-places e = rw (sizes, e)
 
-    pub refused-dirs : length dirs < rows * cols → refused 3 buffer ≡ listingInto (grid rows cols dirs) areas labels buffer
+    pub refused-dirs : length dirs < rows * cols
+        → refused 3 buffer ≡ listingInto (grid rows cols dirs) areas labels buffer
     unfolding placesFit
     refused-dirs d = refused-places (rw (lt-leb _ _ d))
 
-    pub refused-areas : rows * cols ≤ length dirs → length areas < rows * cols → refused 3 buffer ≡ listingInto (grid rows cols dirs) areas labels buffer
+    pub refused-areas : rows * cols ≤ length dirs → length areas < rows * cols
+        → refused 3 buffer ≡ listingInto (grid rows cols dirs) areas labels buffer
     unfolding placesFit
     refused-areas d a = refused-places (rw (le-leb _ _ d, lt-leb _ _ a))
 
-    pub refused-labels : rows * cols ≤ length dirs → rows * cols ≤ length areas → length labels < rows * cols → refused 3 buffer ≡ listingInto (grid rows cols dirs) areas labels buffer
+    pub refused-labels : rows * cols ≤ length dirs → rows * cols ≤ length areas → length labels < rows * cols
+        → refused 3 buffer ≡ listingInto (grid rows cols dirs) areas labels buffer
     unfolding placesFit
     refused-labels d a l = refused-places (rw (le-leb _ _ d, le-leb _ _ a, lt-leb _ _ l))
 
@@ -56,25 +61,32 @@ module _ (rows cols : ℕ) (dirs areas labels buffer : List ℕ) where
       }
 
       -- all checks but that of the buffer are passed
-      pub listing-into : listingInto (grid rows cols dirs) areas labels buffer ≡ textInto (listingText (grid rows cols dirs) areas labels) buffer
+      pub listing-into : listingInto (grid rows cols dirs) areas labels buffer ≡ textInto
+          (listingText (grid rows cols dirs) areas labels) buffer
       unfolding listingInto placesFit
       listing-into = rw (sizes, le-leb _ _ d, le-leb _ _ a, le-leb _ _ l)
 
-      pub listing-accepted : length (listingText (grid rows cols dirs) areas labels) ≤ length buffer → listingInto (grid rows cols dirs) areas labels buffer ≡ accepted (listingText (grid rows cols dirs) areas labels) buffer
+      pub listing-accepted : length (listingText (grid rows cols dirs) areas labels) ≤ length buffer
+          → listingInto (grid rows cols dirs) areas labels buffer ≡ accepted
+          (listingText (grid rows cols dirs) areas labels) buffer
       listing-accepted room = listing-into ∙ text-into (listingText (grid rows cols dirs) areas labels) buffer room
 
 -- 39 bytes are enough for any refusal
-pub refusal-accepted : (number place : ℕ) (buffer : List ℕ) → number < 256 → place < 2 ^ 64 → 39 ≤ length buffer → refusalInto number place buffer ≡ accepted (refusalText number place) buffer
+pub refusal-accepted : (number place : ℕ) (buffer : List ℕ) → number < 256 → place < 2 ^ 64 → 39 ≤ length buffer
+    → refusalInto number place buffer ≡ accepted (refusalText number place) buffer
 unfolding refusalInto
-refusal-accepted number place buffer h g room = text-into (refusalText number place) buffer (omega (arith, refusal-most number place h g))
+refusal-accepted number place buffer h g room =
+    text-into (refusalText number place) buffer (omega (arith, refusal-most number place h g))
 
 -- the number of a cell on the sheet is small
-pub cell-small : {rows cols : ℕ} {dirs areas labels : List ℕ} {cell : ℕ} → Listable rows cols dirs areas labels → cell < rows * cols → cell < 65536
+pub cell-small : {rows cols : ℕ} {dirs areas labels : List ℕ} {cell : ℕ} → Listable rows cols dirs areas labels
+    → cell < rows * cols → cell < 65536
 cell-small s l = omega (arith, cells-most (s .rows-most) (s .cols-most))
 
 -- the text at the start of the buffer, and the bytes after it
 pub accepted-text : (text buffer : List ℕ) → take (length text) (accepted text buffer .buffer) ≡ text
 accepted-text text buffer = take-append-seam text (drop (length text) buffer)
 
-pub accepted-rest : (text buffer : List ℕ) → drop (length text) (accepted text buffer .buffer) ≡ drop (length text) buffer
+pub accepted-rest : (text buffer : List ℕ)
+    → drop (length text) (accepted text buffer .buffer) ≡ drop (length text) buffer
 accepted-rest text buffer = drop-append-seam text (drop (length text) buffer)

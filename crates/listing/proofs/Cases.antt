@@ -35,12 +35,14 @@ sampleLines =
     ∷ "2,3,1,93"
     ∷ [])
 
-pub sample-listing : listingText sampleA (0 ∷ 2 ∷ 1 ∷ 1 ∷ 11 ∷ 9 ∷ 4 ∷ 2 ∷ 1 ∷ 1 ∷ 1 ∷ 1 ∷ []) (0 ∷ 8 ∷ 8 ∷ 92 ∷ 1 ∷ 3 ∷ 91 ∷ 93 ∷ 2 ∷ 4 ∷ 6 ∷ 93 ∷ []) ≡ sampleLines
+pub sample-listing : listingText sampleA (0 ∷ 2 ∷ 1 ∷ 1 ∷ 11 ∷ 9 ∷ 4 ∷ 2 ∷ 1 ∷ 1 ∷ 1 ∷ 1 ∷ [])
+    (0 ∷ 8 ∷ 8 ∷ 92 ∷ 1 ∷ 3 ∷ 91 ∷ 93 ∷ 2 ∷ 4 ∷ 6 ∷ 93 ∷ []) ≡ sampleLines
 unfolding listingText
 sample-listing = refl
 
 -- from its areas and its labels at depth 2 as they are defined
-pub sample-defined : listingText sampleA (areasOf (record { grid = sampleA; depth = 2 })) (labelsOf (record { grid = sampleA; depth = 2 })) ≡ sampleLines
+pub sample-defined : listingText sampleA (areasOf (record { grid = sampleA; depth = 2 }))
+    (labelsOf (record { grid = sampleA; depth = 2 })) ≡ sampleLines
 unfolding listingText areasOf labelsOf
 sample-defined = refl
 
@@ -53,15 +55,18 @@ refusal-lines = refl
 abbrev oneCell : List ℕ
 oneCell = lines ("row,col,area,label" ∷ "0,0,1,0" ∷ [])
 
-pub room-to-spare : listingInto (grid 1 1 (1 ∷ [])) (1 ∷ []) (0 ∷ []) (replicate 29 46) ≡ record { answer = Bytes 27; buffer = oneCell ++ (46 ∷ 46 ∷ []) }
+pub room-to-spare : listingInto (grid 1 1 (1 ∷ [])) (1 ∷ []) (0 ∷ [])
+    (replicate 29 46) ≡ record { answer = Bytes 27; buffer = oneCell ++ (46 ∷ 46 ∷ []) }
 unfolding listingInto
 room-to-spare = refl
 
-pub just-room : listingInto (grid 1 1 (1 ∷ [])) (1 ∷ []) (0 ∷ []) (replicate 27 46) ≡ record { answer = Bytes 27; buffer = oneCell }
+pub just-room : listingInto (grid 1 1 (1 ∷ [])) (1 ∷ []) (0 ∷ [])
+    (replicate 27 46) ≡ record { answer = Bytes 27; buffer = oneCell }
 unfolding listingInto
 just-room = refl
 
-pub one-byte-short : listingInto (grid 1 1 (1 ∷ [])) (1 ∷ []) (0 ∷ []) (replicate 26 46) ≡ record { answer = Refused 3; buffer = replicate 26 46 }
+pub one-byte-short : listingInto (grid 1 1 (1 ∷ [])) (1 ∷ []) (0 ∷ [])
+    (replicate 26 46) ≡ record { answer = Refused 3; buffer = replicate 26 46 }
 unfolding listingInto
 one-byte-short = refl
 
@@ -74,7 +79,8 @@ pub no-label : listingValues (listingInto (grid 1 1 (1 ∷ [])) (1 ∷ []) [] (r
 unfolding listingInto
 no-label = refl
 
-pub refusal-in-buffer : refusalInto 14 1 (replicate 20 46) ≡ record { answer = Bytes 19; buffer = lines ("refused,place" ∷ "14,1" ∷ []) ++ (46 ∷ []) }
+pub refusal-in-buffer : refusalInto 14 1
+    (replicate 20 46) ≡ record { answer = Bytes 19; buffer = lines ("refused,place" ∷ "14,1" ∷ []) ++ (46 ∷ []) }
 unfolding refusalInto
 refusal-in-buffer = refl
 

@@ -41,7 +41,8 @@ label-64-bit label h = text-64-bit label h
 
 -- a refusal's text has at most 14 + 3 + 1 + 20 + 1 bytes
 pub refusal-most : (number place : ℕ) → number < 256 → place < 2 ^ 64 → length (refusalText number place) ≤ 39
-refusal-most number place h g = omega (arith, refusal-length number place, text-few 3 number (omega arith) (omega arith), text-64-bit place g)
+refusal-most number place h g =
+    omega (arith, refusal-length number place, text-few 3 number (omega arith) (omega arith), text-64-bit place g)
 
 some-cols : (rows cols c : ℕ) → c < rows * cols → 0 < cols
 some-cols rows zero c h = absurd (omega arith)
@@ -67,19 +68,24 @@ module _ (G : Grid) (areas labels : List ℕ) where
   lines-outside c e = rw (add-one, inside-no G c e, append-nil)
 
   -- an inside cell adds its line
-  pub lines-inside : (c : ℕ) → c < cells G → (dirAt G c ≡ 0 → ⊥) → linesBelow G areas labels (c + 1) ≡ linesBelow G areas labels c ++ lineOf G areas labels c
+  pub lines-inside : (c : ℕ) → c < cells G → (dirAt G c ≡ 0 → ⊥)
+      → linesBelow G areas labels (c + 1) ≡ linesBelow G areas labels c ++ lineOf G areas labels c
   unfolding linesBelow
   lines-inside c l ne = rw (add-one, inside-yes G c l ne)
 
-  pub lines-inside-length : (c : ℕ) → c < cells G → (dirAt G c ≡ 0 → ⊥) → length (linesBelow G areas labels (c + 1)) ≡ length (linesBelow G areas labels c) + length (lineOf G areas labels c)
-  lines-inside-length c l ne = rw (lines-inside c l ne) (length-append (linesBelow G areas labels c) (lineOf G areas labels c))
+  pub lines-inside-length : (c : ℕ) → c < cells G → (dirAt G c ≡ 0 → ⊥)
+      → length (linesBelow G areas labels (c + 1)) ≡ length (linesBelow G areas labels c) + length
+      (lineOf G areas labels c)
+  lines-inside-length c l ne =
+      rw (lines-inside c l ne) (length-append (linesBelow G areas labels c) (lineOf G areas labels c))
 
   -- the lines of more cells have no fewer bytes
   pub lines-grow : (c n : ℕ) → c ≤ n → length (linesBelow G areas labels c) ≤ length (linesBelow G areas labels n)
   unfolding linesBelow
   lines-grow c zero h = let e : c ≡ 0 = omega arith in rw e (omega arith)
   lines-grow c (suc n) h =
-      ⊎-elim (λ e. rw e (omega arith)) (λ lt. simp length-append (omega (arith, lines-grow c n (omega arith)))) (eq-or-lt-of-le h)
+      ⊎-elim (λ e. rw e (omega arith)) (λ lt. simp length-append (omega (arith, lines-grow c n (omega arith))))
+      (eq-or-lt-of-le h)
 
   module _ {a b : ℕ} (bounded : Bounded G areas labels a b) where
     -- three digits each for row and column, a and b for area and label, three commas and a line feed
@@ -113,7 +119,8 @@ module _ (G : Grid) (areas labels : List ℕ) where
 
 module _ (G : Grid) (areas labels : List ℕ) (rows-most : G .rows ≤ 256) (cols-most : G .cols ≤ 256) where
   -- areas of at most as many cells as a sheet has, and labels of at most 18 digits
-  pub listing-most-18-digits : ((c : ℕ) → c < cells G → getD areas c 0 ≤ 65536) → ((c : ℕ) → c < cells G → labelAt labels c < 10 ^ 18) → length (listingText G areas labels) ≤ 19 + cells G * 33
+  pub listing-most-18-digits : ((c : ℕ) → c < cells G → getD areas c 0 ≤ 65536)
+      → ((c : ℕ) → c < cells G → labelAt labels c < 10 ^ 18) → length (listingText G areas labels) ≤ 19 + cells G * 33
   listing-most-18-digits small short = listing-most G areas labels bounded
     where
       bounded : Bounded G areas labels 5 18
@@ -146,7 +153,9 @@ module _ (G : Grid) (areas labels : List ℕ) (rows-most : G .rows ≤ 256) (col
 
 -- ---- the text depends on the first areas and labels alone
 
-module _ (G : Grid) (areas labels areas′ labels′ : List ℕ) (same-areas : (c : ℕ) → c < cells G → getD areas c 0 ≡ getD areas′ c 0) (same-labels : (c : ℕ) → c < cells G → labelAt labels c ≡ labelAt labels′ c) where
+module _ (G : Grid) (areas labels areas′ labels′ : List ℕ)
+    (same-areas : (c : ℕ) → c < cells G → getD areas c 0 ≡ getD areas′ c 0)
+    (same-labels : (c : ℕ) → c < cells G → labelAt labels c ≡ labelAt labels′ c) where
   lines-same : (n : ℕ) → n ≤ cells G → linesBelow G areas labels n ≡ linesBelow G areas′ labels′ n
   unfolding linesBelow
   lines-same zero h = refl
@@ -157,7 +166,9 @@ module _ (G : Grid) (areas labels areas′ labels′ : List ℕ) (same-areas : (
   listing-same = ap (λ (s : List ℕ). listingHeading ++ s) (lines-same (cells G) (omega arith))
 
 -- what labelling leaves in longer slices is listed as the areas and labels themselves
-pub listing-written : (G : Grid) (areas labels areas′ labels′ : List ℕ) → length areas ≡ cells G → length labels ≡ cells G → listingText G (written areas areas′) (written labels labels′) ≡ listingText G areas labels
+pub listing-written : (G : Grid) (areas labels areas′ labels′ : List ℕ) → length areas ≡ cells G
+    → length labels ≡ cells G → listingText G (written areas areas′)
+    (written labels labels′) ≡ listingText G areas labels
 listing-written G areas labels areas′ labels′ na nl =
     listing-same G (written areas areas′) (written labels labels′) areas labels
     (λ c l. List·getD-append areas (drop (length areas) areas′) 0 c (omega arith))

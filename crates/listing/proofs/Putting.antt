@@ -33,21 +33,27 @@ module _ {a b : List ℕ} {at mid : ℕ} {s : List ℕ} (p : Put a b at mid s) w
   pub put-room : (t : List ℕ) → at + length (s ++ t) ≤ length a → mid + length t ≤ length b
   put-room t room = omega (arith, p .next-is, length-append s t, put-length (front-room at (length a) s t room))
 
-  pub put-then : {c : List ℕ} {next : ℕ} {t : List ℕ} → Put b c mid next t → at + length (s ++ t) ≤ length a → Put a c at next (s ++ t)
+  pub put-then : {c : List ℕ} {next : ℕ} {t : List ℕ} → Put b c mid next t → at + length (s ++ t) ≤ length a
+      → Put a c at next (s ++ t)
   put-then {c} {next} {t} q room = record {
     next-is = omega (arith, p .next-is, q .next-is, length-append s t);
-    after-is = q .after-is ∙ ap (λ (o : List ℕ). overwrite o mid t) (p .after-is) ∙ ap (λ (k : ℕ). overwrite (overwrite a at s) k t) (p .next-is) ∙ overwrite-then a at s t (omega (arith, length-append s t));
+    after-is =
+        q .after-is ∙ ap (λ (o : List ℕ). overwrite o mid t) (p .after-is) ∙ ap
+        (λ (k : ℕ). overwrite (overwrite a at s) k t) (p .next-is) ∙ overwrite-then a at s t
+        (omega (arith, length-append s t));
   }
 
 pub put-nothing : (buffer : List ℕ) (at : ℕ) → Put buffer buffer at at []
 unfolding overwrite
-put-nothing buffer at = record { next-is = sym (add-zero at); after-is = sym (rw add-zero (take-append-drop at buffer)) }
+put-nothing buffer at =
+    record { next-is = sym (add-zero at); after-is = sym (rw add-zero (take-append-drop at buffer)) }
 
 put-one : (buffer : List ℕ) (at b : ℕ) → at < length buffer → Put buffer (set buffer at b) at (at + 1) (b ∷ [])
 put-one buffer at b room = record { next-is = refl; after-is = overwrite-one buffer at b room }
 
 -- a text that was copied byte by byte
-pub put-copied : (text a : List ℕ) {b : List ℕ} {at i : ℕ} → b ≡ paste a at text i → i ≡ length text → Put a b at (at + i) text
+pub put-copied : (text a : List ℕ) {b : List ℕ} {at i : ℕ} → b ≡ paste a at text i → i ≡ length text
+    → Put a b at (at + i) text
 unfolding overwrite
 put-copied text a {b} {at} {i} e whole = record {
   next-is = ap (λ (k : ℕ). at + k) whole;
@@ -56,8 +62,10 @@ put-copied text a {b} {at} {i} e whole = record {
 
 -- ---- a number that fits is written whole
 
-module _ (text buffer : List ℕ) (at : ℕ) {answer : Written} {after : List ℕ} (room : at + length text ≤ length buffer) (wrote : record { answer = answer; buffer = after } ≡ writeText text buffer at) where
-  wrote-is : _≡_ {A = Writing} (record { answer = answer; buffer = after }) (record { answer = End (at + length text); buffer = overwrite buffer at text })
+module _ (text buffer : List ℕ) (at : ℕ) {answer : Written} {after : List ℕ} (room : at + length text ≤ length buffer)
+    (wrote : record { answer = answer; buffer = after } ≡ writeText text buffer at) where
+  wrote-is : _≡_ {A = Writing} (record { answer = answer; buffer = after })
+      (record { answer = End (at + length text); buffer = overwrite buffer at text })
   unfolding writeText
   wrote-is = wrote ∙ rw (le-leb (at + length text) (length buffer) room)
 
@@ -65,7 +73,8 @@ module _ (text buffer : List ℕ) (at : ℕ) {answer : Written} {after : List �
   wrote-answer = ap (λ (w : Writing). w .answer) wrote-is
 
   pub wrote-put : {end : ℕ} → answer ≡ End end → Put buffer after at end text
-  wrote-put {end} e = let f = wrote-answer in record { next-is = cc; after-is = ap (λ (w : Writing). w .buffer) wrote-is }
+  wrote-put {end} e =
+      let f = wrote-answer in record { next-is = cc; after-is = ap (λ (w : Writing). w .buffer) wrote-is }
 
 -- a text, and the byte after it
 pub put-field : (text : List ℕ) (after : ℕ) {a b : List ℕ} {at end : ℕ} → at + length text < length a
@@ -83,7 +92,8 @@ field-end text after p = omega (arith, p .next-is, field-length text after)
 -- ---- a text at the start of a buffer
 
 module _ (text buffer : List ℕ) where
-  pub put-whole : {after : List ℕ} {next : ℕ} → length text ≤ length buffer → Put buffer after 0 next text → record { answer = Bytes next; buffer = after } ≡ textInto text buffer
+  pub put-whole : {after : List ℕ} {next : ℕ} → length text ≤ length buffer → Put buffer after 0 next text
+      → record { answer = Bytes next; buffer = after } ≡ textInto text buffer
   unfolding textInto overwrite
   put-whole room p = rw (le-leb (length text) (length buffer) room, p .next-is, p .after-is, zero-add)
 
@@ -100,10 +110,13 @@ promises e = (e, ap (λ (x : Listed). listingValues (x .answer)) e)
 
 module _ (G : Grid) (areas labels : List ℕ) (cell : ℕ) where
   -- an outside cell has no line
-  pub put-outside : {a b : List ℕ} {at next : ℕ} → dirAt G cell ≡ 0 → Put a b at next (linesBelow G areas labels cell) → Put a b at next (linesBelow G areas labels (cell + 1))
+  pub put-outside : {a b : List ℕ} {at next : ℕ} → dirAt G cell ≡ 0 → Put a b at next (linesBelow G areas labels cell)
+      → Put a b at next (linesBelow G areas labels (cell + 1))
   put-outside e p = rw (lines-outside G areas labels cell e) p
 
-  module _ {a b : List ℕ} {at mid : ℕ} (on : cell < cells G) (inside : dirAt G cell ≡ 0 → ⊥) (room : at + length (linesBelow G areas labels (cell + 1)) ≤ length a) (p : Put a b at mid (linesBelow G areas labels cell)) where
+  module _ {a b : List ℕ} {at mid : ℕ} (on : cell < cells G) (inside : dirAt G cell ≡ 0 → ⊥)
+      (room : at + length (linesBelow G areas labels (cell + 1)) ≤ length a)
+      (p : Put a b at mid (linesBelow G areas labels cell)) where
     lines-room : at + length (linesBelow G areas labels cell ++ lineOf G areas labels cell) ≤ length a
     lines-room = rw (lines-inside G areas labels cell on inside) at room
 
@@ -111,5 +124,6 @@ module _ (G : Grid) (areas labels : List ℕ) (cell : ℕ) where
     pub line-room : mid + length (lineOf G areas labels cell) ≤ length b
     line-room = put-room p (lineOf G areas labels cell) lines-room
 
-    pub put-inside : {c : List ℕ} {next : ℕ} → Put b c mid next (lineOf G areas labels cell) → Put a c at next (linesBelow G areas labels (cell + 1))
+    pub put-inside : {c : List ℕ} {next : ℕ} → Put b c mid next (lineOf G areas labels cell)
+        → Put a c at next (linesBelow G areas labels (cell + 1))
     put-inside q = rw (lines-inside G areas labels cell on inside) (put-then p q lines-room)

@@ -40,7 +40,8 @@ fn cell_length(row: usize, col: usize, area: u32, label: u64) -> usize
 // The bytes of the lines of all inside cells.
 fn lines_length(rows: usize, cols: usize, dirs: &[u8], areas: &[u32], labels: &[u64]) -> usize
     requires { ⌜ Listable rows cols (now dirs) (now areas) (now labels) ⌝ }
-    ensures { λ r. ⌜ r ≡ length (linesBelow (grid rows cols (now (dirs .entry))) (now (areas .entry)) (now (labels .entry)) (rows * cols)) ⌝ }
+    ensures { λ r. ⌜ r ≡ length (linesBelow (grid rows cols (now (dirs .entry))) (now (areas .entry))
+        (now (labels .entry)) (rows * cols)) ⌝ }
 {
     let n = rows * cols;
     let mut count = 0;
@@ -107,8 +108,11 @@ fn put_lines(
     out: &mut [u8],
     at: usize,
 ) -> usize
-    requires { ⌜ Listable rows cols (now dirs) (now areas) (now labels) × (at + length (linesBelow (grid rows cols (now dirs)) (now areas) (now labels) (rows * cols)) ≤ length (now out)) ⌝ }
-    ensures { λ r. ⌜ Put (now (out .entry)) (now (out .exit)) at r (linesBelow (grid rows cols (now (dirs .entry))) (now (areas .entry)) (now (labels .entry)) (rows * cols)) ⌝ }
+    requires { ⌜ Listable rows cols (now dirs) (now areas) (now labels)
+        × (at + length (linesBelow (grid rows cols (now dirs)) (now areas) (now labels) (rows * cols)) ≤ length
+        (now out)) ⌝ }
+    ensures { λ r. ⌜ Put (now (out .entry)) (now (out .exit)) at r
+        (linesBelow (grid rows cols (now (dirs .entry))) (now (areas .entry)) (now (labels .entry)) (rows * cols)) ⌝ }
 {
     let n = rows * cols;
     let mut next = at;
@@ -138,8 +142,12 @@ pub fn write_listing(
     labels: &[u64],
     out: &mut [u8],
 ) -> Listing
-    ensures listing { λ r. ⌜ record { answer = r; buffer = now (out .exit) } ≡ listingInto (grid rows cols (now (dirs .entry))) (now (areas .entry)) (now (labels .entry)) (now (out .entry)) ⌝ }
-    ensures values { λ r. ⌜ listingValues r ≡ listingValues (listingInto (grid rows cols (now (dirs .entry))) (now (areas .entry)) (now (labels .entry)) (now (out .entry)) .answer) ⌝ }
+    ensures listing { λ r. ⌜ record { answer = r; buffer = now (out .exit) }
+        ≡ listingInto (grid rows cols (now (dirs .entry))) (now (areas .entry)) (now (labels .entry))
+        (now (out .entry)) ⌝ }
+    ensures values { λ r. ⌜ listingValues r
+        ≡ listingValues (listingInto (grid rows cols (now (dirs .entry))) (now (areas .entry)) (now (labels .entry))
+        (now (out .entry)) .answer) ⌝ }
 {
     if sizes_fit(rows, cols) {
         let n = rows * cols;
@@ -166,7 +174,8 @@ pub fn write_listing(
 
 // Writes the two lines after a refusal to the start of a buffer.
 pub fn write_refusal(number: u8, place: usize, out: &mut [u8]) -> Listing
-    ensures refusal { λ r. ⌜ record { answer = r; buffer = now (out .exit) } ≡ refusalInto number place (now (out .entry)) ⌝ }
+    ensures refusal { λ r. ⌜ record { answer = r; buffer = now (out .exit) }
+        ≡ refusalInto number place (now (out .entry)) ⌝ }
     ensures values { λ r. ⌜ listingValues r ≡ listingValues (refusalInto number place (now (out .entry)) .answer) ⌝ }
 {
     let heading = b"refused,place\n";

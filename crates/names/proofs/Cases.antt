@@ -6,15 +6,18 @@ use Rattle.names.specs.declared.NamesLine.the-variants.{Columns as Named
 use Rattle.names.specs.Columns.{sizeColumns, cellColumns}
 use Rattle.names.specs.Names.{namesLine}
 
-pub size-names : namesLine sizeColumns (ascii "rows,cols,depth") ≡ Named (record { first = Rows; second = Cols; third = Depth })
+pub size-names : namesLine sizeColumns (ascii "rows,cols,depth") ≡ Named
+    (record { first = Rows; second = Cols; third = Depth })
 unfolding namesLine
 size-names = refl
 
-pub size-names-turned : namesLine sizeColumns (ascii "depth,rows,cols") ≡ Named (record { first = Depth; second = Rows; third = Cols })
+pub size-names-turned : namesLine sizeColumns (ascii "depth,rows,cols") ≡ Named
+    (record { first = Depth; second = Rows; third = Cols })
 unfolding namesLine
 size-names-turned = refl
 
-pub size-names-back : namesLine sizeColumns (ascii "depth,cols,rows") ≡ Named (record { first = Depth; second = Cols; third = Rows })
+pub size-names-back : namesLine sizeColumns (ascii "depth,cols,rows") ≡ Named
+    (record { first = Depth; second = Cols; third = Rows })
 unfolding namesLine
 size-names-back = refl
 
@@ -22,7 +25,8 @@ pub cell-names : namesLine cellColumns (ascii "row,col,dir") ≡ Named (record {
 unfolding namesLine
 cell-names = refl
 
-pub cell-names-turned : namesLine cellColumns (ascii "dir,row,col") ≡ Named (record { first = Dir; second = Row; third = Col })
+pub cell-names-turned : namesLine cellColumns (ascii "dir,row,col") ≡ Named
+    (record { first = Dir; second = Row; third = Col })
 unfolding namesLine
 cell-names-turned = refl
 

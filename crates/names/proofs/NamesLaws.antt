@@ -20,11 +20,13 @@ use Rattle.lines.proofs.FieldLaws.{fieldsFrom, fields-at, fields-past}
 -- Column by column.
 module _ (place : ℕ) (c : Columns) where
   -- past the end of the line
-  pub names-at-done : (s : List ℕ) {at : ℕ} → length s < at → place ≤ columnCount → namesFrom place (fieldsFrom s at) c ≡ Named c
+  pub names-at-done : (s : List ℕ) {at : ℕ} → length s < at → place ≤ columnCount
+      → namesFrom place (fieldsFrom s at) c ≡ Named c
   unfolding namesFrom
   names-at-done s h e = rw (fields-past s _ h, le-leb place columnCount e)
 
-  pub names-at-over : (s : List ℕ) {at : ℕ} → length s < at → columnCount < place → namesFrom place (fieldsFrom s at) c ≡ Bad
+  pub names-at-over : (s : List ℕ) {at : ℕ} → length s < at → columnCount < place
+      → namesFrom place (fieldsFrom s at) c ≡ Bad
   unfolding namesFrom
   names-at-over s h n = rw (fields-past s _ h, lt-leb place columnCount n)
 
@@ -33,19 +35,22 @@ module _ (place : ℕ) (c : Columns) where
     unfolding namesFrom
     names-other e = rw e
 
-    pub names-column : sameColumn (columnNamed f) Absent ≡ false → namesFrom place (f ∷ fs) c ≡ namesFrom (place + 1) fs (withColumn c place (columnNamed f))
+    pub names-column : sameColumn (columnNamed f) Absent ≡ false
+        → namesFrom place (f ∷ fs) c ≡ namesFrom (place + 1) fs (withColumn c place (columnNamed f))
     unfolding namesFrom
     names-column e = rw e
 
   -- A reader at the position `at` of the line s finds the end of the field there and the column that it names.
-  module _ (s : List ℕ) {at end : ℕ} {column : Column} (within : at ≤ length s) (e : end ≡ fieldEnd s at) (named : column ≡ columnNamed (take (end - at) (drop at s))) where
+  module _ (s : List ℕ) {at end : ℕ} {column : Column} (within : at ≤ length s) (e : end ≡ fieldEnd s at)
+      (named : column ≡ columnNamed (take (end - at) (drop at s))) where
     here : fieldsFrom s at ≡ take (end - at) (drop at s) ∷ fieldsFrom s (end + 1)
     here = rw e (fields-at s at within)
 
     pub names-at-other : sameColumn column Absent ≡ true → namesFrom place (fieldsFrom s at) c ≡ Bad
     names-at-other a = rw here (names-other (take (end - at) (drop at s)) (fieldsFrom s (end + 1)) (rw named at a))
 
-    pub names-at-column : {next : Columns} → sameColumn column Absent ≡ false → next ≡ withColumn c place column → namesFrom (place + 1) (fieldsFrom s (end + 1)) next ≡ namesFrom place (fieldsFrom s at) c
+    pub names-at-column : {next : Columns} → sameColumn column Absent ≡ false → next ≡ withColumn c place column
+        → namesFrom (place + 1) (fieldsFrom s (end + 1)) next ≡ namesFrom place (fieldsFrom s at) c
     names-at-column a w =
         rw (w, named, here) (sym (names-column (take (end - at) (drop at s)) (fieldsFrom s (end + 1)) (rw named at a)))
 
@@ -60,25 +65,32 @@ module _ (expected : Columns) (s : List ℕ) where
     unfolding namesLine
     names-bad e = rw (le-leb (length s) lineBytes fits, e)
 
-    pub names-expected : {c : Columns} → namesFrom 0 (fields s) noColumns ≡ Named c → sameColumns expected c ≡ true → namesLine expected s ≡ Named c
+    pub names-expected : {c : Columns} → namesFrom 0 (fields s) noColumns ≡ Named c → sameColumns expected c ≡ true
+        → namesLine expected s ≡ Named c
     unfolding namesLine
     names-expected e t = rw (le-leb (length s) lineBytes fits, e, t)
 
-    pub names-unexpected : {c : Columns} → namesFrom 0 (fields s) noColumns ≡ Named c → sameColumns expected c ≡ false → namesLine expected s ≡ Bad
+    pub names-unexpected : {c : Columns} → namesFrom 0 (fields s) noColumns ≡ Named c → sameColumns expected c ≡ false
+        → namesLine expected s ≡ Bad
     unfolding namesLine
     names-unexpected e t = rw (le-leb (length s) lineBytes fits, e, t)
 
 -- Three fields that name columns give these columns, in their order.
-pub three-names : (f g h : List ℕ) → sameColumn (columnNamed f) Absent ≡ false → sameColumn (columnNamed g) Absent ≡ false → sameColumn (columnNamed h) Absent ≡ false → namesFrom 0 (f ∷ g ∷ h ∷ []) noColumns ≡ Named (record { first = columnNamed f; second = columnNamed g; third = columnNamed h })
+pub three-names : (f g h : List ℕ) → sameColumn (columnNamed f) Absent ≡ false
+    → sameColumn (columnNamed g) Absent ≡ false → sameColumn (columnNamed h) Absent ≡ false → namesFrom 0
+    (f ∷ g ∷ h ∷ []) noColumns ≡ Named (record { first = columnNamed f; second = columnNamed g; third = columnNamed h })
 unfolding namesFrom
 three-names f g h a b c = rw (a, b, c)
 
--- An accepted line has each expected column as often as it is expected; so each size, and each part of a cell, exactly once.
-names-good : (expected : Columns) (s : List ℕ) {c : Columns} → namesLine expected s ≡ Named c → sameColumns expected c ≡ true
+-- An accepted line has each expected column as often as it is expected; so each size, and each part of a cell, exactly
+-- once.
+names-good : (expected : Columns) (s : List ℕ) {c : Columns} → namesLine expected s ≡ Named c
+    → sameColumns expected c ≡ true
 unfolding namesLine
 names-good expected s {c} e = go (fitsLine s) (namesFrom 0 (fields s) noColumns) e
   where
-    good : (d : Columns) (t : Bool) → sameColumns expected d ≡ t → cond t (Named d) Bad ≡ Named c → sameColumns expected c ≡ true
+    good : (d : Columns) (t : Bool) → sameColumns expected d ≡ t → cond t (Named d) Bad ≡ Named c
+        → sameColumns expected c ≡ true
     good d true g e = let d-is : d ≡ c = cc in ap (sameColumns expected) (sym d-is) ∙ g
     good d false g e = let z : _≡_ {A = ℕ} 0 1 = cc in absurd (omega arith)
 
@@ -87,18 +99,25 @@ names-good expected s {c} e = go (fitsLine s) (namesFrom 0 (fields s) noColumns)
     go true Bad e = let z : _≡_ {A = ℕ} 0 1 = cc in absurd (omega arith)
     go false l e = let z : _≡_ {A = ℕ} 0 1 = cc in absurd (omega arith)
 
-same-count : (expected c : Columns) → sameColumns expected c ≡ true → (countColumn c (expected .first) ≡ countColumn expected (expected .first)) × (countColumn c (expected .second) ≡ countColumn expected (expected .second)) × (countColumn c (expected .third) ≡ countColumn expected (expected .third))
+same-count : (expected c : Columns) → sameColumns expected c ≡ true
+    → (countColumn c (expected .first) ≡ countColumn expected (expected .first)) ×
+    (countColumn c (expected .second) ≡ countColumn expected (expected .second)) ×
+    (countColumn c (expected .third) ≡ countColumn expected (expected .third))
 unfolding sameColumns asOften
 same-count expected c e =
-    let all = and-eq-true-iff (asOften expected c (expected .first)) (asOften expected c (expected .second) && asOften expected c (expected .third)) .0 e in
-    let rest = and-eq-true-iff (asOften expected c (expected .second)) (asOften expected c (expected .third)) .0 (all .1) in
+    let all = and-eq-true-iff (asOften expected c (expected .first))
+    (asOften expected c (expected .second) && asOften expected c (expected .third)) .0 e in
+    let rest = and-eq-true-iff (asOften expected c (expected .second)) (asOften expected c (expected .third)) .0
+    (all .1) in
     (eqb-true _ _ (all .0), eqb-true _ _ (rest .0), eqb-true _ _ (rest .1))
 
 module _ (s : List ℕ) {c : Columns} where
-  pub size-names-once : namesLine sizeColumns s ≡ Named c → (countColumn c Rows ≡ 1) × (countColumn c Cols ≡ 1) × (countColumn c Depth ≡ 1)
+  pub size-names-once : namesLine sizeColumns s ≡ Named c
+      → (countColumn c Rows ≡ 1) × (countColumn c Cols ≡ 1) × (countColumn c Depth ≡ 1)
   unfolding countColumn sameColumn
   size-names-once e = same-count sizeColumns c (names-good sizeColumns s e)
 
-  pub cell-names-once : namesLine cellColumns s ≡ Named c → (countColumn c Row ≡ 1) × (countColumn c Col ≡ 1) × (countColumn c Dir ≡ 1)
+  pub cell-names-once : namesLine cellColumns s ≡ Named c
+      → (countColumn c Row ≡ 1) × (countColumn c Col ≡ 1) × (countColumn c Dir ≡ 1)
   unfolding countColumn sameColumn
   cell-names-once e = same-count cellColumns c (names-good cellColumns s e)

@@ -20,7 +20,8 @@ use Rattle.names.specs.Names.{namesFrom, namesLine}
 use Rattle.names.proofs.NamesLaws.{names-other, names-column}
 
 -- A byte b that stands in no name and is no comma.
-without : (b : ℕ) (s t : List ℕ) → contains b (s ++ (comma ∷ t)) ≡ false → (contains b s ≡ false) × (contains b t ≡ false)
+without : (b : ℕ) (s t : List ℕ) → contains b (s ++ (comma ∷ t)) ≡ false
+    → (contains b s ≡ false) × (contains b t ≡ false)
 unfolding contains
 without b [] t e = (refl, or-eq-false-eq-eq-false-and-eq-false (eqb comma b) (contains b t) .0 e .1)
 without b (x ∷ s) t e =
@@ -53,22 +54,31 @@ module _ (b : ℕ) (f : List ℕ) (h : contains b f ≡ true) where
       ∙ other-name _ _ _ (col .1)
 
 module _ (b : ℕ) (n : contains b (ascii "rows,cols,depth,row,col,dir") ≡ false) where
-  names-from-other : (place : ℕ) (fs : List (List ℕ)) (c : Columns) → containsAny b fs ≡ true → namesFrom place fs c ≡ BadNames
+  names-from-other : (place : ℕ) (fs : List (List ℕ)) (c : Columns) → containsAny b fs ≡ true
+      → namesFrom place fs c ≡ BadNames
   unfolding containsAny sameColumn
   names-from-other place [] c h = absurd (false≢true h)
-  names-from-other place (f ∷ fs) c h = go (contains b f) refl h (names-from-other (place + 1) fs (withColumn c place (columnNamed f)))
+  names-from-other place (f ∷ fs) c h =
+      go (contains b f) refl h (names-from-other (place + 1) fs (withColumn c place (columnNamed f)))
     where
-      known : (t : Bool) → sameColumn (columnNamed f) Absent ≡ t → namesFrom (place + 1) fs (withColumn c place (columnNamed f)) ≡ BadNames → namesFrom place (f ∷ fs) c ≡ BadNames
+      known : (t : Bool) → sameColumn (columnNamed f) Absent ≡ t
+          → namesFrom (place + 1) fs (withColumn c place (columnNamed f)) ≡ BadNames → namesFrom place
+          (f ∷ fs) c ≡ BadNames
       known true e ih = names-other place c f fs e
       known false e ih = names-column place c f fs e ∙ ih
 
-      go : (t : Bool) → contains b f ≡ t → (t || containsAny b fs) ≡ true → (containsAny b fs ≡ true → namesFrom (place + 1) fs (withColumn c place (columnNamed f)) ≡ BadNames) → namesFrom place (f ∷ fs) c ≡ BadNames
+      go : (t : Bool) → contains b f ≡ t → (t || containsAny b fs) ≡ true
+          → (containsAny b fs ≡ true → namesFrom (place + 1) fs (withColumn c place (columnNamed f)) ≡ BadNames)
+          → namesFrom place (f ∷ fs) c ≡ BadNames
       go true e h ih = names-other place c f fs (ap (λ (x : Column). sameColumn x Absent) (names-nothing b f e n))
       go false e h ih = known (sameColumn (columnNamed f) Absent) refl (ih h)
 
-  pub names-other-byte : (expected : Columns) (s : List ℕ) (i : ℕ) → i < length s → getD s i 0 ≡ b → namesLine expected s ≡ BadNames
+  pub names-other-byte : (expected : Columns) (s : List ℕ) (i : ℕ) → i < length s → getD s i 0 ≡ b
+      → namesLine expected s ≡ BadNames
   unfolding namesLine contains
-  names-other-byte expected s i h e = rw (names-from-other 0 (fields s) noColumns (sym (fields-contain b s no-comma) ∙ contains-at b s i h e)) (either (fitsLine s))
+  names-other-byte expected s i h e =
+      rw (names-from-other 0 (fields s) noColumns (sym (fields-contain b s no-comma) ∙ contains-at b s i h e))
+      (either (fitsLine s))
     where
       either : (t : Bool) → cond t BadNames BadNames ≡ BadNames
       either true = refl
@@ -78,6 +88,7 @@ module _ (b : ℕ) (n : contains b (ascii "rows,cols,depth,row,col,dir") ≡ fal
       no-comma e = false≢true (sym n ∙ ap (λ (x : ℕ). contains x (ascii "rows,cols,depth,row,col,dir")) e)
 
 -- A line feed.
-pub names-line-feed : (expected : Columns) (s : List ℕ) (i : ℕ) → i < length s → getD s i 0 ≡ lineFeed → namesLine expected s ≡ BadNames
+pub names-line-feed : (expected : Columns) (s : List ℕ) (i : ℕ) → i < length s → getD s i 0 ≡ lineFeed
+    → namesLine expected s ≡ BadNames
 unfolding contains
 names-line-feed = names-other-byte lineFeed refl

@@ -50,10 +50,13 @@ unfoldable pub asOften : Columns → Columns → Column → Bool
 unfolding countColumn
 asOften expected c x = eqb (countColumn c x) (countColumn expected x)
 
--- The columns are the expected ones, in any order. Where each is expected once, as below, each stands there exactly once.
+-- The columns are the expected ones, in any order. Where each is expected once, as below, each stands there exactly
+-- once.
 unfoldable pub sameColumns : Columns → Columns → Bool
 unfolding asOften
-sameColumns expected c = asOften expected c (expected .first) && (asOften expected c (expected .second) && asOften expected c (expected .third))
+sameColumns expected c =
+    asOften expected c (expected .first) &&
+    (asOften expected c (expected .second) && asOften expected c (expected .third))
 
 -- the columns that a names line is to have before the sizes, and before the cells
 abbrev pub sizeColumns : Columns

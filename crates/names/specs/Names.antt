@@ -12,7 +12,8 @@ use Rattle.lines.specs.Fields.{fitsLine, fields}
 use Rattle.lines.specs.Columns.{columnCount, sameColumn}
 use Rattle.names.specs.Columns.{columnIf, columnNamed, noColumns, withColumn, sameColumns}
 
--- The columns that fields name, read column by column from a place on: each field has to name a column, and there is a place for each.
+-- The columns that fields name, read column by column from a place on: each field has to name a column, and there is a
+-- place for each.
 unfoldable pub namesFrom : ℕ → List (List ℕ) → Columns → NamesLine
 unfolding columnNamed columnIf sameColumn withColumn
 namesFrom place [] c = cond (leb place columnCount) (Named c) Bad
@@ -25,8 +26,8 @@ abbrev pub ifExpected : Columns → NamesLine → NamesLine
 ifExpected expected (Named c) = cond (sameColumns expected c) (Named c) Bad
 ifExpected expected Bad = Bad
 
--- A line of the expected names in any order, each as often as it is expected, and nothing else. It gives the columns in the order of
--- the line.
+-- A line of the expected names in any order, each as often as it is expected, and nothing else. It gives the columns in
+-- the order of the line.
 unfoldable pub namesLine : Columns → List ℕ → NamesLine
 unfolding fitsLine fields namesFrom sameColumns
 namesLine expected s = cond (fitsLine s) (ifExpected expected (namesFrom 0 (fields s) noColumns)) Bad

@@ -19,7 +19,8 @@ use Rattle.order.proofs.Layouts.{Filled, stands, layout, layout-of}
 use Rattle.order.proofs.Sizes.{outlet-size}
 use Rattle.order.proofs.Queued.{whole, queue-inside, queue-most, place-of, queue-kept, preorder}
 
-module _ {G : Grid} {areas work now later : List ℕ} {queued : ℕ} (W : Surveyed G areas work queued) (same : length now ≡ length work) (P : Placed G areas work now queued queued)
+module _ {G : Grid} {areas work now later : List ℕ} {queued : ℕ} (W : Surveyed G areas work queued)
+    (same : length now ≡ length work) (P : Placed G areas work now queued queued)
     (same′ : length later ≡ length now) (E : Entered (cells G) now later queued) where
   abbrev n : ℕ
   n = cells G
@@ -39,7 +40,8 @@ module _ {G : Grid} {areas work now later : List ℕ} {queued : ℕ} (W : Survey
       let b = rw (q .2) at (P .within (q .0) (q .1)) in
       omega (arith, b, some (whole W 0 0) (preorder W same P 0 0) c i)
 
-  filled : Filled (λ c. inside G c ≡ true) (outlet G) (size G) (positionAt n now) (cellsIn n later queued) (sizesIn n later queued)
+  filled : Filled (λ c. inside G c ≡ true) (outlet G) (size G) (positionAt n now) (cellsIn n later queued)
+      (sizesIn n later queued)
   filled = record {
     first = P .first;
     long = part-length cellsPart (omega arith) ∙ sym (outlet-size (W .drained) (W .single));
@@ -51,7 +53,8 @@ module _ {G : Grid} {areas work now later : List ℕ} {queued : ℕ} (W : Survey
     size-is = λ c i.
         let q = place-of W c i in
         let e : queuedAt now (q .0) ≡ c = queue-kept W same P (q .0) (q .1) ∙ q .2 in
-        part-at orderedSizesPart (positionAt n now c) (below c i) ∙ (rw e at (E .size-is (q .0) (q .1))) ∙ P .kept (sizesPart * n + c) (λ u h e. omega (arith, inside-lt G c i)) ∙ W .size-is c (inside-lt G c i);
+        part-at orderedSizesPart (positionAt n now c) (below c i) ∙ (rw e at (E .size-is (q .0) (q .1))) ∙ P .kept
+        (sizesPart * n + c) (λ u h e. omega (arith, inside-lt G c i)) ∙ W .size-is c (inside-lt G c i);
   }
 
   pub arranged : Arranged G areas later queued
@@ -63,8 +66,12 @@ module _ {G : Grid} {areas work now later : List ℕ} {queued : ℕ} (W : Survey
       record {
         some = omega (arith, below (outlet G) i);
         long = part-length cellsPart (omega arith);
-        layout = layout B (preorder W same P 0 0) F (cells-most (W .measured .sized .rows-most) (W .measured .sized .cols-most));
-        layout-of = λ least split. layout-of (whole W least split) (preorder W same P least split) F areas least (λ c j. sym (getD-take n areas c 0 (inside-lt G c j))) (λ c j. refl);
+        layout =
+            layout B (preorder W same P 0 0) F
+            (cells-most (W .measured .sized .rows-most) (W .measured .sized .cols-most));
+        layout-of =
+            λ least split. layout-of (whole W least split) (preorder W same P least split) F areas least
+            (λ c j. sym (getD-take n areas c 0 (inside-lt G c j))) (λ c j. refl);
         outlet-first = rw (P .first) at (F .cell-is (outlet G) i);
         whole = (rw (P .first) at (F .size-is (outlet G) i)) ∙ outlet-size (W .drained) (W .single);
       }

@@ -21,9 +21,11 @@ step-cases {P} i f p j l = go (eqb j i) refl
     go false t = let d : j ≡ i → ⊥ = eqb-false j i t in f j (omega arith)
 
 pub entered-none : {n : ℕ} {work : List ℕ} → Entered n work work 0
-entered-none = record { kept = λ j c d. refl; cell-is = λ j l. absurd (omega arith); size-is = λ j l. absurd (omega arith) }
+entered-none =
+    record { kept = λ j c d. refl; cell-is = λ j l. absurd (omega arith); size-is = λ j l. absurd (omega arith) }
 
-module _ {n queued : ℕ} {work₀ work : List ℕ} (A : Apart n work₀ queued) (same : length work ≡ length work₀) {i : ℕ} (E : Entered n work₀ work i) (l : i < queued) where
+module _ {n queued : ℕ} {work₀ work : List ℕ} (A : Apart n work₀ queued) (same : length work ≡ length work₀) {i : ℕ}
+    (E : Entered n work₀ work i) (l : i < queued) where
   abbrev cell : ℕ
   cell = queuedAt work₀ i
 
@@ -35,10 +37,14 @@ module _ {n queued : ℕ} {work₀ work : List ℕ} (A : Apart n work₀ queued)
   cell-kept = E .kept i (λ k h e. omega (arith, A .most)) (λ k h e. omega (arith, A .most))
 
   pub at-kept : positionAt n work (queuedAt work i) ≡ at
-  at-kept = rw cell-kept (E .kept (positionsPart * n + cell) (λ k h e. omega (arith, A .on i l)) (λ k h e. omega (arith, A .on i l)))
+  at-kept =
+      rw cell-kept
+      (E .kept (positionsPart * n + cell) (λ k h e. omega (arith, A .on i l)) (λ k h e. omega (arith, A .on i l)))
 
   pub size-kept : sizeAt n work (queuedAt work i) ≡ sizeAt n work₀ cell
-  size-kept = rw cell-kept (E .kept (sizesPart * n + cell) (λ k h e. omega (arith, A .on i l)) (λ k h e. omega (arith, A .on i l)))
+  size-kept =
+      rw cell-kept
+      (E .kept (sizesPart * n + cell) (λ k h e. omega (arith, A .on i l)) (λ k h e. omega (arith, A .on i l)))
 
   abbrev after : List ℕ
   after = set (set work (cellsPart * n + at) cell) (orderedSizesPart * n + at) (sizeAt n work₀ cell)
@@ -48,8 +54,11 @@ module _ {n queued : ℕ} {work₀ work : List ℕ} (A : Apart n work₀ queued)
   entered-is = rw (at-kept, size-kept, cell-kept)
 
   -- a place that is none of the two
-  elsewhere : (j : ℕ) → (j ≡ cellsPart * n + at → ⊥) → (j ≡ orderedSizesPart * n + at → ⊥) → getD after j 0 ≡ getD work j 0
-  elsewhere j d e = getD-set-other (set work (cellsPart * n + at) cell) (orderedSizesPart * n + at) j (sizeAt n work₀ cell) 0 e ∙ getD-set-other work (cellsPart * n + at) j cell 0 d
+  elsewhere : (j : ℕ) → (j ≡ cellsPart * n + at → ⊥) → (j ≡ orderedSizesPart * n + at → ⊥)
+      → getD after j 0 ≡ getD work j 0
+  elsewhere j d e =
+      getD-set-other (set work (cellsPart * n + at) cell) (orderedSizesPart * n + at) j
+      (sizeAt n work₀ cell) 0 e ∙ getD-set-other work (cellsPart * n + at) j cell 0 d
 
   -- an earlier cell's position is another
   other : (j : ℕ) → j < i → positionAt n work₀ (queuedAt work₀ j) ≢ at
@@ -62,13 +71,21 @@ module _ {n queued : ℕ} {work₀ work : List ℕ} (A : Apart n work₀ queued)
         ∙ E .kept j (λ k h. c k (omega arith)) (λ k h. s k (omega arith));
     cell-is =
         step-cases i
-        (λ j h. let b = A .below j (omega arith) in let o = other j h in elsewhere _ (λ e. omega arith) (λ e. omega arith) ∙ E .cell-is j h)
-        (getD-set-other (set work (cellsPart * n + at) cell) (orderedSizesPart * n + at) (cellsPart * n + at) (sizeAt n work₀ cell) 0 (λ e. omega (arith, A .below i l))
+        (λ j h. let b = A .below j (omega arith) in let o = other j h in elsewhere _ (λ e. omega arith)
+        (λ e. omega arith) ∙ E .cell-is j h)
+        (getD-set-other (set work (cellsPart * n + at) cell) (orderedSizesPart * n + at) (cellsPart * n + at)
+        (sizeAt n work₀ cell) 0 (λ e. omega (arith, A .below i l))
         ∙ getD-set-same work (cellsPart * n + at) cell 0 (omega (arith, A .below i l, A .room)));
     size-is =
         step-cases i
-        (λ j h. let b = A .below j (omega arith) in let k = A .below i l in let o = other j h in elsewhere _ (λ e. omega arith) (λ e. omega arith) ∙ E .size-is j h)
-        (getD-set-same (set work (cellsPart * n + at) cell) (orderedSizesPart * n + at) (sizeAt n work₀ cell) 0 (omega (arith, A .below i l, A .room, length-set work (cellsPart * n + at) cell)));
+        (λ j h. let b = A .below j (omega arith) in let k = A .below i l in let o = other j h in elsewhere _
+        (λ e. omega arith) (λ e. omega arith) ∙ E .size-is j h)
+        (getD-set-same (set work (cellsPart * n + at) cell) (orderedSizesPart * n + at) (sizeAt n work₀ cell) 0 (omega (
+          arith,
+          A .below i l,
+          A .room,
+          length-set work (cellsPart * n + at) cell,
+        )));
   }
 
   pub entered-more : Entered n work₀ (entered n work (queuedAt work i)) (i + 1)

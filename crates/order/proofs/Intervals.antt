@@ -21,29 +21,38 @@ pub record Between (size pos : ℕ → ℕ) (lo hi u : ℕ) : Type 0 where
   pub upto : pos u + size u ≤ hi
 
 module _ {size pos : ℕ → ℕ} where
-  pub between : {lo : ℕ} {us : List ℕ} → Consecutive size pos lo us → (u : ℕ) → List·Memᴰ u us → Between size pos lo (lo + sum size us) u
+  pub between : {lo : ℕ} {us : List ℕ} → Consecutive size pos lo us → (u : ℕ) → List·Memᴰ u us
+      → Between size pos lo (lo + sum size us) u
   unfolding sum
   between none u m = absurd (List·Memᴰ·not-nil m)
   between (next {lo = lo} {u = v} {us = us} e w) u m = go (between w u) (List·Memᴰ·cases-cons m)
     where
-      go : (List·Memᴰ u us → Between size pos (lo + size v) (lo + size v + sum size us) u) → (u ≡ v) ⊎ List·Memᴰ u us → Between size pos lo (lo + (size v + sum size us)) u
+      go : (List·Memᴰ u us → Between size pos (lo + size v) (lo + size v + sum size us) u) → (u ≡ v) ⊎ List·Memᴰ u us
+          → Between size pos lo (lo + (size v + sum size us)) u
       go f (inl s) = record { from = rw s (omega arith); upto = rw s (omega arith) }
       go f (inr k) = let b = f k in record { from = omega arith; upto = omega arith }
 
   -- a position among those of the list is one of a member's
-  pub member-at : {lo : ℕ} {us : List ℕ} → Consecutive size pos lo us → (p : ℕ) → lo ≤ p → p < lo + sum size us → (u : ℕ) × List·Memᴰ u us × At size pos u p
+  pub member-at : {lo : ℕ} {us : List ℕ} → Consecutive size pos lo us → (p : ℕ) → lo ≤ p → p < lo + sum size us
+      → (u : ℕ) × List·Memᴰ u us × At size pos u p
   unfolding sum
   member-at none p l h = absurd (omega arith)
-  member-at (next {lo = lo} {u = v} {us = us} e w) p l h = go (ltb p (lo + size v)) refl (λ k. member-at w p k (omega arith))
+  member-at (next {lo = lo} {u = v} {us = us} e w) p l h = go (ltb p (lo + size v)) refl
+      (λ k. member-at w p k (omega arith))
     where
-      go : (b : Bool) → ltb p (lo + size v) ≡ b → (lo + size v ≤ p → (u : ℕ) × List·Memᴰ u us × At size pos u p) → (u : ℕ) × List·Memᴰ u (v ∷ us) × At size pos u p
-      go true t f = let k = ltb-true p (lo + size v) t in (v, List·Memᴰ·head refl, record { from = omega arith; before = omega arith })
+      go : (b : Bool) → ltb p (lo + size v) ≡ b → (lo + size v ≤ p → (u : ℕ) × List·Memᴰ u us × At size pos u p)
+          → (u : ℕ) × List·Memᴰ u (v ∷ us) × At size pos u p
+      go true t f =
+          let k = ltb-true p (lo + size v) t in
+          (v, List·Memᴰ·head refl, record { from = omega arith; before = omega arith })
       go false t f = let r = f (ltb-false p (lo + size v) t) in (r .0, List·Memᴰ·tail (r .1), r .2)
 
   -- and of no other member's
-  pub member-once : {lo : ℕ} {us : List ℕ} → Consecutive size pos lo us → {u v p : ℕ} → List·Memᴰ u us → List·Memᴰ v us → At size pos u p → At size pos v p → u ≡ v
+  pub member-once : {lo : ℕ} {us : List ℕ} → Consecutive size pos lo us → {u v p : ℕ} → List·Memᴰ u us → List·Memᴰ v us
+      → At size pos u p → At size pos v p → u ≡ v
   member-once none m k a b = absurd (List·Memᴰ·not-nil m)
-  member-once (next {lo = lo} {u = w} {us = us} e ws) {u} {v} {p} m k a b = go (List·Memᴰ·cases-cons m) (List·Memᴰ·cases-cons k) (λ i j. member-once ws i j a b)
+  member-once (next {lo = lo} {u = w} {us = us} e ws) {u} {v} {p} m k a b = go (List·Memᴰ·cases-cons m)
+      (List·Memᴰ·cases-cons k) (λ i j. member-once ws i j a b)
     where
       go : (u ≡ w) ⊎ List·Memᴰ u us → (v ≡ w) ⊎ List·Memᴰ v us → (List·Memᴰ u us → List·Memᴰ v us → u ≡ v) → u ≡ v
       go (inl s) (inl t) f = s ∙ sym t
@@ -52,6 +61,7 @@ module _ {size pos : ℕ → ℕ} where
       go (inr i) (inr j) f = f i j
 
   -- other positions of the same members
-  pub moved : {lo : ℕ} {us : List ℕ} {pos′ : ℕ → ℕ} → Consecutive size pos lo us → ((u : ℕ) → List·Memᴰ u us → pos′ u ≡ pos u) → Consecutive size pos′ lo us
+  pub moved : {lo : ℕ} {us : List ℕ} {pos′ : ℕ → ℕ} → Consecutive size pos lo us
+      → ((u : ℕ) → List·Memᴰ u us → pos′ u ≡ pos u) → Consecutive size pos′ lo us
   moved none h = none
   moved (next {u = u} e w) h = next (h u (List·Memᴰ·head refl) ∙ e) (moved w (λ v m. h v (List·Memᴰ·tail m)))

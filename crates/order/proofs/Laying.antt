@@ -15,16 +15,21 @@ use Rattle.order.specs.Positions.{Preorder, Consecutive, none, next}
 use Rattle.order.proofs.Preorder.{some}
 
 module _ {cell sizes : List ℕ} {end : ℕ} where
-  stem-at : {lo hi c s : ℕ} {R : Run} → getD cell lo 0 ≡ c → getD sizes lo 0 ≡ s → lo + s ≡ end → Laid cell sizes end (lo + 1) hi R → Laid cell sizes end lo hi (stem c ∷ R)
+  stem-at : {lo hi c s : ℕ} {R : Run} → getD cell lo 0 ≡ c → getD sizes lo 0 ≡ s → lo + s ≡ end
+      → Laid cell sizes end (lo + 1) hi R → Laid cell sizes end lo hi (stem c ∷ R)
   stem-at {lo} {hi} {c} {s} {R} e f g w = rw (← e) (laid-stem {lo = lo} (rw f g) w)
 
-  mouth-at : {lo hi c s : ℕ} {R : Run} → getD cell lo 0 ≡ c → getD sizes lo 0 ≡ s → lo + s ≢ end → Laid cell sizes end (lo + s) hi R → Laid cell sizes end lo hi (mouth c ∷ R)
+  mouth-at : {lo hi c s : ℕ} {R : Run} → getD cell lo 0 ≡ c → getD sizes lo 0 ≡ s → lo + s ≢ end
+      → Laid cell sizes end (lo + s) hi R → Laid cell sizes end lo hi (mouth c ∷ R)
   mouth-at {lo} {hi} {c} {s} {R} e f g w = rw (← e) (laid-mouth {lo = lo} {hi = hi} {R = R} (rw f g) (rw f w))
 
-module _ {N : Network} {inside : ℕ → Type 0} {outlet : ℕ} (B : Basin N inside outlet) {size pos : ℕ → ℕ} (P : Preorder N inside size pos) {cell sizes : List ℕ}
-    (cell-is : (c : ℕ) → inside c → getD cell (pos c) 0 ≡ c) (size-is : (c : ℕ) → inside c → getD sizes (pos c) 0 ≡ size c) where
+module _ {N : Network} {inside : ℕ → Type 0} {outlet : ℕ} (B : Basin N inside outlet) {size pos : ℕ → ℕ}
+    (P : Preorder N inside size pos) {cell sizes : List ℕ}
+    (cell-is : (c : ℕ) → inside c → getD cell (pos c) 0 ≡ c)
+    (size-is : (c : ℕ) → inside c → getD sizes (pos c) 0 ≡ size c) where
   upstream-laid : (f : ℕ → Run) (end lo : ℕ) (us : List ℕ) → Consecutive size pos lo us → lo + sum size us ≡ end
-      → ((u : ℕ) → List·Memᴰ u us → inside u) → ((u : ℕ) → List·Memᴰ u us → pos u + size u ≡ end → Laid cell sizes end (pos u) end (f u))
+      → ((u : ℕ) → List·Memᴰ u us → inside u) →
+      ((u : ℕ) → List·Memᴰ u us → pos u + size u ≡ end → Laid cell sizes end (pos u) end (f u))
       → Laid cell sizes end lo end (upstream f us)
   unfolding upstream sum
   upstream-laid f end lo [] none e i h = let s : lo ≡ end = omega arith in rw s laid-end
@@ -33,16 +38,22 @@ module _ {N : Network} {inside : ℕ → Type 0} {outlet : ℕ} (B : Basin N ins
       let j = i u (List·Memᴰ·head refl) in
       let l = some B P v (i v (List·Memᴰ·tail (List·Memᴰ·head refl))) in
       mouth-at (rw (← p) (cell-is u j)) (rw (← p) (size-is u j)) (λ s. omega arith)
-      (upstream-laid f end (lo + size u) (v ∷ us) w (omega arith) (λ x m. i x (List·Memᴰ·tail m)) (λ x m. h x (List·Memᴰ·tail m)))
+      (upstream-laid f end (lo + size u) (v ∷ us) w (omega arith) (λ x m. i x (List·Memᴰ·tail m))
+      (λ x m. h x (List·Memᴰ·tail m)))
 
-  within-laid : (k c : ℕ) → N .cells ≤ k + lawful (B .forest) .dist c → inside c → Laid cell sizes (pos c + size c) (pos c) (pos c + size c) (riverWithin N k c)
+  within-laid : (k c : ℕ) → N .cells ≤ k + lawful (B .forest) .dist c → inside c
+      → Laid cell sizes (pos c + size c) (pos c) (pos c + size c) (riverWithin N k c)
   unfolding riverWithin
   within-laid zero c l i = absurd (omega (arith, lawful (B .forest) .short c))
   within-laid (suc k) c l i =
       stem-at (cell-is c i) (size-is c i) refl
-      (upstream-laid (riverWithin N k) (pos c + size c) (pos c + 1) (donors N c) (P .follow c i) (omega (arith, P .adds c i))
+      (upstream-laid (riverWithin N k) (pos c + size c) (pos c + 1) (donors N c) (P .follow c i)
+      (omega (arith, P .adds c i))
       (λ u m. B .forest .from-inside u c (lawful (B .forest) .donor-steps c u m))
-      (λ u m e. rw (← e) (within-laid k u (omega (arith, lawful (B .forest) .falls u c (lawful (B .forest) .donor-steps c u m))) (B .forest .from-inside u c (lawful (B .forest) .donor-steps c u m)))))
+      (λ u m e. rw (← e) (within-laid k u (omega (
+        arith,
+        lawful (B .forest) .falls u c (lawful (B .forest) .donor-steps c u m),
+      )) (B .forest .from-inside u c (lawful (B .forest) .donor-steps c u m)))))
 
   pub river-laid : (c : ℕ) → inside c → Laid cell sizes (pos c + size c) (pos c) (pos c + size c) (river N c)
   unfolding river

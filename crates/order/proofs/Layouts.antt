@@ -31,14 +31,16 @@ pub record StandsAt (inside : ℕ → Type 0) (size pos : ℕ → ℕ) (cell siz
   pub cell-is : getD cell j 0 ≡ c
   pub size-is : getD sizes j 0 ≡ size c
 
-module _ {N : Network} {inside : ℕ → Type 0} {outlet : ℕ} (B : Basin N inside outlet) {size pos : ℕ → ℕ} (P : Preorder N inside size pos)
+module _ {N : Network} {inside : ℕ → Type 0} {outlet : ℕ} (B : Basin N inside outlet) {size pos : ℕ → ℕ}
+    (P : Preorder N inside size pos)
     {cell sizes : List ℕ} (F : Filled inside outlet size pos cell sizes) where
   standing : (c : ℕ) → inside c → StandsAt inside size pos cell sizes (pos c) c
   standing c i = record { is-inside = i; place = refl; cell-is = F .cell-is c i; size-is = F .size-is c i }
 
   pub stands : (j : ℕ) → j < length cell → (c : ℕ) × StandsAt inside size pos cell sizes j c
   stands j l =
-      let r = cell-at B P outlet j (B .outlet-inside) (record { from = omega (arith, F .first); before = omega (arith, F .first, F .long) }) in
+      let r = cell-at B P outlet j (B .outlet-inside)
+      (record { from = omega (arith, F .first); before = omega (arith, F .first, F .long) }) in
       (r .0, rw (r .2) at (standing (r .0) (upstream-inside B (r .0) (r .1))))
 
   -- no position of a cell lies past the end
@@ -58,24 +60,31 @@ module _ {N : Network} {inside : ℕ → Type 0} {outlet : ℕ} (B : Basin N ins
         sym (s .1 .place) ∙ ap pos (sym (s .1 .cell-is) ∙ e ∙ t .1 .cell-is) ∙ t .1 .place;
   }
 
-  laid : (j c : ℕ) → StandsAt inside size pos cell sizes j c → Laid cell sizes (j + getD sizes j 0) j (j + getD sizes j 0) (river N (getD cell j 0))
-  laid j c s = rw (s .cell-is, s .size-is) (rw (s .place) at (river-laid B P {cell = cell} {sizes = sizes} (F .cell-is) (F .size-is) c (s .is-inside)))
+  laid : (j c : ℕ) → StandsAt inside size pos cell sizes j c
+      → Laid cell sizes (j + getD sizes j 0) j (j + getD sizes j 0) (river N (getD cell j 0))
+  laid j c s =
+      rw (s .cell-is, s .size-is)
+      (rw (s .place) at (river-laid B P {cell = cell} {sizes = sizes} (F .cell-is) (F .size-is) c (s .is-inside)))
 
-  passing : (i j c : ℕ) → j ≤ i → i < j + getD sizes j 0 → StandsAt inside size pos cell sizes j c → Passes (N .next) (getD cell i 0) (getD cell j 0)
+  passing : (i j c : ℕ) → j ≤ i → i < j + getD sizes j 0 → StandsAt inside size pos cell sizes j c
+      → Passes (N .next) (getD cell i 0) (getD cell j 0)
   passing i j c h k s =
-      let r = cell-at B P c i (s .is-inside) (record { from = omega (arith, s .place); before = omega (arith, s .place, s .size-is) }) in
+      let r = cell-at B P c i (s .is-inside)
+      (record { from = omega (arith, s .place); before = omega (arith, s .place, s .size-is) }) in
       let up = upstream-inside B (r .0) (pass-trans {c = r .0} (r .1) (drain B c (s .is-inside))) in
       let e : getD cell i 0 ≡ r .0 = rw (r .2) at (F .cell-is (r .0) up) in
       rw (e, s .cell-is) (r .1)
 
-  covering : (q j c : ℕ) → Passes (N .next) q (getD cell j 0) → StandsAt inside size pos cell sizes j c → (i : ℕ) × (j ≤ i) × (i < j + getD sizes j 0) × (getD cell i 0 ≡ q)
+  covering : (q j c : ℕ) → Passes (N .next) q (getD cell j 0) → StandsAt inside size pos cell sizes j c
+      → (i : ℕ) × (j ≤ i) × (i < j + getD sizes j 0) × (getD cell i 0 ≡ q)
   covering q j c p s =
       let h : Passes (N .next) q c = rw (s .cell-is) at p in
       let up = upstream-inside B q (pass-trans h (drain B c (s .is-inside))) in
       let a = at-own B P up h in
       (pos q, omega (arith, a .from, s .place), omega (arith, a .before, s .place, s .size-is), F .cell-is q up)
 
-  pub layout-of : (areas : List ℕ) (least : ℕ) → ((c : ℕ) → inside c → getD areas c 0 ≡ N .area c) → ((c : ℕ) → inside c → N .counted c ≡ leb least (N .area c))
+  pub layout-of : (areas : List ℕ) (least : ℕ) → ((c : ℕ) → inside c → getD areas c 0 ≡ N .area c)
+      → ((c : ℕ) → inside c → N .counted c ≡ leb least (N .area c))
       → LayoutOf N cell sizes areas (N .split) least
   layout-of areas least area-is counted-is = record {
     rivers = λ j l. let s = stands j l in laid j (s .0) (s .1);

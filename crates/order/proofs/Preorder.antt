@@ -17,7 +17,8 @@ use Rattle.claims.proofs.Basins.{lawful, drain, stays-inside}
 use Rattle.order.specs.Positions.{Preorder}
 use Rattle.order.proofs.Intervals.{At, Between, between, member-at, member-once}
 
-module _ {N : Network} {inside : ℕ → Type 0} {outlet : ℕ} (B : Basin N inside outlet) {size pos : ℕ → ℕ} (P : Preorder N inside size pos) where
+module _ {N : Network} {inside : ℕ → Type 0} {outlet : ℕ} (B : Basin N inside outlet) {size pos : ℕ → ℕ}
+    (P : Preorder N inside size pos) where
   pub some : (c : ℕ) → inside c → 1 ≤ size c
   some c i = omega (arith, P .adds c i)
 
@@ -30,7 +31,8 @@ module _ {N : Network} {inside : ℕ → Type 0} {outlet : ℕ} (B : Basin N ins
 
   pub upstream-between : {q c : ℕ} → Passes (N .next) q c → Between size pos (pos c) (pos c + size c) q
   upstream-between here = record { from = omega arith; upto = omega arith }
-  upstream-between (there e h) = let d = donor-between e in let b = upstream-between h in record { from = omega arith; upto = omega arith }
+  upstream-between (there e h) =
+      let d = donor-between e in let b = upstream-between h in record { from = omega arith; upto = omega arith }
 
   -- the sizes of donors are smaller
   smaller : {u c : ℕ} (k : ℕ) → N .next u ≡ To c → size c ≤ suc k → size u ≤ k
@@ -39,9 +41,12 @@ module _ {N : Network} {inside : ℕ → Type 0} {outlet : ℕ} (B : Basin N ins
   -- the cell at a position among those of c
   cell-within : (k c p : ℕ) → size c ≤ k → inside c → At size pos c p → (q : ℕ) × Passes (N .next) q c × (pos q ≡ p)
   cell-within zero c p l i a = absurd (omega (arith, some c i))
-  cell-within (suc k) c p l i a = go (eqb (pos c) p) refl (λ u e b. cell-within k u p (smaller k e l) (B .forest .from-inside u c e) b)
+  cell-within (suc k) c p l i a =
+      go (eqb (pos c) p) refl (λ u e b. cell-within k u p (smaller k e l) (B .forest .from-inside u c e) b)
     where
-      go : (b : Bool) → eqb (pos c) p ≡ b → ((u : ℕ) → N .next u ≡ To c → At size pos u p → (q : ℕ) × Passes (N .next) q u × (pos q ≡ p)) → (q : ℕ) × Passes (N .next) q c × (pos q ≡ p)
+      go : (b : Bool) → eqb (pos c) p ≡ b
+          → ((u : ℕ) → N .next u ≡ To c → At size pos u p → (q : ℕ) × Passes (N .next) q u × (pos q ≡ p)) →
+          (q : ℕ) × Passes (N .next) q c × (pos q ≡ p)
       go true t f = (c, here, eqb-true (pos c) p t)
       go false t f =
           let d : pos c ≢ p = eqb-false (pos c) p t in
@@ -57,20 +62,27 @@ module _ {N : Network} {inside : ℕ → Type 0} {outlet : ℕ} (B : Basin N ins
   at-own {q} i h = let b = upstream-between h in record { from = b .from; before = omega (arith, some q i, b .upto) }
 
   -- cells with the same position are the same
-  same-within : (k c p q : ℕ) → size c ≤ k → inside p → inside q → Passes (N .next) p c → Passes (N .next) q c → pos p ≡ pos q → p ≡ q
+  same-within : (k c p q : ℕ) → size c ≤ k → inside p → inside q → Passes (N .next) p c → Passes (N .next) q c
+      → pos p ≡ pos q → p ≡ q
   same-within zero c p q l i j h m e = absurd (omega (arith, some c (stays-inside (B .forest) i h)))
-  same-within (suc k) c p q l i j h m e = go (pass-last h) (pass-last m) (λ u s x y. same-within k u p q (smaller k s l) i j x y e)
+  same-within (suc k) c p q l i j h m e =
+      go (pass-last h) (pass-last m) (λ u s x y. same-within k u p q (smaller k s l) i j x y e)
     where
       up : ℕ → Type 0
       up x = (u : ℕ) × (N .next u ≡ To c) × Passes (N .next) x u
 
-      go : (p ≡ c) ⊎ up p → (q ≡ c) ⊎ up q → ((u : ℕ) → N .next u ≡ To c → Passes (N .next) p u → Passes (N .next) q u → p ≡ q) → p ≡ q
+      go : (p ≡ c) ⊎ up p → (q ≡ c) ⊎ up q
+          → ((u : ℕ) → N .next u ≡ To c → Passes (N .next) p u → Passes (N .next) q u → p ≡ q) → p ≡ q
       go (inl x) (inl y) f = x ∙ sym y
-      go (inl x) (inr y) f = let b = upstream-between (y .2) in let d = donor-between (y .1) in let z = ap pos x in absurd (omega arith)
-      go (inr x) (inl y) f = let b = upstream-between (x .2) in let d = donor-between (x .1) in let z = ap pos y in absurd (omega arith)
+      go (inl x) (inr y) f =
+          let b = upstream-between (y .2) in let d = donor-between (y .1) in let z = ap pos x in absurd (omega arith)
+      go (inr x) (inl y) f =
+          let b = upstream-between (x .2) in let d = donor-between (x .1) in let z = ap pos y in absurd (omega arith)
       go (inr x) (inr y) f =
           let a : At size pos (y .0) (pos p) = rw e (at-own j (y .2)) in
-          let s = member-once (P .follow c (B .forest .to-inside (x .0) c (x .1))) (lawful (B .forest) .donors-complete c (x .0) (x .1)) (lawful (B .forest) .donors-complete c (y .0) (y .1)) (at-own i (x .2)) a in
+          let s = member-once (P .follow c (B .forest .to-inside (x .0) c (x .1)))
+          (lawful (B .forest) .donors-complete c (x .0) (x .1)) (lawful (B .forest) .donors-complete c (y .0) (y .1))
+          (at-own i (x .2)) a in
           f (x .0) (x .1) (x .2) (rw s (y .2))
 
   pub same-cell : (p q : ℕ) → inside p → inside q → pos p ≡ pos q → p ≡ q

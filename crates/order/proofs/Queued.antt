@@ -56,7 +56,8 @@ module _ {G : Grid} {areas work : List ℕ} {queued : ℕ} (W : Surveyed G areas
       (rankOf (cells G) work c - 1, omega (arith, s .most), s .place)
 
   pub queue-once : (i j : ℕ) → i < queued → j < queued → queuedAt work i ≡ queuedAt work j → i ≡ j
-  queue-once i j l h e = omega (arith, up .queue .item i l .rank, up .queue .item j h .rank, ap (rankOf (cells G) work) e)
+  queue-once i j l h e =
+      omega (arith, up .queue .item i l .rank, up .queue .item j h .rank, ap (rankOf (cells G) work) e)
 
   -- receivers stand before their donors
   donor-later : (i j : ℕ) → i < queued → j < queued → next G (queuedAt work i) ≡ To (queuedAt work j) → j < i
@@ -66,8 +67,14 @@ module _ {G : Grid} {areas work : List ℕ} {queued : ℕ} (W : Surveyed G areas
 
   pub placed-none : Placed G areas work (set work (positionsPart * cells G + outlet G) 0) queued 0
   placed-none = record {
-    kept = λ j d. getD-set-other work (positionsPart * cells G + outlet G) j 0 0 (d (outlet G) (whole 0 0 .outlet-inside));
-    first = getD-set-same work (positionsPart * cells G + outlet G) 0 0 (omega (arith, W .room, inside-lt G (outlet G) (whole 0 0 .outlet-inside)));
+    kept =
+        λ j d. getD-set-other work (positionsPart * cells G + outlet G) j 0 0 (d (outlet G) (whole 0 0 .outlet-inside));
+    first =
+        getD-set-same work (positionsPart * cells G + outlet G) 0 0 (omega (
+          arith,
+          W .room,
+          inside-lt G (outlet G) (whole 0 0 .outlet-inside),
+        ));
     follow = λ j l. absurd (omega arith);
     within = λ j l. absurd (omega arith);
   }
@@ -100,7 +107,13 @@ module _ {G : Grid} {areas work : List ℕ} {queued : ℕ} (W : Surveyed G areas
       is-inside = queue-inside i l;
       room = omega (arith, W .room);
       size-is = λ c h. P .kept (sizesPart * n + c) (λ u k e. omega arith) ∙ W .size-is c h;
-      within = omega (arith, within-cell (next G cell) refl, queue-most, cells-most (W .measured .sized .rows-most) (W .measured .sized .cols-most));
+      within =
+          omega (
+            arith,
+            within-cell (next G cell) refl,
+            queue-most,
+            cells-most (W .measured .sized .rows-most) (W .measured .sized .cols-most),
+          );
       adds = adds cell (queue-inside i l);
     })
 
@@ -110,12 +123,15 @@ module _ {G : Grid} {areas work : List ℕ} {queued : ℕ} (W : Surveyed G areas
 
       -- the position of a cell that is no donor
       stays : (u : ℕ) → (next G u ≡ To cell → ⊥) → positionAt n later u ≡ positionAt n now u
-      stays u d = D .kept (positionsPart * n + u) (λ v m e. let s : u ≡ v = omega arith in d (rw s (donor-goes G areas cell v m)))
+      stays u d =
+          D .kept (positionsPart * n + u)
+          (λ v m e. let s : u ≡ v = omega arith in d (rw s (donor-goes G areas cell v m)))
 
       queue-stays : (j : ℕ) → j < i + 1 → positionAt n later (queuedAt work j) ≡ positionAt n now (queuedAt work j)
       queue-stays j h = stays (queuedAt work j) (λ e. let k = donor-later j i (omega arith) l e in omega arith)
 
-      donor-stays : (j : ℕ) → j < i → (u : ℕ) → List·Memᴰ u (donorsIn G areas (queuedAt work j)) → positionAt n later u ≡ positionAt n now u
+      donor-stays : (j : ℕ) → j < i → (u : ℕ) → List·Memᴰ u (donorsIn G areas (queuedAt work j))
+          → positionAt n later u ≡ positionAt n now u
       donor-stays j h u m =
           let d = donor-goes G areas (queuedAt work j) u m in
           stays u (λ e. let s : queuedAt work j ≡ cell = cc in let k = queue-once j i (omega arith) l s in omega arith)
@@ -123,7 +139,9 @@ module _ {G : Grid} {areas work : List ℕ} {queued : ℕ} (W : Surveyed G areas
       pub placed-more : Placed G areas work later queued (i + 1)
       placed-more = record {
         kept = λ j d. D .kept j (λ u m. d u (next-goes G u (donor-goes G areas cell u m) .from-inside)) ∙ P .kept j d;
-        first = stays (outlet G) (λ e. outlet-not-to (sym ((outlet-is G (outlet G) (W .single .is-outlet)) .1) ∙ e)) ∙ P .first;
+        first =
+            stays (outlet G)
+            (λ e. outlet-not-to (sym ((outlet-is G (outlet G) (W .single .is-outlet)) .1) ∙ e)) ∙ P .first;
         follow =
             step-cases i (λ j h. rw (queue-stays j (omega arith)) (moved (P .follow j h) (donor-stays j h)))
             (rw (queue-stays i (omega arith)) (D .follow));
@@ -134,8 +152,10 @@ module _ {G : Grid} {areas work : List ℕ} {queued : ℕ} (W : Surveyed G areas
 
 -- ---- all queued cells have their positions
 
-module _ {G : Grid} {areas work now : List ℕ} {queued : ℕ} (W : Surveyed G areas work queued) (same : length now ≡ length work) (P : Placed G areas work now queued queued) where
-  pub preorder : (least split : ℕ) → Preorder (networkIn G areas least split) (λ c. inside G c ≡ true) (size G) (positionAt (cells G) now)
+module _ {G : Grid} {areas work now : List ℕ} {queued : ℕ} (W : Surveyed G areas work queued)
+    (same : length now ≡ length work) (P : Placed G areas work now queued queued) where
+  pub preorder : (least split : ℕ)
+      → Preorder (networkIn G areas least split) (λ c. inside G c ≡ true) (size G) (positionAt (cells G) now)
   unfolding donors networkBy
   preorder least split = record {
     adds = adds W;
@@ -152,7 +172,15 @@ module _ {G : Grid} {areas work now : List ℕ} {queued : ℕ} (W : Surveyed G a
     room = omega (arith, W .room);
     most = queue-most W;
     on = λ i l. rw (queue-kept i l) (inside-lt G _ (queue-inside W i l));
-    below = λ i l. rw (queue-kept i l) (omega (arith, P .within i l, queue-most W, some (whole W 0 0) (preorder 0 0) (queuedAt work i) (queue-inside W i l)));
+    below =
+        λ i l. rw (queue-kept i l) (omega (
+          arith,
+          P .within i l,
+          queue-most W,
+          some (whole W 0 0) (preorder 0 0) (queuedAt work i) (queue-inside W i l),
+        ));
     apart = λ i j l h e.
-        queue-once W i j l h (same-cell (whole W 0 0) (preorder 0 0) (queuedAt work i) (queuedAt work j) (queue-inside W i l) (queue-inside W j h) (rw (queue-kept i l, queue-kept j h) at e));
+        queue-once W i j l h
+        (same-cell (whole W 0 0) (preorder 0 0) (queuedAt work i) (queuedAt work j) (queue-inside W i l)
+        (queue-inside W j h) (rw (queue-kept i l, queue-kept j h) at e));
   }

@@ -34,14 +34,17 @@ module _ {G : Grid} {work : List ℕ} {queued : ℕ} (D : Drained G work queued)
   reached c i = lt-ltb _ _ (D .all c i)
 
   reaches : (c : ℕ) → inside G c ≡ true → reachesOutlet (next G) (cells G) c ≡ true
-  reaches c i = go (inside G c) (reachesOutlet (next G) (cells G) c) (sym (D .searched .reached c (inside-lt G c i)) ∙ reached c i)
+  reaches c i =
+      go (inside G c) (reachesOutlet (next G) (cells G) c)
+      (sym (D .searched .reached c (inside-lt G c i)) ∙ reached c i)
     where
       go : (a b : Bool) → both a b ≡ true → b ≡ true
       go true b e = e
       go false b e = absurd (true≢false (sym e))
 
   module _ (S : SingleOutlet G work) where
-    pub basin : (area : ℕ → ℕ) (least split : ℕ) → Basin (networkBy G area least split) (λ c. inside G c ≡ true) (outlet G)
+    pub basin : (area : ℕ → ℕ) (least split : ℕ)
+        → Basin (networkBy G area least split) (λ c. inside G c ≡ true) (outlet G)
     basin area least split = one-basin G reaches area least split (S .is-outlet) (S .only)
 
 module _ (G : Grid) where
@@ -57,16 +60,20 @@ module _ (G : Grid) where
 
   module _ (area : ℕ → ℕ) (least split : ℕ) where
     -- a cell's size is one more than those of its donors together
-    pub size-adds : Forest (networkBy G area least split) (λ c. inside G c ≡ true) → (c : ℕ) → inside G c ≡ true → size G c ≡ suc (sum (size G) (donors (networkBy G area least split) c))
+    pub size-adds : Forest (networkBy G area least split) (λ c. inside G c ≡ true) → (c : ℕ) → inside G c ≡ true
+        → size G c ≡ suc (sum (size G) (donors (networkBy G area least split) c))
     unfolding networkBy drainsInto
     size-adds F c i =
         let s = area-sum (lawful F) (inside G) (λ q. 1) c i (inside-lt G c i) in
-        let d = sum-same (size G) (λ u. sumOver (cells G) (drainsInto G u) (λ q. 1)) (donors (networkBy G area least split) c)
-        (λ u m. size-inside u (next-goes G u (lawful F .donor-steps c u m) .from-inside) ∙ count-sum (cells G) (drainsInto G u)) in
+        let d = sum-same (size G) (λ u. sumOver (cells G) (drainsInto G u) (λ q. 1))
+        (donors (networkBy G area least split) c)
+        (λ u m. size-inside u (next-goes G u (lawful F .donor-steps c u m) .from-inside) ∙ count-sum (cells G)
+        (drainsInto G u)) in
         size-inside c i ∙ count-sum (cells G) (drainsInto G c) ∙ s ∙ (rw d (omega arith))
 
     -- all inside cells drain into the outlet
-    drains-all : Basin (networkBy G area least split) (λ c. inside G c ≡ true) (outlet G) → (c : ℕ) → inside G c ≡ drainsInto G (outlet G) c
+    drains-all : Basin (networkBy G area least split) (λ c. inside G c ≡ true) (outlet G) → (c : ℕ)
+        → inside G c ≡ drainsInto G (outlet G) c
     unfolding networkBy drainsInto
     drains-all B c = go (inside G c) refl
       where
@@ -75,16 +82,19 @@ module _ (G : Grid) where
         go false i = refl
 
 -- the outlet's size is the number of queued cells
-pub outlet-size : {G : Grid} {work : List ℕ} {queued : ℕ} → Drained G work queued → SingleOutlet G work → size G (outlet G) ≡ queued
+pub outlet-size : {G : Grid} {work : List ℕ} {queued : ℕ} → Drained G work queued → SingleOutlet G work
+    → size G (outlet G) ≡ queued
 outlet-size {G} {work} {queued} D S =
     let B = basin D S (size G) 0 0 in
     size-inside G (outlet G) (B .outlet-inside)
-    ∙ count-same (cells G) (drainsInto G (outlet G)) (isReached (cells G) work) (λ c l. sym (drains-all G (size G) 0 0 B c) ∙ inside-reached c l)
+    ∙ count-same (cells G) (drainsInto G (outlet G)) (isReached (cells G) work)
+    (λ c l. sym (drains-all G (size G) 0 0 B c) ∙ inside-reached c l)
     ∙ sym (D .searched .upstream .queue .counted)
   where
     inside-reached : (c : ℕ) → c < cells G → inside G c ≡ isReached (cells G) work c
     inside-reached c l = go (inside G c) refl (D .searched .reached c l)
       where
-        go : (b : Bool) → inside G c ≡ b → isReached (cells G) work c ≡ both b (reachesOutlet (next G) (cells G) c) → b ≡ isReached (cells G) work c
+        go : (b : Bool) → inside G c ≡ b → isReached (cells G) work c ≡ both b (reachesOutlet (next G) (cells G) c)
+            → b ≡ isReached (cells G) work c
         go true i e = sym (reached D c i)
         go false i e = sym e

@@ -58,8 +58,13 @@ module _ {G : Grid} {areas work : List ℕ} {cell : ℕ} (M : Measured G areas) 
     fits = omega (arith, sum-keys (cells G) areas (size G) most us work on (S .size-is), S .adds, S .within);
   }
 
-  pub donors-placed : DonorsPlaced G areas work (positioned (cells G) (positionAt (cells G) work cell + 1) (map (keyIn areas) us) work) cell
+  pub donors-placed : DonorsPlaced G areas work
+      (positioned (cells G) (positionAt (cells G) work cell + 1) (map (keyIn areas) us) work) cell
   donors-placed = record {
-    follow = positioned-follow (cells G) areas (size G) most 0 (positionAt (cells G) work cell + 1) us work on (donors-ascending M cell (S .is-inside)) (S .size-is) (S .room);
-    kept = λ j h. positioned-kept (cells G) _ (map (keyIn areas) us) work j (λ x m. let k = key-on x m in rw (k .2) (h (k .0) (k .1)));
+    follow =
+        positioned-follow (cells G) areas (size G) most 0 (positionAt (cells G) work cell + 1) us work on
+        (donors-ascending M cell (S .is-inside)) (S .size-is) (S .room);
+    kept =
+        λ j h. positioned-kept (cells G) _ (map (keyIn areas) us) work j
+        (λ x m. let k = key-on x m in rw (k .2) (h (k .0) (k .1)));
   }

@@ -50,7 +50,8 @@ pub record Surveyed (G : Grid) (areas work : List ℕ) (queued : ℕ) : Type 0 w
 -- the cells of keys get positions one after the other from `at` on
 unfoldable pub positioned : ℕ → ℕ → List ℕ → List ℕ → List ℕ
 positioned n at [] work = work
-positioned n at (x ∷ xs) work = positioned n (at + sizeAt n work (cellOf x)) xs (set work (positionsPart * n + cellOf x) at)
+positioned n at (x ∷ xs) work =
+    positioned n (at + sizeAt n work (cellOf x)) xs (set work (positionsPart * n + cellOf x) at)
 
 -- the cells of keys have places, and their positions fit 32 bits
 pub record PositionsFit (n at : ℕ) (keys work : List ℕ) : Type 0 where
@@ -86,7 +87,9 @@ pub record Placed (G : Grid) (areas work work′ : List ℕ) (queued i : ℕ) : 
 
 -- a cell and its size, written at its position
 unfoldable pub entered : ℕ → List ℕ → ℕ → List ℕ
-entered n work c = set (set work (cellsPart * n + positionAt n work c) c) (orderedSizesPart * n + positionAt n work c) (sizeAt n work c)
+entered n work c =
+    set (set work (cellsPart * n + positionAt n work c) c) (orderedSizesPart * n + positionAt n work c)
+    (sizeAt n work c)
 
 -- queued cells with different positions
 pub record Apart (n : ℕ) (work : List ℕ) (queued : ℕ) : Type 0 where
@@ -95,7 +98,8 @@ pub record Apart (n : ℕ) (work : List ℕ) (queued : ℕ) : Type 0 where
   pub most : queued ≤ n
   pub on : (i : ℕ) → i < queued → queuedAt work i < n
   pub below : (i : ℕ) → i < queued → positionAt n work (queuedAt work i) < n
-  pub apart : (i j : ℕ) → i < queued → j < queued → positionAt n work (queuedAt work i) ≡ positionAt n work (queuedAt work j) → i ≡ j
+  pub apart : (i j : ℕ) → i < queued → j < queued
+      → positionAt n work (queuedAt work i) ≡ positionAt n work (queuedAt work j) → i ≡ j
 
 -- the first i queued cells stand at their positions, and no other place is written
 pub record Entered (n : ℕ) (work work′ : List ℕ) (i : ℕ) : Type 0 where
@@ -103,7 +107,8 @@ pub record Entered (n : ℕ) (work work′ : List ℕ) (i : ℕ) : Type 0 where
       → ((k : ℕ) → k < i → j ≢ orderedSizesPart * n + positionAt n work (queuedAt work k))
       → getD work′ j 0 ≡ getD work j 0
   pub cell-is : (j : ℕ) → j < i → getD work′ (cellsPart * n + positionAt n work (queuedAt work j)) 0 ≡ queuedAt work j
-  pub size-is : (j : ℕ) → j < i → getD work′ (orderedSizesPart * n + positionAt n work (queuedAt work j)) 0 ≡ sizeAt n work (queuedAt work j)
+  pub size-is : (j : ℕ) → j < i
+      → getD work′ (orderedSizesPart * n + positionAt n work (queuedAt work j)) 0 ≡ sizeAt n work (queuedAt work j)
 
 -- ---- the order along rivers
 

@@ -8,7 +8,8 @@ use Rattle.claims.specs.Bounds.{sum}
 -- the cells of a list stand one after the other from position lo on, and each takes as many positions as its size
 pub data Consecutive (size pos : ℕ → ℕ) : ℕ → List ℕ → Type 0 where
   none : {lo : ℕ} → Consecutive size pos lo []
-  next : {lo u : ℕ} {us : List ℕ} → pos u ≡ lo → Consecutive size pos (lo + size u) us → Consecutive size pos lo (u ∷ us)
+  next : {lo u : ℕ} {us : List ℕ} → pos u ≡ lo → Consecutive size pos (lo + size u) us
+      → Consecutive size pos lo (u ∷ us)
 
 -- preorder: after each cell stand its donors from lightest to heaviest, each with all cells whose water passes it
 pub record Preorder (N : Network) (inside : ℕ → Type 0) (size pos : ℕ → ℕ) : Type 0 where

@@ -52,7 +52,8 @@ fn place_upstream(
 // Gives the outlet, which stands first in the queue, the first position.
 fn place_outlet(n: usize, work: &mut [u32])
     requires { ⌜ (n ≤ mostCells) × (8 * n ≤ length (now work)) × (queuedAt (now work) 0 < n) ⌝ }
-    ensures { λ _. ⌜ now (work .exit) ≡ set (now (work .entry)) (positionsPart * n + queuedAt (now (work .entry)) 0) 0 ⌝ }
+    ensures { λ _. ⌜ now (work .exit)
+        ≡ set (now (work .entry)) (positionsPart * n + queuedAt (now (work .entry)) 0) 0 ⌝ }
 {
     let cell = work[0] as usize;
     work[parts::POSITIONS * n + cell] = 0;
@@ -103,7 +104,8 @@ pub fn arrange(
     work: &mut [u32],
 )
     requires { ⌜ Surveyed (grid rows cols (now dirs)) (now areas) (now work) queued ⌝ }
-    ensures order { λ _. ⌜ Arranged (grid rows cols (now (dirs .entry))) (now (areas .entry)) (now (work .exit)) queued ⌝ }
+    ensures order { λ _. ⌜ Arranged (grid rows cols (now (dirs .entry))) (now (areas .entry))
+        (now (work .exit)) queued ⌝ }
     ensures places { λ _. ⌜ OtherPlaces (grid rows cols (now (dirs .entry)))
         (now (work .entry)) (now (work .exit)) queued ⌝ }
 {

@@ -1,5 +1,5 @@
-// Reads a grid file from standard input and prints its report on standard output: the listing of its sheet, or the two lines after a
-// refusal. It only moves bytes: the report is written by crate report, whose contract fixes it.
+// Reads a grid file from standard input and prints its report on standard output: the listing of its sheet, or the two
+// lines after a refusal. It only moves bytes: the report is written by crate report, whose contract fixes it.
 use listing::Listing;
 use programs::CELLS;
 use programs::Input;

@@ -1,4 +1,5 @@
-// What programs share: the sizes of what they lend, standard input read to its end, and a buffer printed on standard output.
+// What programs share: the sizes of what they lend, standard input read to its end, and a buffer printed on standard
+// output.
 use lines::LINE_BYTES;
 use reading::Read;
 use reading::Reader;

@@ -35,14 +35,16 @@ three-lines = refl
 
 -- document 01's sample A, without its last line feed
 abbrev pub sampleA : List ℕ
-sampleA = ascii "rows,cols,depth\n3,4,2\nrow,col,dir\n0,1,4\n0,2,16\n0,3,8\n1,0,16\n1,1,16\n1,2,16\n1,3,16\n2,0,64\n2,1,64\n2,2,32\n2,3,64"
+sampleA =
+    ascii "rows,cols,depth\n3,4,2\nrow,col,dir\n0,1,4\n0,2,16\n0,3,8\n1,0,16\n1,1,16\n1,2,16\n1,3,16\n2,0,64\n2,1,64\n2,2,32\n2,3,64"
 
 abbrev pub sampleCodes : List ℕ
 sampleCodes = 0 ∷ 4 ∷ 16 ∷ 8 ∷ 16 ∷ 16 ∷ 16 ∷ 16 ∷ 64 ∷ 64 ∷ 32 ∷ 64 ∷ []
 
 -- it ends with 3 rows, 4 columns, depth 2
 abbrev pub sampleRead : List ℕ → FileRead
-sampleRead dirs = record { read = Ended (record { stage = AtEnd (record { rows = 3; cols = 4; depth = 2 }) }); dirs = dirs }
+sampleRead dirs =
+    record { read = Ended (record { stage = AtEnd (record { rows = 3; cols = 4; depth = 2 }) }); dirs = dirs }
 
 -- 12 direction bytes, and 2,048
 pub sample-12 : readFile (replicate 12 7) sampleA ≡ sampleRead sampleCodes
@@ -77,7 +79,8 @@ pub sizes-refused : readFile [] (ascii "rows,cols,depth\n1,1,1\nrow,col,dir\n") 
 unfolding readFile linesOf readFrom lineAfter endAfter endTaken
 sizes-refused = refl
 
-pub last-refused : readFile (0 ∷ []) (ascii "rows,cols,depth\n1,1,1\nrow,col,dir\n0,0,1\n0,0,1") ≡ refusedRead 10 5 (1 ∷ [])
+pub last-refused : readFile (0 ∷ []) (
+    ascii "rows,cols,depth\n1,1,1\nrow,col,dir\n0,0,1\n0,0,1") ≡ refusedRead 10 5 (1 ∷ [])
 unfolding readFile linesOf readFrom lineAfter endAfter endTaken
 last-refused = refl
 

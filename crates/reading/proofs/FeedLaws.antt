@@ -22,7 +22,8 @@ pub feed-end : (s : Reading) (bytes : List ℕ) (i : ℕ) → length bytes ≤ i
 unfolding feedAll
 feed-end s bytes i h = rw drop-of-length-le
 
-pub feed-turn : (s : Reading) (bytes : List ℕ) (i : ℕ) → i < length bytes → feedAll (byteAfter s (getD bytes i 0)) (drop (i + 1) bytes) ≡ feedAll s (drop i bytes)
+pub feed-turn : (s : Reading) (bytes : List ℕ) (i : ℕ) → i < length bytes
+    → feedAll (byteAfter s (getD bytes i 0)) (drop (i + 1) bytes) ≡ feedAll s (drop i bytes)
 unfolding feedAll
 feed-turn s bytes i h = rw (add-one i, drop-cons bytes i 0)
 

@@ -91,10 +91,12 @@ module _ (s line : List ℕ) (held b : ℕ) (is : Present s line held) (other : 
 
 -- the reader within a line, and after one
 abbrev within : Intake → ℕ → ℕ → List ℕ → List ℕ → Reading
-within i n held line dirs = record { reader = record { intake = i; lines = n; held = held; outcome = Accepted }; line = line; dirs = dirs }
+within i n held line dirs =
+    record { reader = record { intake = i; lines = n; held = held; outcome = Accepted }; line = line; dirs = dirs }
 
 abbrev ended : Intake → TakenOutcome → ℕ → List ℕ → List ℕ → Reading
-ended i o n line dirs = record { reader = record { intake = i; lines = n; held = 0; outcome = o }; line = line; dirs = dirs }
+ended i o n line dirs =
+    record { reader = record { intake = i; lines = n; held = 0; outcome = o }; line = line; dirs = dirs }
 
 abbrev endedBy : After → ℕ → List ℕ → Reading
 endedBy a n line = ended (a .taken .intake) (a .taken .outcome) n line (a .dirs)
@@ -138,7 +140,8 @@ after-long i n line dirs bytes (first ∷ later) h =
     (λ e. absurd (bad-line-refused i first dirs bad e))
 
 -- the end ends a line that lacks its line feed
-finish-ended : (i : Intake) (o : TakenOutcome) (n : ℕ) (line dirs : List ℕ) → lastLine (ended i o n line dirs) ≡ ended i o n line dirs
+finish-ended : (i : Intake) (o : TakenOutcome) (n : ℕ) (line dirs : List ℕ)
+    → lastLine (ended i o n line dirs) ≡ ended i o n line dirs
 unfolding lastLine
 finish-ended i Accepted n line dirs = refl
 finish-ended i (Refused number) n line dirs = refl
@@ -147,28 +150,36 @@ finish-ended i (Refused number) n line dirs = refl
 abbrev closed : Reading → FileRead
 closed x = record { read = endRead (x .reader); dirs = x .dirs }
 
-module _ (i : Intake) (n held : ℕ) (s line dirs : List ℕ) (is : Present s line held) (few-lines : n < largestCount) where
+module _ (i : Intake) (n held : ℕ) (s line dirs : List ℕ) (is : Present s line held)
+    (few-lines : n < largestCount) where
   last-is : (held ≡ 0 → ⊥) → lastLine (within i n held line dirs) ≡ lineEnd (within i n held line dirs)
   unfolding lastLine
   last-is some = rw (ne-eqb held 0 some)
 
-  last-line : (held ≡ 0 → ⊥) → lastLine (within i n held line dirs) ≡ lastLine (endedBy (lineAfter i s dirs) (suc n) line)
+  last-line : (held ≡ 0 → ⊥)
+      → lastLine (within i n held line dirs) ≡ lastLine (endedBy (lineAfter i s dirs) (suc n) line)
   last-line some =
-      last-is some ∙ line-ended i n held s line dirs is few-lines ∙ sym (finish-ended (lineAfter i s dirs .taken .intake) (lineAfter i s dirs .taken .outcome) (suc n) line (lineAfter i s dirs .dirs))
+      last-is some ∙ line-ended i n held s line dirs is few-lines ∙ sym
+      (finish-ended (lineAfter i s dirs .taken .intake) (lineAfter i s dirs .taken .outcome) (suc n) line
+      (lineAfter i s dirs .dirs))
 
-  finish-line : (held ≡ 0 → ⊥) → finished (within i n held line dirs) ≡ finished (endedBy (lineAfter i s dirs) (suc n) line)
+  finish-line : (held ≡ 0 → ⊥)
+      → finished (within i n held line dirs) ≡ finished (endedBy (lineAfter i s dirs) (suc n) line)
   unfolding finished
   finish-line some = ap closed (last-line some)
 
-at-end : (i : Intake) (n : ℕ) (line dirs : List ℕ) → n < largestCount → finished (within i n 0 line dirs) ≡ readFrom i n dirs []
+at-end : (i : Intake) (n : ℕ) (line dirs : List ℕ) → n < largestCount
+    → finished (within i n 0 line dirs) ≡ readFrom i n dirs []
 unfolding finished lastLine endRead readFrom
 at-end i n line dirs h = rw (next-line n h)
 
 -- a file of one line, or none, that lacks its line feed
-read-last : (i : Intake) (n held : ℕ) (s line dirs : List ℕ) → Present s line held → n + length s < largestCount → finished (within i n held line dirs) ≡ readFrom i n dirs (linesOf s)
+read-last : (i : Intake) (n held : ℕ) (s line dirs : List ℕ) → Present s line held → n + length s < largestCount
+    → finished (within i n held line dirs) ≡ readFrom i n dirs (linesOf s)
 unfolding linesOf feedAll readFrom
 read-last i n held [] line dirs is h = rw (is .count) (at-end i n line dirs (omega arith))
-read-last i n held (b ∷ s) line dirs is h = finish-line i n held (b ∷ s) line dirs is (omega arith) some ∙ after ∙ sym lines
+read-last i n held (b ∷ s) line dirs is h =
+    finish-line i n held (b ∷ s) line dirs is (omega arith) some ∙ after ∙ sym lines
   where
     some : held ≡ 0 → ⊥
     some z = omega (arith, is .count)
@@ -178,7 +189,8 @@ read-last i n held (b ∷ s) line dirs is h = finish-line i n held (b ∷ s) lin
 
     after : finished (endedBy a (suc n) line) ≡ readFrom i n dirs ((b ∷ s) ∷ [])
     after =
-        after-line (a .taken .intake) (a .taken .outcome) (suc n) line (a .dirs) [] (readFrom (a .taken .intake) (suc n) (a .dirs) [])
+        after-line (a .taken .intake) (a .taken .outcome) (suc n) line (a .dirs) []
+        (readFrom (a .taken .intake) (suc n) (a .dirs) [])
         (λ e. at-end (a .taken .intake) (suc n) line (a .dirs) (omega arith))
 
     lines : readFrom i n dirs (linesOf (b ∷ s)) ≡ readFrom i n dirs ((b ∷ s) ∷ [])
@@ -186,20 +198,26 @@ read-last i n held (b ∷ s) line dirs is h = finish-line i n held (b ∷ s) lin
 
 -- these bytes, after any part of a line, are read as lines
 abbrev ReadOn : List ℕ → Type 0
-ReadOn bytes = (i : Intake) (n held : ℕ) (s line dirs : List ℕ) → Present s line held → n + length s + length bytes < largestCount → finished (feedAll (within i n held line dirs) bytes) ≡ readFrom i n dirs (linesOf (s ++ bytes))
+ReadOn bytes =
+    (i : Intake) (n held : ℕ) (s line dirs : List ℕ) → Present s line held → n + length s + length bytes < largestCount
+    → finished (feedAll (within i n held line dirs) bytes) ≡ readFrom i n dirs (linesOf (s ++ bytes))
 
 read-feed : (bytes : List ℕ) → ReadOn bytes → ReadOn (10 ∷ bytes)
 unfolding feedAll byteAfter readFrom
 read-feed bytes on i n held s line dirs is h =
     let a : After = lineAfter i s dirs in
     ap (λ (x : Reading). finished (feedAll x bytes)) (line-ended i n held s line dirs is (omega arith))
-    ∙ after-line (a .taken .intake) (a .taken .outcome) (suc n) line (a .dirs) bytes (readFrom (a .taken .intake) (suc n) (a .dirs) (linesOf bytes))
+    ∙ after-line (a .taken .intake) (a .taken .outcome) (suc n) line (a .dirs) bytes
+    (readFrom (a .taken .intake) (suc n) (a .dirs) (linesOf bytes))
     (λ e. on (a .taken .intake) (suc n) 0 [] line (a .dirs) (present-none line (is .room)) (omega arith))
     ∙ sym (ap (readFrom i n dirs) (lines-feed s bytes (is .no-feed)))
 
 module _ (b : ℕ) (bytes : List ℕ) (other : b ≡ 10 → ⊥) (on : ReadOn bytes) where
   -- the reader after the byte holds one byte more
-  read-more : (i : Intake) (n held held′ : ℕ) (s line line′ dirs : List ℕ) → byteAfter (within i n held line dirs) b ≡ within i n held′ line′ dirs → Present (s ++ (b ∷ [])) line′ held′ → n + length s + suc (length bytes) < largestCount → finished (feedAll (within i n held line dirs) (b ∷ bytes)) ≡ readFrom i n dirs (linesOf (s ++ b ∷ bytes))
+  read-more : (i : Intake) (n held held′ : ℕ) (s line line′ dirs : List ℕ)
+      → byteAfter (within i n held line dirs) b ≡ within i n held′ line′ dirs → Present
+      (s ++ (b ∷ [])) line′ held′ → n + length s + suc (length bytes) < largestCount → finished
+      (feedAll (within i n held line dirs) (b ∷ bytes)) ≡ readFrom i n dirs (linesOf (s ++ b ∷ bytes))
   unfolding feedAll
   read-more i n held held′ s line line′ dirs e is h =
       ap (λ (x : Reading). finished (feedAll x bytes)) e
@@ -229,13 +247,16 @@ read-byte b bytes on = go (eqb b 10) refl
 
 read-on : (bytes : List ℕ) → ReadOn bytes
 unfolding feedAll
-read-on [] i n held s line dirs is h = read-last i n held s line dirs is (omega arith) ∙ ap (λ (x : List ℕ). readFrom i n dirs (linesOf x)) (sym (append-nil s))
+read-on [] i n held s line dirs is h =
+    read-last i n held s line dirs is (omega arith) ∙ ap (λ (x : List ℕ). readFrom i n dirs (linesOf x))
+    (sym (append-nil s))
 read-on (b ∷ bytes) i n held s line dirs is h = read-byte b bytes (read-on bytes) i n held s line dirs is h
 
 -- ---- the whole file
 
 -- fewer than 2^64 - 1 bytes: then all line numbers are below 2^64
-pub read-whole : (bytes line dirs : List ℕ) → length line ≡ 80 → length bytes < largestCount → finished (feedAll (started line dirs) bytes) ≡ readFile dirs bytes
+pub read-whole : (bytes line dirs : List ℕ) → length line ≡ 80 → length bytes < largestCount
+    → finished (feedAll (started line dirs) bytes) ≡ readFile dirs bytes
 unfolding readFile
 read-whole bytes line dirs room h = read-on bytes newIntake 0 0 [] line dirs (present-none line room) (omega arith)
 
@@ -247,7 +268,9 @@ feed-pieces s (p ∷ ps) = feed-pieces (feedAll s p) ps ∙ sym (feed-append s p
 -- however the file is cut, it is read as its lines are
 pub read-in-pieces : ReadInPieces
 read-in-pieces = record {
-  as-lines = λ pieces line dirs room h. ap finished (feed-pieces (started line dirs) pieces) ∙ read-whole (joined pieces) line dirs room h;
+  as-lines =
+      λ pieces line dirs room h. ap finished (feed-pieces (started line dirs) pieces) ∙ read-whole
+      (joined pieces) line dirs room h;
 }
 
 -- ---- the refusal

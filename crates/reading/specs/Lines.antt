@@ -12,8 +12,8 @@ use Rattle.lines.specs.Fields.{longer}
 use Rattle.reading.specs.declared.Read.{Read}
 use Rattle.reading.specs.declared.Read.the-variants.{Refused, Ended}
 
--- The bytes of a file parted at each line feed. The last line may lack its line feed: "a" and "a" with a line feed are one
--- line, a line feed alone is an empty line, and no bytes are no line.
+-- The bytes of a file parted at each line feed. The last line may lack its line feed: "a" and "a" with a line feed are
+-- one line, a line feed alone is an empty line, and no bytes are no line.
 unfoldable pub linesOf : List ℕ → List (List ℕ)
 linesOf [] = []
 linesOf (b ∷ s) =
@@ -48,8 +48,8 @@ unfoldable pub endAfter : Intake → ℕ → Read
 unfolding onOutcome
 endAfter i place = onOutcome (endTaken i .outcome) (Ended (endTaken i .intake)) (λ number. Refused number place)
 
--- The lines after n lines, and the end: "Place is the line number, from 1, if the intake refused a line; lines read plus 1 if it
--- refused the end".
+-- The lines after n lines, and the end: "Place is the line number, from 1, if the intake refused a line; lines read
+-- plus 1 if it refused the end".
 unfoldable pub readFrom : Intake → ℕ → List ℕ → List (List ℕ) → FileRead
 unfolding onOutcome
 readFrom i n dirs [] = record { read = endAfter i (suc n); dirs = dirs }

@@ -1,4 +1,5 @@
--- The statements that a file is read as its lines are, however its bytes are cut into chunks, and that a refusal ends it.
+-- The statements that a file is read as its lines are, however its bytes are cut into chunks, and that a refusal ends
+-- it.
 use mathlib.Core.Path.{_≡_}
 use mathlib.Core.Bool.{true}
 use mathlib.Core.List.{List, [], _∷_, _++_}
@@ -29,7 +30,8 @@ readPieces line dirs pieces = finished (feedPieces (started line dirs) pieces)
 
 -- Files of fewer than 2^64 - 1 bytes: line numbers are then below 2^64.
 pub record ReadInPieces : Type 0 where
-  pub as-lines : (pieces : List (List ℕ)) (line dirs : List ℕ) → length line ≡ lineBytes → length (joined pieces) < largestCount
+  pub as-lines : (pieces : List (List ℕ)) (line dirs : List ℕ) → length line ≡ lineBytes
+      → length (joined pieces) < largestCount
       → readPieces line dirs pieces ≡ readFile dirs (joined pieces)
 
 -- no byte is a line feed
@@ -37,7 +39,8 @@ abbrev pub NoFeed : List ℕ → Type 0
 NoFeed [] = Unit
 NoFeed (b ∷ s) = (b ≡ lineFeed → ⊥) × NoFeed s
 
--- Once a line is refused, more bytes change nothing. A line of more than 80 bytes is refused before its line feed comes.
+-- Once a line is refused, more bytes change nothing. A line of more than 80 bytes is refused before its line feed
+-- comes.
 pub record StopsAtRefusal : Type 0 where
   pub no-change : (s : Reading) (bytes : List ℕ) → isRefused (s .reader) ≡ true
       → finished (feedAll s bytes) ≡ finished s

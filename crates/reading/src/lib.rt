@@ -105,7 +105,8 @@ fn feed_byte(reader: Reader, byte: u8, line: &mut [u8; LINE_BYTES], dirs: &mut [
 
 // A last line that lacks its line feed.
 fn last_line(reader: Reader, line: &[u8; LINE_BYTES], dirs: &mut [u8]) -> Reader
-    ensures { λ r. ⌜ record { reader = r; line = now (line .entry); dirs = now (dirs .exit) } ≡ lastLine (record { reader = reader; line = now (line .entry); dirs = now (dirs .entry) }) ⌝ }
+    ensures { λ r. ⌜ record { reader = r; line = now (line .entry); dirs = now (dirs .exit) }
+        ≡ lastLine (record { reader = reader; line = now (line .entry); dirs = now (dirs .entry) }) ⌝ }
 {
     let outcome = reader.outcome;
     let TakenOutcome::Accepted = outcome else {
@@ -157,7 +158,9 @@ impl Reader {
 
     // The next bytes of the file.
     pub fn feed(self, chunk: &[u8], line: &mut [u8; LINE_BYTES], dirs: &mut [u8]) -> Self
-        ensures { λ r. ⌜ record { reader = r; line = now (line .exit); dirs = now (dirs .exit) } ≡ feedAll (record { reader = self; line = now (line .entry); dirs = now (dirs .entry) }) (now (chunk .entry)) ⌝ }
+        ensures { λ r. ⌜ record { reader = r; line = now (line .exit); dirs = now (dirs .exit) }
+            ≡ feedAll (record { reader = self; line = now (line .entry); dirs = now (dirs .entry) })
+            (now (chunk .entry)) ⌝ }
     {
         let mut reader = self;
         let mut i = 0;
@@ -181,8 +184,11 @@ impl Reader {
 
     // The end of the file.
     pub fn finish(self, line: &[u8; LINE_BYTES], dirs: &mut [u8]) -> Read
-        ensures file { λ r. ⌜ record { read = r; dirs = now (dirs .exit) } ≡ finished (record { reader = self; line = now (line .entry); dirs = now (dirs .entry) }) ⌝ }
-        ensures values { λ r. ⌜ readValues r ≡ readValues (finished (record { reader = self; line = now (line .entry); dirs = now (dirs .entry) }) .read) ⌝ }
+        ensures file { λ r. ⌜ record { read = r; dirs = now (dirs .exit) }
+            ≡ finished (record { reader = self; line = now (line .entry); dirs = now (dirs .entry) }) ⌝ }
+        ensures values { λ r. ⌜ readValues r
+            ≡ readValues (finished
+            (record { reader = self; line = now (line .entry); dirs = now (dirs .entry) }) .read) ⌝ }
     {
         let reader = last_line(self, line, dirs);
         end_read(reader)

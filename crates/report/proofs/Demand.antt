@@ -40,7 +40,8 @@ ending-numbered (labelled {z} r) = tt
 abbrev lent2 : Lent
 lent2 = record { areas = replicate 2 0; labels = replicate 2 0; work = replicate 16 0 }
 
-abbrev refusedWith : (number place : ℕ) (bytes : List ℕ) → fileVerdict (0 ∷ 0 ∷ []) lent2 bytes ≡ Refused number place → RefusedWith number
+abbrev refusedWith : (number place : ℕ) (bytes : List ℕ) → fileVerdict (0 ∷ 0 ∷ []) lent2 bytes ≡ Refused number place
+    → RefusedWith number
 refusedWith number place bytes e = record { dirs = 0 ∷ 0 ∷ []; lent = lent2; bytes = bytes; place = place; verdict = e }
 
 refused-each : AllOf RefusedWith fileNumbers
@@ -97,6 +98,7 @@ demand-one = record {
   listed = file-listed;
   apart = listing-no-refusal;
   in-pieces = λ pieces line dirs buffer L room few.
-      ap (λ (f : FileRead). reportInto (f .read) (f .dirs) L buffer) (read-in-pieces .as-lines pieces line dirs room few);
+      ap (λ (f : FileRead). reportInto (f .read) (f .dirs) L buffer)
+      (read-in-pieces .as-lines pieces line dirs room few);
   fits = program-report;
 }

@@ -45,25 +45,31 @@ one-more : (i : Intake) (n : ℕ) (dirs line : List ℕ) (lines : List (List ℕ
     → ReadEnding (lineAfter i line dirs .taken .intake) (suc n) (lineAfter i line dirs .dirs) lines f
     → ReadEnding i n dirs (line ∷ lines) f
 one-more i n dirs line lines f e (at-line before after bad j d number parts t r is) =
-    at-line (line ∷ before) after bad j d number (ap (λ (x : List (List ℕ)). line ∷ x) parts) (takes-line line e t) r (is ∙ later number n (suc (length before)))
-one-more i n dirs line lines f e (at-end j d number t r is) = at-end j d number (takes-line line e t) r (is ∙ later number n (suc (length lines)))
+    at-line (line ∷ before) after bad j d number (ap (λ (x : List (List ℕ)). line ∷ x) parts) (takes-line line e t) r
+    (is ∙ later number n (suc (length before)))
+one-more i n dirs line lines f e (at-end j d number t r is) =
+    at-end j d number (takes-line line e t) r (is ∙ later number n (suc (length lines)))
 one-more i n dirs line lines f e (ended j d t r is) = ended j d (takes-line line e t) r is
 
-at-end-ending : (i : Intake) (n : ℕ) (dirs : List ℕ) (o : TakenOutcome) → endTaken i .outcome ≡ o → ReadEnding i n dirs [] (readFrom i n dirs [])
+at-end-ending : (i : Intake) (n : ℕ) (dirs : List ℕ) (o : TakenOutcome) → endTaken i .outcome ≡ o
+    → ReadEnding i n dirs [] (readFrom i n dirs [])
 unfolding readFrom endAfter
 at-end-ending i n dirs Accepted e = ended i dirs takes-none e (rw e)
-at-end-ending i n dirs (RefusedBy number) e = at-end i dirs number takes-none e (rw e (ap (Refused number) (omega arith)))
+at-end-ending i n dirs (RefusedBy number) e =
+    at-end i dirs number takes-none e (rw e (ap (Refused number) (omega arith)))
 
 at-line-ending : (i : Intake) (n : ℕ) (dirs line : List ℕ) (lines : List (List ℕ)) (o : TakenOutcome)
     → lineAfter i line dirs .taken .outcome ≡ o
-    → ReadEnding (lineAfter i line dirs .taken .intake) (suc n) (lineAfter i line dirs .dirs) lines (readFrom (lineAfter i line dirs .taken .intake) (suc n) (lineAfter i line dirs .dirs) lines)
+    → ReadEnding (lineAfter i line dirs .taken .intake) (suc n) (lineAfter i line dirs .dirs) lines
+    (readFrom (lineAfter i line dirs .taken .intake) (suc n) (lineAfter i line dirs .dirs) lines)
     → ReadEnding i n dirs (line ∷ lines) (readFrom i n dirs (line ∷ lines))
 unfolding readFrom
 at-line-ending i n dirs line lines Accepted e rest = rw e (one-more i n dirs line lines _ e rest)
 at-line-ending i n dirs line lines (RefusedBy number) e rest =
     at-line [] lines line i dirs number refl takes-none e (rw e (ap (Refused number) (omega arith)))
 
-pub read-ending : (lines : List (List ℕ)) (i : Intake) (n : ℕ) (dirs : List ℕ) → ReadEnding i n dirs lines (readFrom i n dirs lines)
+pub read-ending : (lines : List (List ℕ)) (i : Intake) (n : ℕ) (dirs : List ℕ)
+    → ReadEnding i n dirs lines (readFrom i n dirs lines)
 read-ending [] i n dirs = at-end-ending i n dirs (endTaken i .outcome) refl
 read-ending (line ∷ lines) i n dirs =
     at-line-ending i n dirs line lines (lineAfter i line dirs .taken .outcome) refl
@@ -81,7 +87,8 @@ end-accepted (AtEnd z) e = let y : _≡_ {A = ℕ} 0 1 = cc in absurd (omega ari
 
 module _ (dirs : List ℕ) (L : Lent) (bytes : List ℕ) where
   sheet-ending : {z : Sizes} (file : FileEnded dirs bytes z) (o : LabelOutcome)
-      → outcome (sheet (z .rows) (z .cols) (z .depth) (file .lines .held)) L ≡ o → Ending dirs L bytes (sheetVerdict z o)
+      → outcome (sheet (z .rows) (z .cols) (z .depth) (file .lines .held)) L ≡ o → Ending dirs L bytes
+      (sheetVerdict z o)
   unfolding sheetVerdict
   sheet-ending {z} file Passed e = labelled (record { file = file; accepted = e })
   sheet-ending {z} file (NotLabelled number place) e =
@@ -96,7 +103,8 @@ module _ (dirs : List ℕ) (L : Lent) (bytes : List ℕ) where
         let file : FileEnded dirs bytes z = record { lines = record { intake = i; held = d; takes = takes }; ended = a .1 } in
         rw (a .1) (sheet-ending file (outcome (sheet (z .rows) (z .cols) (z .depth) d) L) refl)
 
-  from-reading : (f : FileRead) → ReadEnding newIntake 0 dirs (linesOf bytes) f → Ending dirs L bytes (verdictOf (f .read) (f .dirs) L)
+  from-reading : (f : FileRead) → ReadEnding newIntake 0 dirs (linesOf bytes) f
+      → Ending dirs L bytes (verdictOf (f .read) (f .dirs) L)
   unfolding verdictOf
   from-reading f (at-line before after line j d number parts t r is) =
       rw is
@@ -127,6 +135,8 @@ module _ (dirs : List ℕ) (L : Lent) (bytes : List ℕ) where
   file-ending = from-reading (readFrom newIntake 0 dirs (linesOf bytes)) (read-ending (linesOf bytes) newIntake 0 dirs)
 
 -- a listing is no refusal: the second byte tells
-pub listing-no-refusal : (G : Grid) (areas labels : List ℕ) (number place : ℕ) → listingText G areas labels ≡ refusalText number place → ⊥
+pub listing-no-refusal : (G : Grid) (areas labels : List ℕ) (number place : ℕ)
+    → listingText G areas labels ≡ refusalText number place → ⊥
 unfolding listingText refusalText
-listing-no-refusal G areas labels number place e = let second : _≡_ {A = ℕ} 111 101 = ap (λ (s : List ℕ). getD s 1 0) e in omega arith
+listing-no-refusal G areas labels number place e =
+    let second : _≡_ {A = ℕ} 111 101 = ap (λ (s : List ℕ). getD s 1 0) e in omega arith

@@ -40,18 +40,22 @@ read-accepted (NotRead number place) dirs L z e = let y : _≡_ {A = ℕ} 0 1 = 
 read-accepted (Ended i) dirs L z e = sizes-accepted (endedSizes (i .stage)) dirs L z e
 
 module _ (dirs : List ℕ) (L : Lent) (bytes : List ℕ) where
-  report-is : {v : Verdict} → fileVerdict dirs L bytes ≡ v → report dirs L bytes ≡ reportText v (readFile dirs bytes .dirs) (fileLent dirs L bytes)
+  report-is : {v : Verdict} → fileVerdict dirs L bytes ≡ v
+      → report dirs L bytes ≡ reportText v (readFile dirs bytes .dirs) (fileLent dirs L bytes)
   unfolding report
   report-is e = ap (λ (v : Verdict). reportText v (readFile dirs bytes .dirs) (fileLent dirs L bytes)) e
 
-  pub file-refused : (number place : ℕ) → fileVerdict dirs L bytes ≡ Refused number place → report dirs L bytes ≡ refusalText number place
+  pub file-refused : (number place : ℕ) → fileVerdict dirs L bytes ≡ Refused number place
+      → report dirs L bytes ≡ refusalText number place
   unfolding reportText
   file-refused number place e = report-is e
 
-  pub file-listed : (z : Sizes) → fileVerdict dirs L bytes ≡ Labelled z → report dirs L bytes ≡ sheetListing (fileSheet dirs bytes z)
+  pub file-listed : (z : Sizes) → fileVerdict dirs L bytes ≡ Labelled z
+      → report dirs L bytes ≡ sheetListing (fileSheet dirs bytes z)
   unfolding fileVerdict fileLent
   file-listed z e = report-is e ∙ read-listed (readFile dirs bytes .read) (readFile dirs bytes .dirs) L z e
 
-  pub file-accepted : (z : Sizes) → fileVerdict dirs L bytes ≡ Labelled z → outcome (fileSheet dirs bytes z) L ≡ Accepted
+  pub file-accepted : (z : Sizes) → fileVerdict dirs L bytes ≡ Labelled z
+      → outcome (fileSheet dirs bytes z) L ≡ Accepted
   unfolding fileVerdict
   file-accepted z e = read-accepted (readFile dirs bytes .read) (readFile dirs bytes .dirs) L z e

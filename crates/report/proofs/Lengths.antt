@@ -54,7 +54,8 @@ lines-most (b ∷ s) = go (eqb b 10) refl (lines-most s)
     go true e h = rw e (omega arith)
     go false e h = rw e (omega (arith, longer-length b (linesOf s)))
 
-takes-length : {i j : Intake} {dirs d : List ℕ} {lines : List (List ℕ)} → Takes i dirs lines j d → length d ≡ length dirs
+takes-length : {i j : Intake} {dirs d : List ℕ} {lines : List (List ℕ)} → Takes i dirs lines j d
+    → length d ≡ length dirs
 takes-length takes-none = refl
 takes-length (takes-line {i} {j} {dirs} line e t) = takes-length t ∙ line-length i line dirs
 
@@ -75,8 +76,16 @@ module _ (S : Sheet) (L : Lent) (accepted : outcome S L ≡ Accepted) where
     where
       go : (t : Bool) → inside (S .grid) c ≡ t → labelOf S c < 10 ^ 18
       go true e =
-          let few : length (labelDigits S c) ≤ 18 = omega (arith, at-most-depth S L accepted c, depth-most (S .depth) (accepted-passed S L accepted .depth)) in
-          rw e (omega (arith, number-bound (labelDigits S c) (one-to-nine S L accepted c e), pow-le-pow-right {n = 10} (omega arith) few))
+          let few : length (labelDigits S c) ≤ 18 = omega (
+            arith,
+            at-most-depth S L accepted c,
+            depth-most (S .depth) (accepted-passed S L accepted .depth),
+          ) in
+          rw e (omega (
+            arith,
+            number-bound (labelDigits S c) (one-to-nine S L accepted c e),
+            pow-le-pow-right {n = 10} (omega arith) few,
+          ))
       go false e = rw e (omega arith)
 
   pub listed-most : length (listingText (S .grid) (areasOf S) (labelsOf S)) ≤ 19 + cells (S .grid) * 33
@@ -84,7 +93,8 @@ module _ (S : Sheet) (L : Lent) (accepted : outcome S L ≡ Accepted) where
   listed-most =
       let n = cells (S .grid) in
       let most = rows-cols-most (S .grid .rows) (S .grid .cols) (accepted-passed S L accepted .sizes) in
-      rw (← listing-written (S .grid) (areasOf S) (labelsOf S) [] [] (length-list (area S) 0 n) (length-list (labelOf S) 0 n))
+      rw (← listing-written (S .grid) (areasOf S) (labelsOf S) [] [] (length-list (area S) 0 n)
+      (length-list (labelOf S) 0 n))
       (listing-most-18-digits (S .grid) (written (areasOf S) []) (written (labelsOf S) []) (most .0) (most .1)
       (λ c l. rw (written-at (area S) n c [] l) (area-small (cells-most (most .0) (most .1)) c))
       (λ c l. rw (written-at (labelOf S) n c [] l) (label-small c)))
@@ -102,7 +112,10 @@ module _ (dirs : List ℕ) (L : Lent) (bytes : List ℕ) (few : length bytes < l
 
   ending-small : {v : Verdict} → Ending dirs L bytes v → Small v
   ending-small (line-refused {number} {place} r) = (
-    small lineNumbers (omega arith, (omega arith, (omega arith, (omega arith, (omega arith, (omega arith, (omega arith, tt))))))) number (r .number-is),
+    small lineNumbers (
+      omega arith,
+      (omega arith, (omega arith, (omega arith, (omega arith, (omega arith, (omega arith, tt)))))),
+    ) number (r .number-is),
     omega (arith, r .place-is, lines-most bytes, ap length (r .lines) ∙ length-append (r .before) (r .line ∷ r .after)),
   )
   ending-small (end-refused {number} {place} r) = (
@@ -110,7 +123,10 @@ module _ (dirs : List ℕ) (L : Lent) (bytes : List ℕ) (few : length bytes < l
     omega (arith, r .place-is, lines-most bytes),
   )
   ending-small (sheet-refused {number} {place} r) = (
-    small sheetNumbers (omega arith, (omega arith, (omega arith, (omega arith, (omega arith, tt))))) number (r .number-is),
+    small sheetNumbers (
+      omega arith,
+      (omega arith, (omega arith, (omega arith, (omega arith, tt)))),
+    ) number (r .number-is),
     omega (arith, file-number (r .file) L number place (r .refused) .1),
   )
   ending-small (labelled {z} r) = omega (arith, file-fits (r .file) .lent-enough, takes-length (r .file .lines .takes))
@@ -118,7 +134,10 @@ module _ (dirs : List ℕ) (L : Lent) (bytes : List ℕ) (few : length bytes < l
   module _ (most : ℕ) (refusal : 39 ≤ most) (listing : 19 + length dirs * 33 ≤ most) where
     verdict-most : (v : Verdict) → fileVerdict dirs L bytes ≡ v → Small v → length (report dirs L bytes) ≤ most
     verdict-most (Refused number place) e s =
-        rw (file-refused dirs L bytes number place e) (omega (arith, refusal-most number place (omega (arith, s .0)) (s .1)))
+        rw (file-refused dirs L bytes number place e) (omega (
+          arith,
+          refusal-most number place (omega (arith, s .0)) (s .1),
+        ))
     verdict-most (Labelled z) e s =
         rw (file-listed dirs L bytes z e)
         (omega (arith, listed-most (fileSheet dirs bytes z) L (file-accepted dirs L bytes z e), mul-le-mul-right 33 s))

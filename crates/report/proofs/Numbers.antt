@@ -46,11 +46,13 @@ abbrev pub AllOf : (ℕ → Type 0) → List ℕ → Type 0
 AllOf P [] = Unit
 AllOf P (n ∷ numbers) = P n × AllOf P numbers
 
-pub one-of : (P : ℕ → Type 0) (numbers : List ℕ) → AllOf P numbers → (number : ℕ) → oneOf numbers number ≡ true → P number
+pub one-of : (P : ℕ → Type 0) (numbers : List ℕ) → AllOf P numbers → (number : ℕ) → oneOf numbers number ≡ true
+    → P number
 one-of P [] all number e = absurd (false≢true e)
 one-of P (n ∷ numbers) all number e = go (eqb number n) refl e (λ later. one-of P numbers (all .1) number later)
   where
-    go : (t : Bool) → eqb number n ≡ t → cond t true (oneOf numbers number) ≡ true → (oneOf numbers number ≡ true → P number) → P number
+    go : (t : Bool) → eqb number n ≡ t → cond t true (oneOf numbers number) ≡ true
+        → (oneOf numbers number ≡ true → P number) → P number
     go true h e others = rw (eqb-true number n h) (all .0)
     go false h e others = others e
 
@@ -75,7 +77,8 @@ sizes-fault z lent =
 cell-fault : (z : Sizes) (x : Cell) (dirs : List ℕ) → Fault (cellFault z x dirs)
 unfolding cellFault
 cell-fault z x dirs =
-    checks-fault (onSheet z x) (isCode (x .dir)) (eqb (getD dirs (cellNumber (z .cols) (x .row) (x .col)) 0) 0) 10 4 9 refl refl refl
+    checks-fault (onSheet z x) (isCode (x .dir))
+    (eqb (getD dirs (cellNumber (z .cols) (x .row) (x .col)) 0) 0) 10 4 9 refl refl refl
 
 state-fault : (s : Stage) (lent : ℕ) → Fault (stateFault s lent)
 unfolding stateFault
@@ -101,7 +104,8 @@ Going (Refused number) s = oneOf lineNumbers number ≡ true
 abbrev Fine : Taken → Type 0
 Fine t = Going (t .outcome) (t .intake .stage)
 
-unless-fine : (fault : ℕ) (s : Stage) (dirs : List ℕ) (next : After) → Fault fault → Fine (next .taken) → Fine (unless fault s dirs next .taken)
+unless-fine : (fault : ℕ) (s : Stage) (dirs : List ℕ) (next : After) → Fault fault → Fine (next .taken)
+    → Fine (unless fault s dirs next .taken)
 unfolding unless
 unless-fine fault s dirs next h g = go (eqb fault 0) h
   where
@@ -123,7 +127,8 @@ on-sizes : (c : Columns) (v : ValuesLine) (dirs : List ℕ) → Fine (onSizes c 
 unfolding onSizes
 on-sizes c (Valued v) dirs =
     let z : Sizes = sizesIn c v in
-    unless-fine (sizesFault z (length dirs)) (WaitingForSizes c) dirs (accept (WaitingForCellNames z) (sizesWritten z dirs))
+    unless-fine (sizesFault z (length dirs)) (WaitingForSizes c) dirs
+    (accept (WaitingForCellNames z) (sizesWritten z dirs))
     (sizes-fault z (length dirs)) tt
 on-sizes c BadValues dirs = refl
 
@@ -158,11 +163,13 @@ line-on : (i : Intake) (line dirs : List ℕ) → NotEnded (i .stage) → lineAf
 line-on i line dirs n e = rw e at (line-fine i line dirs n)
 
 -- accepted lines do not end the intake, and reach its state
-pub takes-on : {i j : Intake} {dirs d : List ℕ} {lines : List (List ℕ)} → Takes i dirs lines j d → NotEnded (i .stage) → NotEnded (j .stage)
+pub takes-on : {i j : Intake} {dirs d : List ℕ} {lines : List (List ℕ)} → Takes i dirs lines j d → NotEnded (i .stage)
+    → NotEnded (j .stage)
 takes-on takes-none n = n
 takes-on (takes-line {i} {j} {dirs} line e t) n = takes-on t (line-on i line dirs n e)
 
-pub takes-reached : {i j : Intake} {dirs d : List ℕ} {lines : List (List ℕ)} → Takes i dirs lines j d → Reached i dirs → Reached j d
+pub takes-reached : {i j : Intake} {dirs d : List ℕ} {lines : List (List ℕ)} → Takes i dirs lines j d → Reached i dirs
+    → Reached j d
 takes-reached takes-none r = r
 takes-reached (takes-line {i} {j} {dirs} line e t) r = takes-reached t (by-line r line e)
 
@@ -180,7 +187,8 @@ end-in-fine (WaitingForCellNames z) n = refl
 end-in-fine (TakingCells z c) n = tt
 end-in-fine (Ended z) n = absurd n
 
-pub end-number : (i : Intake) (number : ℕ) → NotEnded (i .stage) → endTaken i .outcome ≡ Refused number → oneOf endNumbers number ≡ true
+pub end-number : (i : Intake) (number : ℕ) → NotEnded (i .stage) → endTaken i .outcome ≡ Refused number
+    → oneOf endNumbers number ≡ true
 unfolding endTaken
 end-number i number n e = rw e at (end-in-fine (i .stage) n)
 
@@ -236,10 +244,18 @@ sheet-or true x y hx hy = hx
 sheet-or false x y hx hy = hy
 
 -- sizes within document 01's bounds pass the first two checks
-module _ (S : Sheet) (L : Lent) (rows-some : 1 ≤ S .grid .rows) (rows-most : S .grid .rows ≤ 256) (cols-some : 1 ≤ S .grid .cols) (cols-most : S .grid .cols ≤ 256) (depth-some : 1 ≤ S .depth) (depth-most : S .depth ≤ 18) where
+module _ (S : Sheet) (L : Lent) (rows-some : 1 ≤ S .grid .rows) (rows-most : S .grid .rows ≤ 256)
+    (cols-some : 1 ≤ S .grid .cols) (cols-most : S .grid .cols ≤ 256) (depth-some : 1 ≤ S .depth)
+    (depth-most : S .depth ≤ 18) where
   sizes-passed : sizesFit (S .grid .rows) (S .grid .cols) ≡ true
   unfolding sizesFit
-  sizes-passed = rw (le-leb 1 (S .grid .rows) rows-some, le-leb (S .grid .rows) 256 rows-most, le-leb 1 (S .grid .cols) cols-some, le-leb (S .grid .cols) 256 cols-most)
+  sizes-passed =
+      rw (
+        le-leb 1 (S .grid .rows) rows-some,
+        le-leb (S .grid .rows) 256 rows-most,
+        le-leb 1 (S .grid .cols) cols-some,
+        le-leb (S .grid .cols) 256 cols-most,
+      )
 
   depth-passed : depthFits (S .depth) ≡ true
   unfolding depthFits
@@ -250,21 +266,26 @@ module _ (S : Sheet) (L : Lent) (rows-some : 1 ≤ S .grid .rows) (rows-most : S
   outcome-fine =
       rw (sizes-passed, depth-passed)
       (sheet-or (slicesFit (S .grid) L) (outcomeOn (S .grid)) (NotLabelled 3 0)
-      (sheet-widened (cells (S .grid)) 65536 (outcomeOn (S .grid)) (cells-most rows-most cols-most) (outcome-on-fine (S .grid)))
+      (sheet-widened (cells (S .grid)) 65536 (outcomeOn (S .grid)) (cells-most rows-most cols-most)
+      (outcome-on-fine (S .grid)))
       (refl, omega arith))
 
-  pub sheet-number : (number place : ℕ) → outcome S L ≡ NotLabelled number place → (oneOf sheetNumbers number ≡ true) × (place ≤ 65536)
+  pub sheet-number : (number place : ℕ) → outcome S L ≡ NotLabelled number place
+      → (oneOf sheetNumbers number ≡ true) × (place ≤ 65536)
   sheet-number number place e = rw e at outcome-fine
 
 -- the sizes of a file whose lines and end are accepted are within document 01's bounds
 pub file-fits : {dirs bytes : List ℕ} {z : Sizes} (file : FileEnded dirs bytes z) → Fits z (length (file .lines .held))
 file-fits {dirs} {bytes} {z} file =
-    let holds : Holds (endTaken (file .lines .intake) .intake .stage) z = rw (ap (λ (t : Taken). t .intake .stage) (file .ended)) ended in
-    reached-sizes (by-end (takes-reached (file .lines .takes) (at-start dirs)) (ap (λ (t : Taken). t .outcome) (file .ended))) holds
+    let holds : Holds (endTaken (file .lines .intake) .intake .stage) z = rw
+    (ap (λ (t : Taken). t .intake .stage) (file .ended)) ended in
+    reached-sizes
+    (by-end (takes-reached (file .lines .takes) (at-start dirs)) (ap (λ (t : Taken). t .outcome) (file .ended))) holds
 
 pub file-number : {dirs bytes : List ℕ} {z : Sizes} (file : FileEnded dirs bytes z) (L : Lent) (number place : ℕ)
     → outcome (sheet (z .rows) (z .cols) (z .depth) (file .lines .held)) L ≡ NotLabelled number place
     → (oneOf sheetNumbers number ≡ true) × (place ≤ 65536)
 file-number {dirs} {bytes} {z} file L number place e =
     let f = file-fits file in
-    sheet-number (sheet (z .rows) (z .cols) (z .depth) (file .lines .held)) L (f .rows-some) (f .rows-most) (f .cols-some) (f .cols-most) (f .depth-some) (f .depth-most) number place e
+    sheet-number (sheet (z .rows) (z .cols) (z .depth) (file .lines .held)) L (f .rows-some) (f .rows-most)
+    (f .cols-some) (f .cols-most) (f .depth-some) (f .depth-most) number place e

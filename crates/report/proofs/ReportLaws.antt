@@ -37,9 +37,12 @@ use Rattle.report.specs.Demand.{sheetListing}
 module _ (S : Sheet) (L : Lent) (accepted : outcome S L ≡ Accepted) where
   pub dirs-long : cells (S .grid) ≤ length (S .grid .dirs)
   unfolding slicesFit
-  dirs-long = leb-true _ _ (both-true (leb (cells (S .grid)) (length (S .grid .dirs))) _ (accepted-passed S L accepted .slices) .0)
+  dirs-long =
+      leb-true _ _
+      (both-true (leb (cells (S .grid)) (length (S .grid .dirs))) _ (accepted-passed S L accepted .slices) .0)
 
-  written-long : (new old : List ℕ) → length new ≡ cells (S .grid) → cells (S .grid) ≤ length (ifAccepted (outcome S L) new old)
+  written-long : (new old : List ℕ) → length new ≡ cells (S .grid)
+      → cells (S .grid) ≤ length (ifAccepted (outcome S L) new old)
   written-long new old e = rw accepted (simp length-append (omega arith))
 
   pub areas-long : cells (S .grid) ≤ length (lentAfter S L .areas)
@@ -54,13 +57,16 @@ module _ (S : Sheet) (L : Lent) (accepted : outcome S L ≡ Accepted) where
   sheet-into : (buffer : List ℕ) → listingInto (S .grid) (lentAfter S L .areas) (lentAfter S L .labels) buffer
       ≡ textInto (listingText (S .grid) (lentAfter S L .areas) (lentAfter S L .labels)) buffer
   sheet-into buffer =
-      listing-into (S .grid .rows) (S .grid .cols) (S .grid .dirs) (lentAfter S L .areas) (lentAfter S L .labels) buffer (accepted-passed S L accepted .sizes) dirs-long areas-long labels-long
+      listing-into (S .grid .rows) (S .grid .cols) (S .grid .dirs) (lentAfter S L .areas)
+      (lentAfter S L .labels) buffer (accepted-passed S L accepted .sizes) dirs-long areas-long labels-long
 
   -- it has the areas and labels of the definition
   sheet-text : listingText (S .grid) (lentAfter S L .areas) (lentAfter S L .labels) ≡ sheetListing S
   unfolding lentAfter areasOf labelsOf
   sheet-text =
-      rw accepted (listing-written (S .grid) (areasOf S) (labelsOf S) (L .areas) (L .labels) (length-list (area S) 0 (cells (S .grid))) (length-list (labelOf S) 0 (cells (S .grid))))
+      rw accepted
+      (listing-written (S .grid) (areasOf S) (labelsOf S) (L .areas) (L .labels)
+      (length-list (area S) 0 (cells (S .grid))) (length-list (labelOf S) 0 (cells (S .grid))))
 
 -- ---- the verdict and its text
 
@@ -68,7 +74,8 @@ module _ (S : Sheet) (L : Lent) (accepted : outcome S L ≡ Accepted) where
 abbrev Told : Verdict → List ℕ → Lent → List ℕ → Type 0
 Told v dirs L buffer = verdictInto v dirs (L .areas) (L .labels) buffer ≡ textInto (reportText v dirs L) buffer
 
-sizes-told : (o : Option Sizes) (dirs : List ℕ) (L : Lent) (buffer : List ℕ) → Told (sizesVerdict o dirs L) dirs (lentWith o dirs L) buffer
+sizes-told : (o : Option Sizes) (dirs : List ℕ) (L : Lent) (buffer : List ℕ)
+    → Told (sizesVerdict o dirs L) dirs (lentWith o dirs L) buffer
 unfolding sizesVerdict sheetVerdict lentWith verdictInto reportText refusalInto
 sizes-told none dirs L buffer = refl
 sizes-told (some z) dirs L buffer = go (outcome S L) refl
@@ -80,7 +87,8 @@ sizes-told (some z) dirs L buffer = go (outcome S L) refl
     go Accepted e = sheet-into S L e buffer
     go (NotLabelled number place) e = refl
 
-read-told : (read : Read) (dirs : List ℕ) (L : Lent) (buffer : List ℕ) → Told (verdictOf read dirs L) dirs (readLent read dirs L) buffer
+read-told : (read : Read) (dirs : List ℕ) (L : Lent) (buffer : List ℕ)
+    → Told (verdictOf read dirs L) dirs (readLent read dirs L) buffer
 unfolding verdictOf readLent intakeLent verdictInto reportText refusalInto
 read-told (NotRead number place) dirs L buffer = refl
 read-told (Ended i) dirs L buffer = sizes-told (endedSizes (i .stage)) dirs L buffer
@@ -89,7 +97,8 @@ module _ (read : Read) (dirs buffer : List ℕ) (L : Lent) where
   -- what was written from a verdict and what is lent afterwards is the report
   reported : {v : Verdict} {lent : Lent} {w : Listed} → v ≡ verdictOf read dirs L → lent ≡ readLent read dirs L
       → w ≡ verdictInto v dirs (lent .areas) (lent .labels) buffer
-      → _≡_ {A = Reported} (record { answer = w .answer; buffer = w .buffer; lent = lent }) (reportInto read dirs L buffer)
+      → _≡_ {A = Reported} (record { answer = w .answer; buffer = w .buffer; lent = lent })
+      (reportInto read dirs L buffer)
   unfolding reportInto
   reported {v} {lent} {w} ve le we =
       let e : w ≡ textInto (reportText (verdictOf read dirs L) dirs (readLent read dirs L)) buffer =
@@ -99,7 +108,8 @@ module _ (read : Read) (dirs buffer : List ℕ) (L : Lent) where
       ∙ read-told read dirs L buffer in
       λ k. record { answer = e k .answer; buffer = e k .buffer; lent = le k }
 
-  pub promises : {v : Verdict} {lent : Lent} {answer : Listing} {after : List ℕ} → v ≡ verdictOf read dirs L → lent ≡ readLent read dirs L
+  pub promises : {v : Verdict} {lent : Lent} {answer : Listing} {after : List ℕ} → v ≡ verdictOf read dirs L
+      → lent ≡ readLent read dirs L
       → record { answer = answer; buffer = after } ≡ verdictInto v dirs (lent .areas) (lent .labels) buffer
       → (_≡_ {A = Reported} (record { answer = answer; buffer = after; lent = lent }) (reportInto read dirs L buffer))
       × (listingValues answer ≡ listingValues (reportInto read dirs L buffer .answer))

@@ -82,7 +82,8 @@ pub record FileEnded (dirs bytes : List ℕ) (z : Sizes) : Type 0 where
 pub record SheetRefused (dirs : List ℕ) (L : Lent) (bytes : List ℕ) (number place : ℕ) : Type 0 where
   pub sizes : Sizes
   pub file : FileEnded dirs bytes sizes
-  pub refused : outcome (sheet (sizes .rows) (sizes .cols) (sizes .depth) (file .lines .held)) L ≡ NotLabelled number place
+  pub refused : outcome
+      (sheet (sizes .rows) (sizes .cols) (sizes .depth) (file .lines .held)) L ≡ NotLabelled number place
   pub number-is : oneOf sheetNumbers number ≡ true
 
 -- labelling accepts the sheet
@@ -90,10 +91,11 @@ pub record SheetLabelled (dirs : List ℕ) (L : Lent) (bytes : List ℕ) (z : Si
   pub file : FileEnded dirs bytes z
   pub accepted : outcome (sheet (z .rows) (z .cols) (z .depth) (file .lines .held)) L ≡ Passed
 
--- A file is refused by the first line that the intake refuses, else by the end, else by labelling; and if none of them refuses it,
--- its sheet is labelled.
+-- A file is refused by the first line that the intake refuses, else by the end, else by labelling; and if none of them
+-- refuses it, its sheet is labelled.
 pub data Ending (dirs : List ℕ) (L : Lent) (bytes : List ℕ) : Verdict → Type 0 where
   line-refused : {number place : ℕ} → LineRefused dirs bytes number place → Ending dirs L bytes (Refused number place)
   end-refused : {number place : ℕ} → EndRefused dirs bytes number place → Ending dirs L bytes (Refused number place)
-  sheet-refused : {number place : ℕ} → SheetRefused dirs L bytes number place → Ending dirs L bytes (Refused number place)
+  sheet-refused : {number place : ℕ} → SheetRefused dirs L bytes number place
+      → Ending dirs L bytes (Refused number place)
   labelled : {z : Sizes} → SheetLabelled dirs L bytes z → Ending dirs L bytes (Labelled z)

@@ -1,5 +1,5 @@
--- The first demand about files: "A grid file, whatever bytes it holds, gets its full listing or exactly one numbered refusal, by
--- document 01's conditions and order".
+-- The first demand about files: "A grid file, whatever bytes it holds, gets its full listing or exactly one numbered
+-- refusal, by document 01's conditions and order".
 use mathlib.Core.Path.{_≡_}
 use mathlib.Core.Bool.{true}
 use mathlib.Core.List.{List}

@@ -21,7 +21,8 @@ use Rattle.report.specs.declared.Verdict.the-variants.{Refused, Labelled
 
 -- ---- the verdict
 
--- document 01's number and place of a verdict, both 0 where it is no refusal, and the sizes of the labelled sheet, else 0
+-- document 01's number and place of a verdict, both 0 where it is no refusal, and the sizes of the labelled sheet, else
+-- 0
 pub record VerdictValues : Type 0 where
   pub number : ℕ
   pub place : ℕ
@@ -89,7 +90,8 @@ pub record Reported : Type 0 where
   pub lent : Lent
 
 abbrev pub reportedAs : List ℕ → List ℕ → Lent → Reported
-reportedAs text buffer L = record { answer = textInto text buffer .answer; buffer = textInto text buffer .buffer; lent = L }
+reportedAs text buffer L =
+    record { answer = textInto text buffer .answer; buffer = textInto text buffer .buffer; lent = L }
 
 unfoldable pub reportInto : Read → List ℕ → Lent → List ℕ → Reported
 reportInto read dirs L buffer =

@@ -16,7 +16,8 @@ use listing::write_refusal;
 use reading::Read;
 use sheet::Outcome;
 
-// Refused, with document 01's number and place, or labelled: a sheet of these sizes, with its areas and labels in what was lent.
+// Refused, with document 01's number and place, or labelled: a sheet of these sizes, with its areas and labels in what
+// was lent.
 pub enum Verdict {
     Refused(u8, usize),
     Labelled(Sizes),
@@ -30,8 +31,11 @@ fn sheet_verdict(
     labels: &mut [u64],
     work: &mut [u32],
 ) -> Verdict
-    ensures verdict { λ r. ⌜ r ≡ sizesVerdict (some sizes) (now (dirs .entry)) (lent (now (areas .entry)) (now (labels .entry)) (now (work .entry))) ⌝ }
-    ensures lent { λ _. ⌜ lent (now (areas .exit)) (now (labels .exit)) (now (work .exit)) ≡ lentWith (some sizes) (now (dirs .entry)) (lent (now (areas .entry)) (now (labels .entry)) (now (work .entry))) ⌝ }
+    ensures verdict { λ r. ⌜ r ≡ sizesVerdict (some sizes) (now (dirs .entry))
+        (lent (now (areas .entry)) (now (labels .entry)) (now (work .entry))) ⌝ }
+    ensures lent { λ _. ⌜ lent (now (areas .exit)) (now (labels .exit)) (now (work .exit))
+        ≡ lentWith (some sizes) (now (dirs .entry))
+        (lent (now (areas .entry)) (now (labels .entry)) (now (work .entry))) ⌝ }
 {
     let outcome = label(
         sizes.rows,
@@ -56,8 +60,11 @@ fn stage_verdict(
     labels: &mut [u64],
     work: &mut [u32],
 ) -> Verdict
-    ensures verdict { λ r. ⌜ r ≡ sizesVerdict (endedSizes stage) (now (dirs .entry)) (lent (now (areas .entry)) (now (labels .entry)) (now (work .entry))) ⌝ }
-    ensures lent { λ _. ⌜ lent (now (areas .exit)) (now (labels .exit)) (now (work .exit)) ≡ lentWith (endedSizes stage) (now (dirs .entry)) (lent (now (areas .entry)) (now (labels .entry)) (now (work .entry))) ⌝ }
+    ensures verdict { λ r. ⌜ r ≡ sizesVerdict (endedSizes stage) (now (dirs .entry))
+        (lent (now (areas .entry)) (now (labels .entry)) (now (work .entry))) ⌝ }
+    ensures lent { λ _. ⌜ lent (now (areas .exit)) (now (labels .exit)) (now (work .exit))
+        ≡ lentWith (endedSizes stage) (now (dirs .entry))
+        (lent (now (areas .entry)) (now (labels .entry)) (now (work .entry))) ⌝ }
 {
     match stage {
         Stage::WaitingForSizeNames => Verdict::Refused(15, 0),
@@ -76,9 +83,13 @@ pub fn verdict_of(
     labels: &mut [u64],
     work: &mut [u32],
 ) -> Verdict
-    ensures verdict { λ r. ⌜ r ≡ verdictOf read (now (dirs .entry)) (lent (now (areas .entry)) (now (labels .entry)) (now (work .entry))) ⌝ }
-    ensures values { λ r. ⌜ verdictValues r ≡ verdictValues (verdictOf read (now (dirs .entry)) (lent (now (areas .entry)) (now (labels .entry)) (now (work .entry)))) ⌝ }
-    ensures lent { λ _. ⌜ lent (now (areas .exit)) (now (labels .exit)) (now (work .exit)) ≡ readLent read (now (dirs .entry)) (lent (now (areas .entry)) (now (labels .entry)) (now (work .entry))) ⌝ }
+    ensures verdict { λ r. ⌜ r ≡ verdictOf read (now (dirs .entry))
+        (lent (now (areas .entry)) (now (labels .entry)) (now (work .entry))) ⌝ }
+    ensures values { λ r. ⌜ verdictValues r
+        ≡ verdictValues (verdictOf read (now (dirs .entry))
+        (lent (now (areas .entry)) (now (labels .entry)) (now (work .entry)))) ⌝ }
+    ensures lent { λ _. ⌜ lent (now (areas .exit)) (now (labels .exit)) (now (work .exit))
+        ≡ readLent read (now (dirs .entry)) (lent (now (areas .entry)) (now (labels .entry)) (now (work .entry))) ⌝ }
 {
     match read {
         Read::Refused(number, place) => Verdict::Refused(number, place),
@@ -97,7 +108,8 @@ fn write_verdict(
     labels: &[u64],
     out: &mut [u8],
 ) -> Listing
-    ensures { λ r. ⌜ record { answer = r; buffer = now (out .exit) } ≡ verdictInto verdict (now (dirs .entry)) (now (areas .entry)) (now (labels .entry)) (now (out .entry)) ⌝ }
+    ensures { λ r. ⌜ record { answer = r; buffer = now (out .exit) }
+        ≡ verdictInto verdict (now (dirs .entry)) (now (areas .entry)) (now (labels .entry)) (now (out .entry)) ⌝ }
 {
     match verdict {
         Verdict::Refused(number, place) => write_refusal(number, place, out),
@@ -114,8 +126,17 @@ pub fn write_report(
     work: &mut [u32],
     out: &mut [u8],
 ) -> Listing
-    ensures report { λ r. ⌜ record { answer = r; buffer = now (out .exit); lent = lent (now (areas .exit)) (now (labels .exit)) (now (work .exit)) } ≡ reportInto read (now (dirs .entry)) (lent (now (areas .entry)) (now (labels .entry)) (now (work .entry))) (now (out .entry)) ⌝ }
-    ensures values { λ r. ⌜ listingValues r ≡ listingValues (reportInto read (now (dirs .entry)) (lent (now (areas .entry)) (now (labels .entry)) (now (work .entry))) (now (out .entry)) .answer) ⌝ }
+    ensures report { λ r. ⌜ record {
+      answer = r;
+      buffer = now (out .exit);
+      lent = lent (now (areas .exit))
+          (now (labels .exit)) (now (work .exit));
+    }
+        ≡ reportInto read (now (dirs .entry)) (lent (now (areas .entry)) (now (labels .entry)) (now (work .entry)))
+        (now (out .entry)) ⌝ }
+    ensures values { λ r. ⌜ listingValues r
+        ≡ listingValues (reportInto read (now (dirs .entry))
+        (lent (now (areas .entry)) (now (labels .entry)) (now (work .entry))) (now (out .entry)) .answer) ⌝ }
 {
     let verdict = verdict_of(read, dirs, areas, labels, work);
     write_verdict(verdict, dirs, areas, labels, out)

@@ -13,11 +13,13 @@ pub measure-digit : (e d n m : ℕ) → e < d → n < 2 ^ 64 → measure e n < m
 unfolding measure
 measure-digit e d n m f h =
     let w : suc e * 2 ^ 64 ≤ d * 2 ^ 64 = mul-le-mul-right (2 ^ 64) f in
-    lt-of-lt-of-le (add-lt-add-of-le-of-lt (le-refl (e * 2 ^ 64)) h) (le-trans (rw (suc-mul e (2 ^ 64)) at w) (le-add-right (d * 2 ^ 64) m))
+    lt-of-lt-of-le (add-lt-add-of-le-of-lt (le-refl (e * 2 ^ 64)) h)
+    (le-trans (rw (suc-mul e (2 ^ 64)) at w) (le-add-right (d * 2 ^ 64) m))
 
 pub measure-length : (d : ℕ) {n m : ℕ} → n < m → measure d n < measure d m
 unfolding measure
 measure-length d h = add-lt-add-of-le-of-lt (le-refl (d * 2 ^ 64)) h
 
-pub places-at : {cell size : List ℕ} {areas n m split : ℕ} → m ≡ n → Places cell size areas n split → Places cell size areas m split
+pub places-at : {cell size : List ℕ} {areas n m split : ℕ} → m ≡ n → Places cell size areas n split
+    → Places cell size areas m split
 places-at {cell} {size} {areas} {split = split} q l = subst (λ (k : ℕ). Places cell size areas k split) (sym q) l

@@ -18,9 +18,11 @@ use Rattle.rivers.specs.Cut.{keyBy}
 use Rattle.rivers.proofs.Positions.{same-test}
 
 -- "heavier" is the larger key
-pub heavier-key : (area : ℕ → ℕ) (u v : ℕ) → u < 65536 → v < 65536 → heavierBy area u v ≡ ltb (keyBy area v) (keyBy area u)
+pub heavier-key : (area : ℕ → ℕ) (u v : ℕ) → u < 65536 → v < 65536
+    → heavierBy area u v ≡ ltb (keyBy area v) (keyBy area u)
 heavier-key area u v g h =
-    same-test (decided _ (more area u v) (more-test area u v)) (decided _ (ltb-true (keyBy area v) (keyBy area u)) (lt-ltb (keyBy area v) (keyBy area u)))
+    same-test (decided _ (more area u v) (more-test area u v))
+    (decided _ (ltb-true (keyBy area v) (keyBy area u)) (lt-ltb (keyBy area v) (keyBy area u)))
     over (back (ℕ-discrete (area u) (area v)))
   where
     over : More area u v → keyBy area v < keyBy area u
@@ -56,5 +58,7 @@ rank-chosen heavier (stem c ∷ R) v = rank-chosen heavier R v
 rank-chosen heavier (mouth u ∷ R) v = rw (rank-chosen heavier R v)
 
 -- the rank of a mouth is the number of larger keys
-pub rank-key : (area : ℕ → ℕ) (R : Run) (v : ℕ) → v < 65536 → ((u : ℕ) → MouthOf R u → u < 65536) → rank (heavierBy area) R v ≡ above area (keyBy area v) R
-rank-key area R v h small = rank-chosen (heavierBy area) R v ∙ chosen-same _ _ R (λ u m. heavier-key area u v (small u m) h)
+pub rank-key : (area : ℕ → ℕ) (R : Run) (v : ℕ) → v < 65536 → ((u : ℕ) → MouthOf R u → u < 65536)
+    → rank (heavierBy area) R v ≡ above area (keyBy area v) R
+rank-key area R v h small =
+    rank-chosen (heavierBy area) R v ∙ chosen-same _ _ R (λ u m. heavier-key area u v (small u m) h)

@@ -23,12 +23,15 @@ use Rattle.rivers.specs.Prefix.{Prefix}
 use Rattle.rivers.proofs.Positions.{unit-stands}
 use Rattle.rivers.proofs.Relabelled.{relabelled-length, relabelled-same, relabelled-thrice}
 
--- the cells of parts whose digits begin after k have their labels: the digits gathered, one more, and at most `digits` after it
+-- the cells of parts whose digits begin after k have their labels: the digits gathered, one more, and at most `digits`
+-- after it
 unfoldable pub partsLabelled : Network → ℕ → List ℕ → ℕ → Parts → List ℕ → List ℕ
 partsLabelled N digits gathered k P l =
-    relabelled (holds N (join P)) (λ c. number (gathered ++ (placeIn N k P c .digit ∷ label N digits (placeIn N k P c .unit) c))) l
+    relabelled (holds N (join P))
+    (λ c. number (gathered ++ (placeIn N k P c .digit ∷ label N digits (placeIn N k P c .unit) c))) l
 
-pub unit-length : (N : Network) (R : Run) (digits : ℕ) (gathered l : List ℕ) → length (unitLabelled N R digits gathered l) ≡ length l
+pub unit-length : (N : Network) (R : Run) (digits : ℕ) (gathered l : List ℕ)
+    → length (unitLabelled N R digits gathered l) ≡ length l
 unfolding unitLabelled
 unit-length N R digits gathered l = relabelled-length _ _ l
 
@@ -38,7 +41,8 @@ module _ (N : Network) (R : Run) (digits : ℕ) (gathered l : List ℕ) where
   unfolding unitLabelled label
   unit-zero e = relabelled-same _ _ _ _ l (λ c. refl) (λ c h. rw (e, append-nil))
 
-  unit-finished : finished N R ≡ true → relabelled (holds N R) (λ c. number gathered) l ≡ unitLabelled N R digits gathered l
+  unit-finished : finished N R ≡ true
+      → relabelled (holds N R) (λ c. number gathered) l ≡ unitLabelled N R digits gathered l
   unfolding unitLabelled label
   unit-finished e = relabelled-same _ _ _ _ l (λ c. refl) (λ c h. go digits c)
     where
@@ -63,7 +67,8 @@ parts-last N digits gathered k R l = relabelled-same _ _ _ _ l (λ c. refl) (λ 
 -- of three kinds that exclude each other
 module _ {A B D E : Type 0} (not-ab : A → B → ⊥) (not-ad : A → D → ⊥) (not-bd : B → D → ⊥)
     (ae : A → E) (be : B → E) (de : D → E) (one : E → A ⊎ (B ⊎ D)) where
-  choose : {a b d e : Bool} → Test a A → Test b B → Test d D → Test e E → {p q r s : ℕ} → (A → p ≡ s) → (B → q ≡ s) → (D → r ≡ s)
+  choose : {a b d e : Bool} → Test a A → Test b B → Test d D → Test e E → {p q r s : ℕ} → (A → p ≡ s) → (B → q ≡ s)
+      → (D → r ≡ s)
       → (x : ℕ) → cond d r (cond b q (cond a p x)) ≡ cond e s x
   choose (met i h) (met j k) t u f g m x = absurd (not-ab h k)
   choose (met i h) (unmet j k) (met y w) u f g m x = absurd (not-ad h w)
@@ -74,14 +79,17 @@ module _ {A B D E : Type 0} (not-ab : A → B → ⊥) (not-ad : A → D → ⊥
   choose (unmet i h) (met j k) (unmet y w) (unmet z n) f g m x = absurd (n (be k))
   choose (unmet i h) (unmet j k) (met y w) (met z n) f g m x = rw (i, j, y, z) (m w)
   choose (unmet i h) (unmet j k) (met y w) (unmet z n) f g m x = absurd (n (de w))
-  choose (unmet i h) (unmet j k) (unmet y w) (met z n) f g m x = absurd (elim (one n) [ inl o ↦ h o | inr o ↦ elim o [ inl q ↦ k q | inr q ↦ w q ] ])
+  choose (unmet i h) (unmet j k) (unmet y w) (met z n) f g m x =
+      absurd (elim (one n) [ inl o ↦ h o | inr o ↦ elim o [ inl q ↦ k q | inr q ↦ w q ] ])
   choose (unmet i h) (unmet j k) (unmet y w) (unmet z n) f g m x = rw (i, j, y, z)
 
 module _ {N : Network} {heavier : ℕ → ℕ → Bool} (O : Lawful N heavier) where
   -- the run before the first taken mouth, that mouth's tributary, and the later parts
-  pub parts-part : (digits : ℕ) (gathered : List ℕ) (k : ℕ) (A : Run) (v : ℕ) (P : Parts) (l : List ℕ) → Ordered (N .next) (A ++ (mouth v ∷ join P))
+  pub parts-part : (digits : ℕ) (gathered : List ℕ) (k : ℕ) (A : Run) (v : ℕ) (P : Parts) (l : List ℕ)
+      → Ordered (N .next) (A ++ (mouth v ∷ join P))
       → partsLabelled N digits gathered (suc (suc k)) P
-      (unitLabelled N (river N v) digits (gathered ++ (suc (suc k) ∷ [])) (unitLabelled N A digits (gathered ++ (suc k ∷ [])) l))
+      (unitLabelled N (river N v) digits (gathered ++ (suc (suc k) ∷ []))
+      (unitLabelled N A digits (gathered ++ (suc k ∷ [])) l))
       ≡ partsLabelled N digits gathered k (part A v P) l
   unfolding partsLabelled unitLabelled
   parts-part digits gathered k A v P l o =
@@ -109,20 +117,24 @@ module _ {N : Network} {heavier : ℕ → ℕ → Bool} (O : Lawful N heavier) w
       under : (c : ℕ) → In (N .next) (river N v) c → In (N .next) (mouth v ∷ join P) c
       under c i = at-head (is-under (river-passes O v c i))
 
-      one : (c : ℕ) → In (N .next) (A ++ (mouth v ∷ join P)) c → In (N .next) A c ⊎ (In (N .next) (river N v) c ⊎ In (N .next) (join P) c)
+      one : (c : ℕ) → In (N .next) (A ++ (mouth v ∷ join P)) c
+          → In (N .next) A c ⊎ (In (N .next) (river N v) c ⊎ In (N .next) (join P) c)
       one c i = elim (in-append A (mouth v ∷ join P) i) [
         | inl j ↦ inl j
         | inr j ↦ elim (in-cons j) [ inl h ↦ inr (inl (river-covers O v c (has-under h))) | inr h ↦ inr (inr h) ]
       ]
 
 -- the positions of a unit, filled with its prefix, where it gets no digit more
-module _ {cell size area : List ℕ} {count split least end lo hi : ℕ} (Y : Layout cell size count) (u : UnitAt cell size area split least end lo hi)
-    {prefix digits : ℕ} (p : Prefix prefix digits) (l : List ℕ) {m : List ℕ} (filled : m ≡ relabelled (stands cell lo (hi - lo)) (λ c. prefix) l) where
+module _ {cell size area : List ℕ} {count split least end lo hi : ℕ} (Y : Layout cell size count)
+    (u : UnitAt cell size area split least end lo hi)
+    {prefix digits : ℕ} (p : Prefix prefix digits) (l : List ℕ) {m : List ℕ}
+    (filled : m ≡ relabelled (stands cell lo (hi - lo)) (λ c. prefix) l) where
   held : m ≡ relabelled (holds (u .of .network) (u .run)) (λ c. number (p .gathered)) l
   held = filled ∙ relabelled-same _ _ _ _ l (unit-stands Y u) (λ c h. p .held)
 
   pub filled-zero : digits ≡ 0 → m ≡ unitLabelled (u .of .network) (u .run) digits (p .gathered) l
   filled-zero e = held ∙ unit-zero (u .of .network) (u .run) digits (p .gathered) l e
 
-  pub filled-finished : finished (u .of .network) (u .run) ≡ true → m ≡ unitLabelled (u .of .network) (u .run) digits (p .gathered) l
+  pub filled-finished : finished (u .of .network) (u .run) ≡ true
+      → m ≡ unitLabelled (u .of .network) (u .run) digits (p .gathered) l
   filled-finished e = held ∙ unit-finished (u .of .network) (u .run) digits (p .gathered) l e

@@ -18,7 +18,8 @@ use Rattle.rivers.specs.Cut.{keyBy, keyAt, CutOf}
 use Rattle.rivers.proofs.Positions.{goes-stem, goes-mouth, goes-end, mouth-stands}
 use Rattle.rivers.proofs.KeyOrder.{above, counted-key, rank-key}
 
--- Of w keys above x, r are still to come. Level i: t is above x if i or more of those that came are, and not if fewer are.
+-- Of w keys above x, r are still to come. Level i: t is above x if i or more of those that came are, and not if fewer
+-- are.
 pub data Level (i r w x t : ℕ) : Type 0 where
   over : x < t → i + r ≤ w → Level i r w x t
   under : t ≤ x → w < i + r → Level i r w x t
@@ -52,7 +53,8 @@ level-first g (more-by h q) (under m n) = over (omega arith) (omega arith)
 level-first g (same-by h q) (over m n) = over (omega arith) (omega arith)
 level-first g (same-by h q) (under m n) = under (omega arith) (omega arith)
 
-level-next : {i r s w x k t u : ℕ} → Side x k r s → Level i s w x u → Level (suc i) s w x t → Level (suc i) r w x (max t (min u k))
+level-next : {i r s w x k t u : ℕ} → Side x k r s → Level i s w x u → Level (suc i) s w x t
+    → Level (suc i) r w x (max t (min u k))
 level-next (more-by h q) (over a b) (over m n) = over (omega arith) (omega arith)
 level-next (more-by h q) (over a b) (under m n) = over (omega arith) (omega arith)
 level-next (more-by h q) (under a b) (over m n) = over (omega arith) (omega arith)
@@ -132,7 +134,16 @@ module _ {N : Network} {R : Run} {floor : ℕ} where
   module _ {B : Run} {done : Bool} {a b c d : ℕ} where
     pub largest-stem : {s : ℕ} → Largest N R (stem s ∷ B) floor done a b c d → Largest N R B floor done a b c d
     unfolding chosen finished
-    largest-stem l = record { low-a = l .low-a; low-b = l .low-b; low-c = l .low-c; low-d = l .low-d; levels = l .levels; met = go (l .met) }
+    largest-stem l =
+        record {
+          low-a = l .low-a;
+          low-b = l .low-b;
+          low-c = l .low-c;
+          low-d = l .low-d;
+          levels = l .levels;
+          met = go
+              (l .met);
+        }
       where
         go : {s : ℕ} → Met N R (stem s ∷ B) floor d done → Met N R B floor d done
         go (not-yet e f g) = not-yet e f g
@@ -147,7 +158,8 @@ module _ {N : Network} {R : Run} {floor : ℕ} where
             low-b = l .low-b;
             low-c = l .low-c;
             low-d = l .low-d;
-            levels = λ x g. levels-skip (rw key at h) (side x (keyBy (N .area) v) (above (N .area) x B)) (l .levels x g);
+            levels =
+                λ x g. levels-skip (rw key at h) (side x (keyBy (N .area) v) (above (N .area) x B)) (l .levels x g);
             met = go (l .met);
           }
         where
@@ -165,7 +177,9 @@ module _ {N : Network} {R : Run} {floor : ℕ} where
             low-b = rw bb (low-max _ (l .low-b));
             low-c = rw cc′ (low-max _ (l .low-c));
             low-d = rw dd (low-max _ (l .low-d));
-            levels = λ x g. rw (aa, bb, cc′, dd, key) (levels-more (side x (keyBy (N .area) v) (above (N .area) x B)) (l .levels x g));
+            levels =
+                λ x g. rw (aa, bb, cc′, dd, key)
+                (levels-more (side x (keyBy (N .area) v) (above (N .area) x B)) (l .levels x g));
             met = met s (go (l .met));
           }
         where
@@ -194,8 +208,10 @@ module _ {N : Network} {R B : Run} {floor : ℕ} {done : Bool} {a b c d : ℕ} w
 
 module _ {N : Network} {R : Run} {floor : ℕ} {done : Bool} {a b c d : ℕ} where
   -- all mouths were passed
-  pub largest-all : (small : (u : ℕ) → MouthOf R u → u < 65536) (counts : (u : ℕ) → MouthOf R u → N .counted u ≡ leb floor (keyBy (N .area) u))
-      → 1 ≤ N .split → N .split ≤ 4 → Largest N R [] floor done a b c d → CutOf N R done (getD (a ∷ b ∷ c ∷ d ∷ []) (N .split - 1) 0)
+  pub largest-all : (small : (u : ℕ) → MouthOf R u → u < 65536)
+      (counts : (u : ℕ) → MouthOf R u → N .counted u ≡ leb floor (keyBy (N .area) u))
+      → 1 ≤ N .split → N .split ≤ 4 → Largest N R [] floor done a b c d → CutOf N R done
+      (getD (a ∷ b ∷ c ∷ d ∷ []) (N .split - 1) 0)
   unfolding chosen finished taken
   largest-all small counts h g l = record { finishes = go (l .met); takes = takes }
     where
@@ -206,33 +222,53 @@ module _ {N : Network} {R : Run} {floor : ℕ} {done : Bool} {a b c d : ℕ} whe
       cut : ℕ
       cut = getD (a ∷ b ∷ c ∷ d ∷ []) (N .split - 1) 0
 
-      at : (v : ℕ) → leb floor (keyBy (N .area) v) ≡ true → Level (N .split) 0 (above (N .area) (keyBy (N .area) v) R) (keyBy (N .area) v) cut
+      at : (v : ℕ) → leb floor (keyBy (N .area) v) ≡ true
+          → Level (N .split) 0 (above (N .area) (keyBy (N .area) v) R) (keyBy (N .area) v) cut
           → ltb (above (N .area) (keyBy (N .area) v) R) (N .split) ≡ leb cut (keyBy (N .area) v)
-      at v e (over m o) = rw (lt-leb cut (keyBy (N .area) v) m) (le-ltb (above (N .area) (keyBy (N .area) v) R) (N .split) (omega arith))
-      at v e (under m o) = rw (le-leb cut (keyBy (N .area) v) m) (lt-ltb (above (N .area) (keyBy (N .area) v) R) (N .split) (omega arith))
+      at v e (over m o) =
+          rw (lt-leb cut (keyBy (N .area) v) m)
+          (le-ltb (above (N .area) (keyBy (N .area) v) R) (N .split) (omega arith))
+      at v e (under m o) =
+          rw (le-leb cut (keyBy (N .area) v) m)
+          (lt-ltb (above (N .area) (keyBy (N .area) v) R) (N .split) (omega arith))
 
-      pick : (v : ℕ) (t : Bool) → leb floor (keyBy (N .area) v) ≡ t → cond t (ltb (above (N .area) (keyBy (N .area) v) R) (N .split)) false ≡ leb cut (keyBy (N .area) v)
-      pick v true e = at v e (level-at (N .split) h g (l .levels (keyBy (N .area) v) (leb-true floor (keyBy (N .area) v) e)))
-      pick v false e = sym (lt-leb cut (keyBy (N .area) v) (omega (arith, leb-false floor (keyBy (N .area) v) e, low-at (N .split) h g l)))
+      pick : (v : ℕ) (t : Bool) → leb floor (keyBy (N .area) v) ≡ t
+          → cond t (ltb (above (N .area) (keyBy (N .area) v) R) (N .split)) false ≡ leb cut (keyBy (N .area) v)
+      pick v true e =
+          at v e (level-at (N .split) h g (l .levels (keyBy (N .area) v) (leb-true floor (keyBy (N .area) v) e)))
+      pick v false e =
+          sym (lt-leb cut (keyBy (N .area) v) (omega (
+            arith,
+            leb-false floor (keyBy (N .area) v) e,
+            low-at (N .split) h g l,
+          )))
 
-      takes : (v : ℕ) → MouthOf R v → cond (N .counted v) (ltb (rank (heavier N) R v) (N .split)) false ≡ leb cut (keyBy (N .area) v)
-      takes v m = rw (counts v m, rank-key (N .area) R v (small v m) small) (pick v (leb floor (keyBy (N .area) v)) refl)
+      takes : (v : ℕ) → MouthOf R v
+          → cond (N .counted v) (ltb (rank (heavier N) R v) (N .split)) false ≡ leb cut (keyBy (N .area) v)
+      takes v m =
+          rw (counts v m, rank-key (N .area) R v (small v m) small) (pick v (leb floor (keyBy (N .area) v)) refl)
 
 -- what `heaviest` knows at position j of a unit
-pub record Passed {cell size area : List ℕ} {split least end lo hi : ℕ} (u : UnitAt cell size area split least end lo hi) (j : ℕ) (done : Bool) (a b c d : ℕ) : Type 0 where
+pub record Passed {cell size area : List ℕ} {split least end lo hi : ℕ}
+    (u : UnitAt cell size area split least end lo hi) (j : ℕ) (done : Bool) (a b c d : ℕ) : Type 0 where
   pub left : Run
   pub laid : Laid cell size end j hi left
   pub largest : Largest (u .of .network) (u .run) left (least * 65536) done a b c d
 
-pub key-is : {cell size area : List ℕ} {split least end lo hi : ℕ} (u : UnitAt cell size area split least end lo hi) (j : ℕ) → j < hi
+pub key-is : {cell size area : List ℕ} {split least end lo hi : ℕ} (u : UnitAt cell size area split least end lo hi)
+    (j : ℕ)
+    → j < hi
     → keyAt cell area j ≡ keyBy (u .of .network .area) (getD cell j 0)
 key-is u j h = rw (u .of .laid-out .area-is j (omega (arith, u .before-end, u .end-within)))
 
-module _ {cell size area : List ℕ} {count split least end lo hi : ℕ} (Y : Layout cell size count) (u : UnitAt cell size area split least end lo hi) where
-  counts-at : (j : ℕ) → j < hi → u .of .network .counted (getD cell j 0) ≡ leb (least * 65536) (keyBy (u .of .network .area) (getD cell j 0))
+module _ {cell size area : List ℕ} {count split least end lo hi : ℕ} (Y : Layout cell size count)
+    (u : UnitAt cell size area split least end lo hi) where
+  counts-at : (j : ℕ) → j < hi
+      → u .of .network .counted (getD cell j 0) ≡ leb (least * 65536) (keyBy (u .of .network .area) (getD cell j 0))
   counts-at j h =
       let on : j < length cell = omega (arith, u .before-end, u .end-within) in
-      u .of .laid-out .counted-is j on ∙ counted-key least (u .of .network .area (getD cell j 0)) (getD cell j 0) (Y .small j on)
+      u .of .laid-out .counted-is j on ∙ counted-key least (u .of .network .area (getD cell j 0)) (getD cell j 0)
+      (Y .small j on)
 
   pub passed-none : Passed u lo true (least * 65536) (least * 65536) (least * 65536) (least * 65536)
   passed-none = record { left = u .run; laid = u .laid; largest = largest-none }
@@ -247,16 +283,27 @@ module _ {cell size area : List ℕ} {count split least end lo hi : ℕ} (Y : La
       pub passed-skip : k < d → Passed u j done a b c d → Passed u (j + getD size j 0) done a b c d
       passed-skip l p =
           let g = goes-mouth h q (p .laid) in
-          record { left = g .rest; laid = g .laid; largest = largest-skip (counts-at j h) (key ∙ key-is u j h) l (rw (g .is) at (p .largest)) }
+          record {
+            left = g .rest;
+            laid = g .laid;
+            largest = largest-skip (counts-at j h) (key ∙ key-is u j h) l
+                (rw (g .is) at (p .largest));
+          }
 
       pub passed-with : {done′ : Bool} {a′ b′ c′ d′ : ℕ} → d ≤ k → done′ ≡ false
           → a′ ≡ max a k → b′ ≡ max b (min a k) → c′ ≡ max c (min b k) → d′ ≡ max d (min c k)
           → Passed u j done a b c d → Passed u (j + getD size j 0) done′ a′ b′ c′ d′
       passed-with l s aa bb cc′ dd p =
           let g = goes-mouth h q (p .laid) in
-          record { left = g .rest; laid = g .laid; largest = largest-with (counts-at j h) (key ∙ key-is u j h) l s aa bb cc′ dd (rw (g .is) at (p .largest)) }
+          record {
+            left = g .rest;
+            laid = g .laid;
+            largest = largest-with (counts-at j h)
+                (key ∙ key-is u j h) l s aa bb cc′ dd (rw (g .is) at (p .largest));
+          }
 
-  pub passed-all : {j : ℕ} {done : Bool} {a b c d cut : ℕ} → hi ≤ j → 1 ≤ split → split ≤ 4 → cut ≡ getD (a ∷ b ∷ c ∷ d ∷ []) (split - 1) 0
+  pub passed-all : {j : ℕ} {done : Bool} {a b c d cut : ℕ} → hi ≤ j → 1 ≤ split → split ≤ 4
+      → cut ≡ getD (a ∷ b ∷ c ∷ d ∷ []) (split - 1) 0
       → Passed u j done a b c d → CutOf (u .of .network) (u .run) done cut
   passed-all {j} {done} {a} {b} {c} {d} h low high q p =
       let s : u .of .network .split ≡ split = u .of .laid-out .split-is in
@@ -268,7 +315,8 @@ module _ {cell size area : List ℕ} {count split least end lo hi : ℕ} (Y : La
           let s = mouth-stands Y (u .before-end) (u .end-within) (u .laid) m in
           rw (← s .is) (Y .small (s .at) (omega (arith, s .to, u .before-end, u .end-within)))
 
-      counts : (v : ℕ) → MouthOf (u .run) v → u .of .network .counted v ≡ leb (least * 65536) (keyBy (u .of .network .area) v)
+      counts : (v : ℕ) → MouthOf (u .run) v
+          → u .of .network .counted v ≡ leb (least * 65536) (keyBy (u .of .network .area) v)
       counts v m =
           let s = mouth-stands Y (u .before-end) (u .end-within) (u .laid) m in
           rw (← s .is) (counts-at (s .at) (s .to))

@@ -20,10 +20,12 @@ prefix-none digits h = record { gathered = []; held = refl; one-to-nine = digits
 
 -- a prefix that may have some more digits may have one more
 pub prefix-one : {prefix digits : ℕ} → Prefix prefix digits → (digits ≡ 0 → ⊥) → Prefix prefix 1
-prefix-one p some = record { gathered = p .gathered; held = p .held; one-to-nine = p .one-to-nine; room = omega (arith, p .room) }
+prefix-one p some =
+    record { gathered = p .gathered; held = p .held; one-to-nine = p .one-to-nine; room = omega (arith, p .room) }
 
 -- a digit takes the place of one that was left
-unfoldable pub prefix-more : {prefix digits next left digit : ℕ} → (p : Prefix prefix digits) → left < digits → 1 ≤ digit → digit ≤ 9
+unfoldable pub prefix-more : {prefix digits next left digit : ℕ} → (p : Prefix prefix digits) → left < digits
+    → 1 ≤ digit → digit ≤ 9
     → next ≡ number (p .gathered ++ (digit ∷ [])) → Prefix next left
 prefix-more {digit = digit} p less low high e = record {
   gathered = p .gathered ++ (digit ∷ []);
@@ -35,4 +37,8 @@ prefix-more {digit = digit} p less low high e = record {
 -- a digit more can be written
 pub prefix-fits : {prefix : ℕ} → Prefix prefix 1 → prefix < 10 ^ 17
 prefix-fits p = let few : length (p .gathered) ≤ 17 = omega (arith, p .room) in
-    rw (p .held) (omega (arith, number-bound (p .gathered) (p .one-to-nine), pow-le-pow-right {n = 10} (omega arith) few))
+    rw (p .held) (omega (
+      arith,
+      number-bound (p .gathered) (p .one-to-nine),
+      pow-le-pow-right {n = 10} (omega arith) few,
+    ))

@@ -23,7 +23,8 @@ use Rattle.rivers.proofs.Largest.{key-is}
 use Rattle.rivers.proofs.Labelling.{partsLabelled, unit-parts, parts-last, parts-part}
 
 -- the river whose mouth stands at position j is a unit
-unfoldable pub river-unit : {cell size area : List ℕ} {count split least : ℕ} → Layout cell size count → NetworkOf cell size area split least → (j : ℕ) → j < length cell
+unfoldable pub river-unit : {cell size area : List ℕ} {count split least : ℕ} → Layout cell size count
+    → NetworkOf cell size area split least → (j : ℕ) → j < length cell
     → UnitAt cell size area split least (j + getD size j 0) j (j + getD size j 0)
 river-unit {cell} Y n j h =
     record {
@@ -55,9 +56,10 @@ unfolding prepends prepend
 prepends-last [] = refl
 prepends-last (a ∷ A) = ap (prepend a) (prepends-last A)
 
--- what `label_run` knows of the unit R of the network N at position j: the run that began at `start` gets `digit` after those gathered,
--- and what is still to do makes of the labels what the whole makes of those at entry
-pub record Progress (N : Network) (R : Run) (cell size : List ℕ) (end hi digits : ℕ) (gathered whole labels : List ℕ) (digit start j : ℕ) : Type 0 where
+-- what `label_run` knows of the unit R of the network N at position j: the run that began at `start` gets `digit` after
+-- those gathered, and what is still to do makes of the labels what the whole makes of those at entry
+pub record Progress (N : Network) (R : Run) (cell size : List ℕ) (end hi digits : ℕ) (gathered whole labels : List ℕ)
+    (digit start j : ℕ) : Type 0 where
   pub begun : Run
   pub left : Run
   pub laid-begun : Laid cell size end start j begun
@@ -72,9 +74,12 @@ pub record Progress (N : Network) (R : Run) (cell size : List ℕ) (end hi digit
   pub few : used + 2 * chosen (taken N R) left ≤ 8
   pub rest : partsLabelled N digits gathered used todo labels ≡ whole
 
-module _ {cell size area : List ℕ} {count split least end lo hi : ℕ} (Y : Layout cell size count) (u : UnitAt cell size area split least end lo hi) where
-  pub progress-none : {digits : ℕ} {gathered labels : List ℕ} → (digits ≡ 0 → ⊥) → finished (u .of .network) (u .run) ≡ false → split ≤ 4
-      → Progress (u .of .network) (u .run) cell size end hi (digits - 1) gathered (unitLabelled (u .of .network) (u .run) digits gathered labels) labels 1 lo lo
+module _ {cell size area : List ℕ} {count split least end lo hi : ℕ} (Y : Layout cell size count)
+    (u : UnitAt cell size area split least end lo hi) where
+  pub progress-none : {digits : ℕ} {gathered labels : List ℕ} → (digits ≡ 0 → ⊥)
+      → finished (u .of .network) (u .run) ≡ false → split ≤ 4
+      → Progress (u .of .network) (u .run) cell size end hi (digits - 1) gathered
+      (unitLabelled (u .of .network) (u .run) digits gathered labels) labels 1 lo lo
   unfolding prepends parts
   progress-none {digits} {gathered} {labels} d f s =
       let o : Ordered (u .of .network .next) (u .run) = headed-ordered (u .of .lawful) (u .headed) in
@@ -118,7 +123,8 @@ module _ {cell size area : List ℕ} {count split least end lo hi : ℕ} (Y : La
           rest = p .rest;
         }
 
-    module _ {done : Bool} {cut k : ℕ} (by : CutOf (u .of .network) (u .run) done cut) (h : j < hi) (q : j + getD size j 0 ≡ end → ⊥) (key : k ≡ keyAt cell area j)
+    module _ {done : Bool} {cut k : ℕ} (by : CutOf (u .of .network) (u .run) done cut) (h : j < hi)
+        (q : j + getD size j 0 ≡ end → ⊥) (key : k ≡ keyAt cell area j)
         (p : Progress (u .of .network) (u .run) cell size end hi digits gathered whole labels digit start j) where
       -- the mouth at position j is taken if its key is not below the cut
       taken-at : taken (u .of .network) (u .run) (getD cell j 0) ≡ leb cut k
@@ -127,7 +133,8 @@ module _ {cell size area : List ℕ} {count split least end lo hi : ℕ} (Y : La
           rw (key, key-is u j h) (by .takes (getD cell j 0) (p .of-unit (getD cell j 0) (rw (g .is) mouth-here)))
 
       pub progress-skip : k < cut
-          → Progress (u .of .network) (u .run) cell size end hi digits gathered whole labels digit start (j + getD size j 0)
+          → Progress (u .of .network) (u .run) cell size end hi digits gathered whole labels digit start
+          (j + getD size j 0)
       unfolding cutAt chosen
       progress-skip l =
           let g = goes-mouth h q (p .laid-left) in
@@ -179,14 +186,19 @@ module _ {cell size area : List ℕ} {count split least end lo hi : ℕ} (Y : La
               end-within = u .end-within;
             }
           where
-            first-headed : {A : Run} {v : ℕ} {P : Parts} → AllHeaded (u .of .network .next) (heavier (u .of .network)) (part A v P) → Headed (u .of .network .next) (heavier (u .of .network)) A
+            first-headed : {A : Run} {v : ℕ} {P : Parts}
+                → AllHeaded (u .of .network .next) (heavier (u .of .network)) (part A v P) → Headed
+                (u .of .network .next) (heavier (u .of .network)) A
             first-headed (all-cut a b) = a
 
         pub progress-take : {first second : List ℕ}
-            → ((w : UnitAt cell size area split least end start j) → first ≡ unitLabelled (w .of .network) (w .run) digits (gathered ++ (digit ∷ [])) labels)
+            → ((w : UnitAt cell size area split least end start j) → first ≡ unitLabelled (w .of .network)
+            (w .run) digits (gathered ++ (digit ∷ [])) labels)
             → ((n : NetworkOf cell size area split least)
-            → second ≡ unitLabelled (n .network) (river (n .network) (getD cell j 0)) digits (gathered ++ ((digit + 1) ∷ [])) first)
-            → Progress (u .of .network) (u .run) cell size end hi digits gathered whole second (digit + 2) (j + getD size j 0) (j + getD size j 0)
+            → second ≡ unitLabelled (n .network) (river (n .network) (getD cell j 0)) digits
+            (gathered ++ ((digit + 1) ∷ [])) first)
+            → Progress (u .of .network) (u .run) cell size end hi digits gathered whole second (digit + 2)
+            (j + getD size j 0) (j + getD size j 0)
         unfolding chosen prepends progress-unit
         progress-take {first} {second} f s =
             let g = goes-mouth h q (p .laid-left) in
@@ -195,10 +207,15 @@ module _ {cell size area : List ℕ} {count split least end lo hi : ℕ} (Y : La
             let o = rw e at (p .ordered) in
             let few = rw (g .is, in-it) at (p .few) in
             let by-one : digit + 1 ≡ suc (suc (p .used)) = omega (arith, p .digit-is) in
-            let first-is : first ≡ unitLabelled (u .of .network) (p .begun) digits (gathered ++ (suc (p .used) ∷ [])) labels =
-            f progress-unit ∙ ap (λ (a : ℕ). unitLabelled (u .of .network) (p .begun) digits (gathered ++ (a ∷ [])) labels) (p .digit-is) in
-            let second-is : second ≡ unitLabelled (u .of .network) (river (u .of .network) (getD cell j 0)) digits (gathered ++ (suc (suc (p .used)) ∷ [])) first =
-            s (u .of) ∙ ap (λ (a : ℕ). unitLabelled (u .of .network) (river (u .of .network) (getD cell j 0)) digits (gathered ++ (a ∷ [])) first) by-one in
+            let first-is : first ≡ unitLabelled (u .of .network) (p .begun) digits
+            (gathered ++ (suc (p .used) ∷ [])) labels =
+            f progress-unit ∙ ap
+            (λ (a : ℕ). unitLabelled (u .of .network) (p .begun) digits (gathered ++ (a ∷ [])) labels) (p .digit-is) in
+            let second-is : second ≡ unitLabelled (u .of .network) (river (u .of .network) (getD cell j 0)) digits
+            (gathered ++ (suc (suc (p .used)) ∷ [])) first =
+            s (u .of) ∙ ap
+            (λ (a : ℕ). unitLabelled (u .of .network) (river (u .of .network) (getD cell j 0)) digits
+            (gathered ++ (a ∷ [])) first) by-one in
             record {
               begun = [];
               left = g .rest;
@@ -218,11 +235,14 @@ module _ {cell size area : List ℕ} {count split least end lo hi : ℕ} (Y : La
                   ∙ rw e at (p .rest);
             }
           where
-            rest-headed : {A : Run} {v : ℕ} {P : Parts} → AllHeaded (u .of .network .next) (heavier (u .of .network)) (part A v P) → AllHeaded (u .of .network .next) (heavier (u .of .network)) P
+            rest-headed : {A : Run} {v : ℕ} {P : Parts}
+                → AllHeaded (u .of .network .next) (heavier (u .of .network)) (part A v P) → AllHeaded
+                (u .of .network .next) (heavier (u .of .network)) P
             rest-headed (all-cut a b) = b
 
     -- the last run
-    module _ (h : hi ≤ j) (p : Progress (u .of .network) (u .run) cell size end hi digits gathered whole labels digit start j) where
+    module _ (h : hi ≤ j)
+        (p : Progress (u .of .network) (u .run) cell size end hi digits gathered whole labels digit start j) where
       only : p .todo ≡ last (p .begun)
       unfolding cutAt
       only = rw (goes-end Y (u .before-end) (u .end-within) h (p .laid-left)) at (p .todo-is) ∙ prepends-last (p .begun)
@@ -242,11 +262,13 @@ module _ {cell size area : List ℕ} {count split least end lo hi : ℕ} (Y : La
             end-within = u .end-within;
           }
         where
-          last-headed : {A : Run} → AllHeaded (u .of .network .next) (heavier (u .of .network)) (last A) → Headed (u .of .network .next) (heavier (u .of .network)) A
+          last-headed : {A : Run} → AllHeaded (u .of .network .next) (heavier (u .of .network)) (last A)
+              → Headed (u .of .network .next) (heavier (u .of .network)) A
           last-headed (all-last a) = a
 
       pub progress-last : {final : List ℕ}
-          → ((w : UnitAt cell size area split least end start hi) → final ≡ unitLabelled (w .of .network) (w .run) digits (gathered ++ (digit ∷ [])) labels)
+          → ((w : UnitAt cell size area split least end start hi) → final ≡ unitLabelled (w .of .network)
+          (w .run) digits (gathered ++ (digit ∷ [])) labels)
           → final ≡ whole
       unfolding progress-last-unit
       progress-last f =

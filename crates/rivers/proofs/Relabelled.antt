@@ -18,7 +18,8 @@ module _ (t : ℕ → Bool) (f : ℕ → ℕ) where
   from-length i [] = refl
   from-length i (x ∷ l) = ap suc (from-length (suc i) l)
 
-  from-at : (i : ℕ) (l : List ℕ) (c : ℕ) → c < length l → getD (relabelledFrom t f i l) c 0 ≡ cond (t (i + c)) (f (i + c)) (getD l c 0)
+  from-at : (i : ℕ) (l : List ℕ) (c : ℕ) → c < length l
+      → getD (relabelledFrom t f i l) c 0 ≡ cond (t (i + c)) (f (i + c)) (getD l c 0)
   unfolding relabelledFrom
   from-at i [] c h = absurd (omega arith)
   from-at i (x ∷ l) zero h = rw (add-zero i)
@@ -32,18 +33,22 @@ module _ (t : ℕ → Bool) (f : ℕ → ℕ) where
   unfolding relabelled
   relabelled-at l c h = rw (zero-add c) at (from-at 0 l c h)
 
-  pub relabelled-is : (l m : List ℕ) → length m ≡ length l → ((c : ℕ) → c < length l → getD m c 0 ≡ cond (t c) (f c) (getD l c 0)) → m ≡ relabelled t f l
+  pub relabelled-is : (l m : List ℕ) → length m ≡ length l
+      → ((c : ℕ) → c < length l → getD m c 0 ≡ cond (t c) (f c) (getD l c 0)) → m ≡ relabelled t f l
   relabelled-is l m q e =
-      ext-getD 0 m (relabelled t f l) (q ∙ sym (relabelled-length l)) (λ c h. e c (omega arith) ∙ sym (relabelled-at l c (omega arith)))
+      ext-getD 0 m (relabelled t f l) (q ∙ sym (relabelled-length l))
+      (λ c h. e c (omega arith) ∙ sym (relabelled-at l c (omega arith)))
 
   pub relabelled-none : (l : List ℕ) → ((c : ℕ) → t c ≡ false) → relabelled t f l ≡ l
   relabelled-none l e = sym (relabelled-is l l refl (λ c h. rw (e c) refl))
 
 -- the same places get the same values
-pub relabelled-same : (t s : ℕ → Bool) (f g : ℕ → ℕ) (l : List ℕ) → ((c : ℕ) → t c ≡ s c) → ((c : ℕ) → t c ≡ true → f c ≡ g c)
+pub relabelled-same : (t s : ℕ → Bool) (f g : ℕ → ℕ) (l : List ℕ) → ((c : ℕ) → t c ≡ s c)
+    → ((c : ℕ) → t c ≡ true → f c ≡ g c)
     → relabelled t f l ≡ relabelled s g l
 relabelled-same t s f g l e d =
-    relabelled-is s g l (relabelled t f l) (relabelled-length t f l) (λ c h. relabelled-at t f l c h ∙ go c (t c) refl (getD l c 0))
+    relabelled-is s g l (relabelled t f l) (relabelled-length t f l)
+    (λ c h. relabelled-at t f l c h ∙ go c (t c) refl (getD l c 0))
   where
     go : (c : ℕ) (b : Bool) → t c ≡ b → (x : ℕ) → cond (t c) (f c) x ≡ cond (s c) (g c) x
     go c true q x = rw (← e c, q) (d c q)
@@ -73,7 +78,8 @@ relabelled-set t p at l a =
     relabelled-is _ _ l (relabelled t (λ c. p) (set l at p)) (relabelled-length t _ (set l at p) ∙ length-set l at p)
     (λ c h. relabelled-at t _ (set l at p) c (rw length-set h) ∙ go c (eqb at c) refl (t c))
   where
-    go : (c : ℕ) (b : Bool) → eqb at c ≡ b → (x : Bool) → cond x p (getD (set l at p) c 0) ≡ cond (cond b true x) p (getD l c 0)
+    go : (c : ℕ) (b : Bool) → eqb at c ≡ b → (x : Bool)
+        → cond x p (getD (set l at p) c 0) ≡ cond (cond b true x) p (getD l c 0)
     go c true q true = refl
     go c true q false = rw (← eqb-true at c q) (getD-set-same l at p 0 a)
     go c false q true = refl
@@ -91,6 +97,7 @@ module _ (cell : List ℕ) (p hi j : ℕ) (l : List ℕ) where
   filled-none h = relabelled-none _ _ l (λ c. rw (less-none hi j h))
 
   pub filled-more : j < hi → getD cell j 0 < length l
-      → relabelled (stands cell (j + 1) (hi - (j + 1))) (λ c. p) (set l (getD cell j 0) p) ≡ relabelled (stands cell j (hi - j)) (λ c. p) l
+      → relabelled (stands cell (j + 1) (hi - (j + 1))) (λ c. p) (set l (getD cell j 0) p) ≡ relabelled
+      (stands cell j (hi - j)) (λ c. p) l
   unfolding stands
   filled-more h a = rw (less-suc hi j h) (rw (add-one j) (relabelled-set _ p (getD cell j 0) l a))

@@ -16,7 +16,8 @@ unfoldable pub relabelled : (ℕ → Bool) → (ℕ → ℕ) → List ℕ → Li
 unfolding relabelledFrom
 relabelled test f l = relabelledFrom test f 0 l
 
--- the cells that a unit holds have their labels: the digits gathered, and at most `digits` more; every other place keeps its value
+-- the cells that a unit holds have their labels: the digits gathered, and at most `digits` more; every other place
+-- keeps its value
 unfoldable pub unitLabelled : Network → Run → ℕ → List ℕ → List ℕ → List ℕ
 unfolding relabelled holds label number
 unitLabelled N R digits gathered l = relabelled (holds N R) (λ c. number (gathered ++ label N digits R c)) l

@@ -11,8 +11,8 @@ use crate::keys::key_at;
 use crate::keys::larger;
 use crate::keys::smaller;
 
-// Whether no mouth that counts was met, and the four largest keys of those that were, the largest first; where there are fewer,
-// the least key that counts.
+// Whether no mouth that counts was met, and the four largest keys of those that were, the largest first; where there
+// are fewer, the least key that counts.
 struct Top {
     finished: bool,
     a: u64,
@@ -57,7 +57,8 @@ impl Top {
     }
 }
 
-// The rule by which mouths of a unit are taken: at most `split`, which is 1 to 4, of those with an area of `least` or more.
+// The rule by which mouths of a unit are taken: at most `split`, which is 1 to 4, of those with an area of `least` or
+// more.
 pub struct Rule {
     pub split: usize,
     pub least: u32,
@@ -82,7 +83,8 @@ pub fn heaviest(
     requires { ⌜ hi ≤ length (now cell) ⌝ }
     requires { ⌜ Layout (now cell) (now size) (length (now area)) ⌝ }
     requires { ⌜ (1 ≤ rule .split) × (rule .split ≤ 4) ⌝ }
-    ensures { λ r. ⌜ ((u : UnitAt (now (cell .entry)) (now (size .entry)) (now (area .entry)) (rule .split) (rule .least) end lo hi) → CutOf (u .of .network) (u .run) (r .finished) (r .key)) ⌝ }
+    ensures { λ r. ⌜ ((u : UnitAt (now (cell .entry)) (now (size .entry)) (now (area .entry)) (rule .split)
+        (rule .least) end lo hi) → CutOf (u .of .network) (u .run) (r .finished) (r .key)) ⌝ }
 {
     let floor = (rule.least as u64) * 65536;
     let mut top = Top {

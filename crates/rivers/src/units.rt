@@ -16,7 +16,8 @@ use crate::prefix::with_digit;
 fn fill(lo: usize, hi: usize, prefix: u64, cell: &[u32], labels: &mut [u64])
     requires { ⌜ hi ≤ length (now cell) ⌝ }
     requires { ⌜ ((j : ℕ) → j < length (now cell) → getD (now cell) j 0 < length (now labels)) ⌝ }
-    ensures { λ _. ⌜ now (labels .exit) ≡ relabelled (stands (now (cell .entry)) lo (hi - lo)) (λ c. prefix) (now (labels .entry)) ⌝ }
+    ensures { λ _. ⌜ now (labels .exit)
+        ≡ relabelled (stands (now (cell .entry)) lo (hi - lo)) (λ c. prefix) (now (labels .entry)) ⌝ }
 {
     for j in lo..hi {
         let at = cell[j] as usize;
@@ -24,7 +25,8 @@ fn fill(lo: usize, hi: usize, prefix: u64, cell: &[u32], labels: &mut [u64])
     }
 }
 
-// Labels the cells of the unit at positions lo to hi of a river that ends at `end`, with at most `digits` digits after `prefix`.
+// Labels the cells of the unit at positions lo to hi of a river that ends at `end`, with at most `digits` digits after
+// `prefix`.
 fn label_run(
     lo: usize,
     hi: usize,
@@ -40,7 +42,9 @@ fn label_run(
     requires { ⌜ UnitAt (now cell) (now size) (now area) (rule .split) (rule .least) end lo hi ⌝ }
     requires { ⌜ Places (now cell) (now size) (length (now area)) (length (now labels)) (rule .split) ⌝ }
     requires { ⌜ Prefix prefix digits ⌝ }
-    ensures { λ _. ⌜ ((u : UnitAt (now (cell .entry)) (now (size .entry)) (now (area .entry)) (rule .split) (rule .least) end lo hi) (p : Prefix prefix digits) → now (labels .exit) ≡ unitLabelled (u .of .network) (u .run) digits (p .gathered) (now (labels .entry))) ⌝ }
+    ensures { λ _. ⌜ ((u : UnitAt (now (cell .entry)) (now (size .entry)) (now (area .entry)) (rule .split)
+        (rule .least) end lo hi) (p : Prefix prefix digits) → now (labels .exit)
+        ≡ unitLabelled (u .of .network) (u .run) digits (p .gathered) (now (labels .entry))) ⌝ }
 {
     if digits == 0 {
         fill(lo, hi, prefix, cell, labels);
@@ -91,7 +95,10 @@ pub fn label_river(
     requires { ⌜ NetworkOf (now cell) (now size) (now area) (rule .split) (rule .least) ⌝ }
     requires { ⌜ Places (now cell) (now size) (length (now area)) (length (now labels)) (rule .split) ⌝ }
     requires { ⌜ Prefix prefix digits ⌝ }
-    ensures { λ _. ⌜ ((n : NetworkOf (now (cell .entry)) (now (size .entry)) (now (area .entry)) (rule .split) (rule .least)) (p : Prefix prefix digits) → now (labels .exit) ≡ unitLabelled (n .network) (river (n .network) (getD (now (cell .entry)) j 0)) digits (p .gathered) (now (labels .entry))) ⌝ }
+    ensures { λ _. ⌜ ((n : NetworkOf (now (cell .entry)) (now (size .entry)) (now (area .entry)) (rule .split)
+        (rule .least)) (p : Prefix prefix digits) → now (labels .exit)
+        ≡ unitLabelled (n .network) (river (n .network) (getD (now (cell .entry)) j 0)) digits (p .gathered)
+        (now (labels .entry))) ⌝ }
 {
     let end = j + size[j] as usize;
     label_run(j, end, end, digits, prefix, rule, cell, size, area, labels);
@@ -111,7 +118,11 @@ pub fn label_basin(
     requires { ⌜ 0 < length (now cell) ⌝ }
     requires { ⌜ NetworkOf (now cell) (now size) (now area) split least ⌝ }
     requires { ⌜ Places (now cell) (now size) (length (now area)) (length (now labels)) split ⌝ }
-    ensures { λ _. ⌜ ((n : NetworkOf (now (cell .entry)) (now (size .entry)) (now (area .entry)) split least) → now (labels .exit) ≡ relabelled (holds (n .network) (river (n .network) (getD (now (cell .entry)) 0 0))) (λ c. number (label (n .network) depth (river (n .network) (getD (now (cell .entry)) 0 0)) c)) (now (labels .entry))) ⌝ }
+    ensures { λ _. ⌜ ((n : NetworkOf (now (cell .entry)) (now (size .entry)) (now (area .entry)) split least)
+        → now (labels .exit)
+        ≡ relabelled (holds (n .network) (river (n .network) (getD (now (cell .entry)) 0 0)))
+        (λ c. number (label (n .network) depth (river (n .network) (getD (now (cell .entry)) 0 0)) c))
+        (now (labels .entry))) ⌝ }
 {
     let rule = Rule { split, least };
     label_river(0, depth, 0, rule, cell, size, area, labels);

@@ -72,19 +72,23 @@ module _ (rows cols row col : ℕ) (s : Step) where
   unfolding stepEnd
   end-off-row e = rw e
 
-  pub end-off-col : {r : ℕ} → movedBy row (s .row) rows ≡ At r → movedBy col (s .col) cols ≡ Off → Off ≡ stepEnd rows cols row col s
+  pub end-off-col : {r : ℕ} → movedBy row (s .row) rows ≡ At r → movedBy col (s .col) cols ≡ Off
+      → Off ≡ stepEnd rows cols row col s
   unfolding stepEnd
   end-off-col e f = rw (e, f)
 
-  pub end-at : {r c : ℕ} → movedBy row (s .row) rows ≡ At r → movedBy col (s .col) cols ≡ At c → At (r * cols + c) ≡ stepEnd rows cols row col s
+  pub end-at : {r c : ℕ} → movedBy row (s .row) rows ≡ At r → movedBy col (s .col) cols ≡ At c
+      → At (r * cols + c) ≡ stepEnd rows cols row col s
   unfolding stepEnd
   end-at e f = rw (e, f)
 
-  pub end-landed : {t : ℕ} → stepEnd rows cols row col s ≡ At t → Landed cols (movedBy row (s .row) rows) (movedBy col (s .col) cols) t
+  pub end-landed : {t : ℕ} → stepEnd rows cols row col s ≡ At t
+      → Landed cols (movedBy row (s .row) rows) (movedBy col (s .col) cols) t
   unfolding stepEnd
   end-landed {t} e = go (movedBy row (s .row) rows) (movedBy col (s .col) cols) refl refl e
     where
-      go : (a b : End) → movedBy row (s .row) rows ≡ a → movedBy col (s .col) cols ≡ b → cellAt cols a b ≡ At t → Landed cols (movedBy row (s .row) rows) (movedBy col (s .col) cols) t
+      go : (a b : End) → movedBy row (s .row) rows ≡ a → movedBy col (s .col) cols ≡ b → cellAt cols a b ≡ At t
+          → Landed cols (movedBy row (s .row) rows) (movedBy col (s .col) cols) t
       go Off b ea eb e = absurd (off-not-at e)
       go (At r) Off ea eb e = absurd (off-not-at e)
       go (At r) (At c) ea eb e = record { row = r; col = c; row-is = ea; col-is = eb; cell-is = cc }
@@ -159,8 +163,10 @@ module _ (G : Grid) (u : ℕ) where
   unfolding next
   next-goes {r} e = from (inside G u) refl e
     where
-      to : (t : ℕ) → inside G u ≡ true → endOf G u ≡ At t → (b : Bool) → inside G t ≡ b → cond b (To t) Outlet ≡ To r → Goes G u r
-      to t i n true j e = let q : t ≡ r = cc in record { from-inside = i; ends = n ∙ ap At q; to-inside = ap (inside G) (sym q) ∙ j }
+      to : (t : ℕ) → inside G u ≡ true → endOf G u ≡ At t → (b : Bool) → inside G t ≡ b → cond b (To t) Outlet ≡ To r
+          → Goes G u r
+      to t i n true j e =
+          let q : t ≡ r = cc in record { from-inside = i; ends = n ∙ ap At q; to-inside = ap (inside G) (sym q) ∙ j }
       to t i n false j e = absurd (outlet-not-to e)
 
       end : inside G u ≡ true → (a : End) → endOf G u ≡ a → onto G a ≡ To r → Goes G u r

@@ -73,11 +73,18 @@ digits-snoc k m a low high =
     let ones : (m * 10 + a) % 10 ≡ a = omega arith in
     digits-last k (m * 10 + a) (λ e. omega arith) ∙ rw (tens, ones)
 
-digits-number-from : (k m : ℕ) (x : List ℕ) → Digits 9 x → digitsWithin (length x + k) (numberFrom m x) ≡ digitsWithin k m ++ x
+digits-number-from : (k m : ℕ) (x : List ℕ) → Digits 9 x
+    → digitsWithin (length x + k) (numberFrom m x) ≡ digitsWithin k m ++ x
 unfolding numberFrom
 digits-number-from k m [] digits-none = rw (zero-add k, append-nil)
 digits-number-from k m (a ∷ x) (digits-cons low high d) =
-    rw (suc-add, ← add-suc (length x) k, digits-number-from (suc k) (m * 10 + a) x d, digits-snoc k m a low high, append-assoc)
+    rw (
+      suc-add,
+      ← add-suc (length x) k,
+      digits-number-from (suc k) (m * 10 + a) x d,
+      digits-snoc k m a low high,
+      append-assoc,
+    )
 
 -- the digits of a label's number are the label's
 pub digits-within : (k : ℕ) (x : List ℕ) → Digits 9 x → length x ≤ k → digitsWithin k (number x) ≡ x
@@ -103,7 +110,8 @@ unfolding digitsWithin number numberFrom
 number-within zero m h = omega arith
 number-within (suc k) m h = go (eqb m 0) refl (number-within k (m / 10) (omega (arith, pow-suc 10 k)))
   where
-    go : (b : Bool) → eqb m 0 ≡ b → number (digitsWithin k (m / 10)) ≡ m / 10 → number (cond b [] (digitsWithin k (m / 10) ++ (m % 10 ∷ []))) ≡ m
+    go : (b : Bool) → eqb m 0 ≡ b → number (digitsWithin k (m / 10)) ≡ m / 10
+        → number (cond b [] (digitsWithin k (m / 10) ++ (m % 10 ∷ []))) ≡ m
     go true e rest = omega (arith, eqb-true m 0 e)
     go false e rest = omega (arith, number-snoc (digitsWithin k (m / 10)) (m % 10))
 
@@ -119,7 +127,8 @@ unfolding digitsWithin
 at-most-within zero m = omega arith
 at-most-within (suc k) m = go (eqb m 0) (at-most-within k (m / 10))
   where
-    go : (b : Bool) → length (digitsWithin k (m / 10)) ≤ k → length (cond b [] (digitsWithin k (m / 10) ++ (m % 10 ∷ []))) ≤ suc k
+    go : (b : Bool) → length (digitsWithin k (m / 10)) ≤ k
+        → length (cond b [] (digitsWithin k (m / 10) ++ (m % 10 ∷ []))) ≤ suc k
     go true rest = omega arith
     go false rest = simp length-append (omega arith)
 
@@ -133,7 +142,8 @@ count-within zero k m h = omega arith
 count-within (suc f) zero m h = rw (eq-eqb m 0 (omega arith)) (omega arith)
 count-within (suc f) (suc k) m h = go (eqb m 0) (count-within f k (m / 10) (omega (arith, pow-suc 10 k)))
   where
-    go : (b : Bool) → length (digitsWithin f (m / 10)) ≤ k → length (cond b [] (digitsWithin f (m / 10) ++ (m % 10 ∷ []))) ≤ suc k
+    go : (b : Bool) → length (digitsWithin f (m / 10)) ≤ k
+        → length (cond b [] (digitsWithin f (m / 10) ++ (m % 10 ∷ []))) ≤ suc k
     go true rest = omega arith
     go false rest = simp length-append (omega arith)
 

@@ -23,14 +23,17 @@ pub record FirstAt (test : ℕ → Bool) (n k : ℕ) : Type 0 where
 from-none : (test : ℕ → Bool) (m i : ℕ) → ((k : ℕ) → i ≤ k → k < i + m → test k ≡ false) → firstFrom test i m ≡ Nothing
 unfolding firstFrom
 from-none test zero i none = refl
-from-none test (suc m) i none = rw (none i (omega arith) (omega arith)) (from-none test m (suc i) (λ k h l. none k (omega arith) (omega arith)))
+from-none test (suc m) i none =
+    rw (none i (omega arith) (omega arith)) (from-none test m (suc i) (λ k h l. none k (omega arith) (omega arith)))
 
-from-at : (test : ℕ → Bool) (m i k : ℕ) → i ≤ k → k < i + m → test k ≡ true → ((j : ℕ) → i ≤ j → j < k → test j ≡ false) → firstFrom test i m ≡ At k
+from-at : (test : ℕ → Bool) (m i k : ℕ) → i ≤ k → k < i + m → test k ≡ true → ((j : ℕ) → i ≤ j → j < k → test j ≡ false)
+    → firstFrom test i m ≡ At k
 unfolding firstFrom
 from-at test zero i k h l t none = absurd (omega arith)
 from-at test (suc m) i k h l t none =
     ⊎-elim (λ e. let q : test i ≡ true = ap test e ∙ t in rw q (ap At e))
-    (λ lt. rw (none i (omega arith) lt) (from-at test m (suc i) k lt (omega arith) t (λ j g g′. none j (omega arith) g′)))
+    (λ lt. rw (none i (omega arith) lt)
+    (from-at test m (suc i) k lt (omega arith) t (λ j g g′. none j (omega arith) g′)))
     (eq-or-lt-of-le h)
 
 none-from : (test : ℕ → Bool) (m i : ℕ) → firstFrom test i m ≡ Nothing → (k : ℕ) → i ≤ k → k < i + m → test k ≡ false
@@ -38,7 +41,8 @@ unfolding firstFrom
 none-from test zero i e k h l = absurd (omega arith)
 none-from test (suc m) i e k h l = go (test i) refl e (none-from test m (suc i))
   where
-    go : (b : Bool) → test i ≡ b → cond b (At i) (firstFrom test (suc i) m) ≡ Nothing → (firstFrom test (suc i) m ≡ Nothing → (k : ℕ) → suc i ≤ k → k < suc i + m → test k ≡ false) → test k ≡ false
+    go : (b : Bool) → test i ≡ b → cond b (At i) (firstFrom test (suc i) m) ≡ Nothing
+        → (firstFrom test (suc i) m ≡ Nothing → (k : ℕ) → suc i ≤ k → k < suc i + m → test k ≡ false) → test k ≡ false
     go true t e rest = let z : _≡_ {A = ℕ} 0 1 = cc in absurd (omega arith)
     go false t e rest = ⊎-elim (λ q. ap test (sym q) ∙ t) (λ lt. rest e k lt (omega arith)) (eq-or-lt-of-le h)
 
@@ -54,16 +58,36 @@ unfolding firstFrom
 at-from test zero i k e = let z : _≡_ {A = ℕ} 0 1 = cc in absurd (omega arith)
 at-from test (suc m) i k e = go (test i) refl e (at-from test m (suc i) k)
   where
-    go : (b : Bool) → test i ≡ b → cond b (At i) (firstFrom test (suc i) m) ≡ At k → (firstFrom test (suc i) m ≡ At k → FromAt test m (suc i) k) → FromAt test (suc m) i k
-    go true t e rest = let q : i ≡ k = cc in record { least = omega arith; most = omega arith; passes = ap test (sym q) ∙ t; none-before = λ j h l. absurd (omega arith) }
+    go : (b : Bool) → test i ≡ b → cond b (At i) (firstFrom test (suc i) m) ≡ At k
+        → (firstFrom test (suc i) m ≡ At k → FromAt test m (suc i) k) → FromAt test (suc m) i k
+    go true t e rest =
+        let q : i ≡ k = cc in
+        record {
+          least = omega arith;
+          most = omega arith;
+          passes = ap test (sym q) ∙ t;
+          none-before = λ j h l. absurd
+              (omega arith);
+        }
     go false t e rest =
         let r = rest e in
-        record { least = omega arith; most = omega arith; passes = r .passes; none-before = λ j h l. ⊎-elim (λ q. ap test (sym q) ∙ t) (λ lt. r .none-before j lt l) (eq-or-lt-of-le h) }
+        record {
+          least = omega arith;
+          most = omega arith;
+          passes = r .passes;
+          none-before = λ j h l. ⊎-elim
+              (λ q. ap test (sym q) ∙ t) (λ lt. r .none-before j lt l) (eq-or-lt-of-le h);
+        }
 
-from-same : (test test′ : ℕ → Bool) (m i : ℕ) → ((k : ℕ) → i ≤ k → k < i + m → test k ≡ test′ k) → firstFrom test i m ≡ firstFrom test′ i m
+from-same : (test test′ : ℕ → Bool) (m i : ℕ) → ((k : ℕ) → i ≤ k → k < i + m → test k ≡ test′ k)
+    → firstFrom test i m ≡ firstFrom test′ i m
 unfolding firstFrom
 from-same test test′ zero i same = refl
-from-same test test′ (suc m) i same = rw (same i (omega arith) (omega arith), from-same test test′ m (suc i) (λ k h l. same k (omega arith) (omega arith)))
+from-same test test′ (suc m) i same =
+    rw (
+      same i (omega arith) (omega arith),
+      from-same test test′ m (suc i) (λ k h l. same k (omega arith) (omega arith)),
+    )
 
 -- ---- of n cells
 

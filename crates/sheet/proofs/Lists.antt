@@ -22,4 +22,5 @@ module _ (f : ℕ → ℕ) where
   -- what stands for a cell, whatever the slice held before
   pub written-at : (n c : ℕ) (old : List ℕ) → c < n → getD (written (listFrom f 0 n) old) c 0 ≡ f c
   written-at n c old l =
-      List·getD-append (listFrom f 0 n) (drop (length (listFrom f 0 n)) old) 0 c (rw (length-list 0 n) l) ∙ list-at 0 n c l ∙ ap f (omega arith)
+      List·getD-append (listFrom f 0 n) (drop (length (listFrom f 0 n)) old) 0 c
+      (rw (length-list 0 n) l) ∙ list-at 0 n c l ∙ ap f (omega arith)

@@ -70,7 +70,8 @@ module _ (depth : ℕ) (x : List ℕ) where
 
   pub label-digits : areDigits depth x ≡ true → Digits 9 x × (length x ≤ depth)
   unfolding areDigits
-  label-digits e = let b = both-true (leb (length x) depth) (every (within 9) x) e in (digits-every x (b .1), leb-true _ _ (b .0))
+  label-digits e =
+      let b = both-true (leb (length x) depth) (every (within 9) x) e in (digits-every x (b .1), leb-true _ _ (b .0))
 
 pub within-from : (most a : ℕ) → 1 ≤ a → within most a ≡ leb a most
 unfolding within

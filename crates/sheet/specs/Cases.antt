@@ -1,4 +1,5 @@
--- Worked cases: what the definitions compute beside what document 01 states. Those that it marks * stand in one list, in its order.
+-- Worked cases: what the definitions compute beside what document 01 states. Those that it marks * stand in one list,
+-- in its order.
 use mathlib.Core.Bool.{cond}
 use mathlib.Core.List.{List, [], _∷_, _++_}
 use Prim.Native.Nat.{ℕ, _*_}
@@ -51,17 +52,19 @@ cases =
     case (area (sheet sampleA 2) 4 ∷ []) (11 ∷ [])
     ∷ case (mouthsAt 5 (river (network (sheet sampleA 2)) (outlet sampleA))) (9 ∷ 10 ∷ 1 ∷ [])
     ∷ case (labelOf (sheet sampleA 2) 3 ∷ labelOf (sheet sampleA 2) 11 ∷ []) (92 ∷ 93 ∷ [])
-    ∷ case (labelOf (sheet sampleA 1) 3 ∷ labelOf (sheet sampleA 1) 6 ∷ labelOf (sheet sampleA 1) 7 ∷ labelOf (sheet sampleA 1) 11 ∷ []) (9 ∷ 9 ∷ 9 ∷ 9 ∷ [])
+    ∷ case (labelOf (sheet sampleA 1) 3 ∷ labelOf (sheet sampleA 1) 6 ∷ labelOf (sheet sampleA 1) 7 ∷ labelOf
+    (sheet sampleA 1) 11 ∷ []) (9 ∷ 9 ∷ 9 ∷ 9 ∷ [])
     ∷ case (area (sheet (grid 1 1 (1 ∷ [])) 1) 0 ∷ labelOf (sheet (grid 1 1 (1 ∷ [])) 1) 0 ∷ []) (1 ∷ 0 ∷ [])
     ∷ case (outcomeIs (sheet (grid 1 2 (1 ∷ 16 ∷ [])) 1) (lentFor 2)) (6 ∷ 0 ∷ [])
     ∷ case (outcomeIs (sheet (grid 1 2 (16 ∷ 1 ∷ [])) 1) (lentFor 2)) (7 ∷ 1 ∷ [])
-    ∷ case (answerNumber (flow 3 91 92) ∷ answerNumber (flow 3 92 91) ∷ answerNumber (flow 3 21 3) ∷ []) (1 ∷ 0 ∷ 0 ∷ [])
+    ∷ case (answerNumber (flow 3 91 92) ∷ answerNumber (flow 3 92 91) ∷ answerNumber (flow 3 21 3) ∷ [])
+    (1 ∷ 0 ∷ 0 ∷ [])
     ∷ case (answerNumber (flow 3 131 14) ∷ []) (3 ∷ [])
     ∷ case (answerNumber (flow 3 9 91) ∷ answerNumber (flow 3 105 9) ∷ []) (140 ∷ 139 ∷ [])
     ∷ []
 
--- sample A whole: it is accepted, and of slices for 13 cells the first 12 areas and labels are those that document 01 prints, the
--- first 96 work places are 0, and the others keep their values
+-- sample A whole: it is accepted, and of slices for 13 cells the first 12 areas and labels are those that document 01
+-- prints, the first 96 work places are 0, and the others keep their values
 unfoldable pub listing : List Case
 unfolding outcome lentAfter
 listing =
@@ -93,23 +96,26 @@ orders =
     ∷ case (outcomeIs (sheet (grid 1 4 (16 ∷ 1 ∷ 16 ∷ 1 ∷ [])) 18) (lentFor 4)) (6 ∷ 1 ∷ [])
     ∷ []
 
--- a basin whose outlet, cell 3, has the donors 0, 1, 7 and 4, and cell 4 the donors 2, 6 and 8. Of the equal mouths 0, 1, 7, 2 and 6,
--- 0 is not taken: it stays in unit 1, whose stem cell is 3 alone
+-- a basin whose outlet, cell 3, has the donors 0, 1, 7 and 4, and cell 4 the donors 2, 6 and 8. Of the equal mouths 0,
+-- 1, 7, 2 and 6, 0 is not taken: it stays in unit 1, whose stem cell is 3 alone
 abbrev pub confluences : Grid
 confluences = grid 3 3 (4 ∷ 8 ∷ 8 ∷ 16 ∷ 16 ∷ 0 ∷ 128 ∷ 32 ∷ 32 ∷ [])
 
--- one case for each of document 01's traps (a stem chosen afresh, ties by list place, digits that slide, a later even digit, a circle), then the order
--- of the flow question's answers
+-- one case for each of document 01's traps (a stem chosen afresh, ties by list place, digits that slide, a later even
+-- digit, a circle), then the order of the flow question's answers
 unfoldable pub traps : List Case
 unfolding labelOf area outcome flow
 traps =
     case (labelOf (sheet confluences 2) 3 ∷ labelOf (sheet confluences 2) 0 ∷ []) (11 ∷ 12 ∷ [])
     ∷ case (labelOf (sheet confluences 2) 1 ∷ labelOf (sheet confluences 2) 2 ∷ []) (2 ∷ 6 ∷ [])
-    ∷ case (labelOf (sheet confluences 2) 7 ∷ labelOf (sheet confluences 2) 6 ∷ labelOf (sheet confluences 2) 8 ∷ []) (4 ∷ 8 ∷ 9 ∷ [])
+    ∷ case (labelOf (sheet confluences 2) 7 ∷ labelOf (sheet confluences 2) 6 ∷ labelOf (sheet confluences 2) 8 ∷ [])
+    (4 ∷ 8 ∷ 9 ∷ [])
     ∷ case (answerNumber (flow 3 12 3) ∷ answerNumber (flow 3 114 3) ∷ answerNumber (flow 3 11 3) ∷ []) (0 ∷ 0 ∷ 1 ∷ [])
     ∷ case (outcomeIs (sheet (grid 1 3 (4 ∷ 1 ∷ 16 ∷ [])) 1) (lentFor 3)) (6 ∷ 1 ∷ [])
-    ∷ case (answerNumber (flow 3 132 14) ∷ answerNumber (flow 3 0 0) ∷ answerNumber (flow 3 0 5) ∷ []) (0 ∷ 2 ∷ 140 ∷ [])
-    ∷ case (answerNumber (flow 3 9 105) ∷ answerNumber (flow 3 105 105) ∷ answerNumber (flow 0 105 105) ∷ []) (139 ∷ 139 ∷ 130 ∷ [])
+    ∷ case (answerNumber (flow 3 132 14) ∷ answerNumber (flow 3 0 0) ∷ answerNumber (flow 3 0 5) ∷ [])
+    (0 ∷ 2 ∷ 140 ∷ [])
+    ∷ case (answerNumber (flow 3 9 105) ∷ answerNumber (flow 3 105 105) ∷ answerNumber (flow 0 105 105) ∷ [])
+    (139 ∷ 139 ∷ 130 ∷ [])
     ∷ case (answerNumber (flow 19 1 2) ∷ answerNumber (flow 18 1 2) ∷ []) (130 ∷ 1 ∷ [])
     ∷ []
 

@@ -29,7 +29,8 @@ every test (a ∷ x) = let r = every test x in cond (test a) r false
 abbrev pub isOdd : ℕ → Bool
 isOdd a = eqb (a % 2) 1
 
--- the rule of the third demand, for labels x of p and y of q that part at i: p's digit is smaller, and p's digits from there on are all odd
+-- the rule of the third demand, for labels x of p and y of q that part at i: p's digit is smaller, and p's digits from
+-- there on are all odd
 unfoldable pub ruleAt : ℕ → List ℕ → List ℕ → Bool
 unfolding every
 ruleAt i x y = cond (ltb (getD x i 0) (getD y i 0)) (every isOdd (drop i x)) false
@@ -44,7 +45,8 @@ unfoldable pub isLabel : ℕ → ℕ → Bool
 unfolding areDigits digitsOf
 isLabel depth label = areDigits depth (digitsOf label)
 
--- the answer for unequal labels: 12 where they do not part; else by the rule, which is unsure where P may hold tributaries that were cut
+-- the answer for unequal labels: 12 where they do not part; else by the rule, which is unsure where P may hold
+-- tributaries that were cut
 unfoldable pub answerAt : ℕ → List ℕ → List ℕ → Found → Flow
 unfolding ruleAt
 answerAt depth x y Nothing = Refused 12

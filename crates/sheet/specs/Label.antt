@@ -32,8 +32,8 @@ pub record Place : Type 0 where
 abbrev pub placed : ℕ → Run → Place
 placed digit unit = record { digit = digit; unit = unit }
 
--- where c lies, of parts whose digits begin after k: runs have odd digits, taken mouths even ones, empty runs keep theirs;
--- an even digit goes to the whole tributary, whose river starts at that mouth
+-- where c lies, of parts whose digits begin after k: runs have odd digits, taken mouths even ones, empty runs keep
+-- theirs; an even digit goes to the whole tributary, whose river starts at that mouth
 unfoldable pub placeIn : Network → ℕ → Parts → ℕ → Place
 unfolding passesIn holds river
 placeIn N k (last R) c = placed (suc k) R

@@ -1,4 +1,5 @@
--- Document 01's outcome of labelling: refusals 1 to 7 in order, with their places, and what each lent slice holds afterwards.
+-- Document 01's outcome of labelling: refusals 1 to 7 in order, with their places, and what each lent slice holds
+-- afterwards.
 use mathlib.Core.Bool.{Bool, false, cond, not}
 use mathlib.Core.List.{List, _++_}
 use Prim.Native.Nat.{ℕ, suc, _*_}
@@ -88,7 +89,8 @@ unfoldable pub outcome : Sheet → Lent → Outcome
 unfolding sizesFit depthFits slicesFit outcomeOn
 outcome S L =
     let rest : Outcome = outcomeOn (S .grid) in
-    cond (sizesFit (S .grid .rows) (S .grid .cols)) (cond (depthFits (S .depth)) (cond (slicesFit (S .grid) L) rest (Refused 3 0)) (Refused 2 0)) (Refused 1 0)
+    cond (sizesFit (S .grid .rows) (S .grid .cols))
+    (cond (depthFits (S .depth)) (cond (slicesFit (S .grid) L) rest (Refused 3 0)) (Refused 2 0)) (Refused 1 0)
 
 -- document 01's number and place of an outcome; both are 0 where it is accepted
 pub record OutcomeValues : Type 0 where
@@ -114,5 +116,7 @@ unfolding outcome sizesFit depthFits slicesFit areasOf labelsOf
 lentAfter S L = record {
   areas = ifAccepted (outcome S L) (areasOf S) (L .areas);
   labels = ifAccepted (outcome S L) (labelsOf S) (L .labels);
-  work = cond (both (sizesFit (S .grid .rows) (S .grid .cols)) (both (depthFits (S .depth)) (slicesFit (S .grid) L))) (written (replicate (8 * cells (S .grid)) 0) (L .work)) (L .work);
+  work =
+      cond (both (sizesFit (S .grid .rows) (S .grid .cols)) (both (depthFits (S .depth)) (slicesFit (S .grid) L)))
+      (written (replicate (8 * cells (S .grid)) 0) (L .work)) (L .work);
 }

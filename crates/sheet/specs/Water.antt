@@ -6,7 +6,8 @@ use lib.Dec.{eqb}
 use Rattle.sheet.specs.declared.Next.{Next}
 use Rattle.sheet.specs.declared.Next.the-variants.{Outlet, To}
 
--- "water from q passes p": p is on q's way, which is q and then, as long as the last is no outlet, the cell its step ends on
+-- "water from q passes p": p is on q's way, which is q and then, as long as the last is no outlet, the cell its step
+-- ends on
 pub data Passes (next : ℕ → Next) : ℕ → ℕ → Type 0 where
   here : {p : ℕ} → Passes next p p
   there : {q r p : ℕ} → next q ≡ To r → Passes next r p → Passes next q p

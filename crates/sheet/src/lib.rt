@@ -1,4 +1,5 @@
-// The definitions of the whole product (specs/) and their laws (proofs/). The types that the definitions share with the code stand here; no code.
+// The definitions of the whole product (specs/) and their laws (proofs/). The types that the definitions share with the
+// code stand here; no code.
 
 // A direction code with its signed step in rows and columns.
 pub struct Step {

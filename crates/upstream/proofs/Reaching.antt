@@ -26,13 +26,17 @@ module _ {G : Grid} {work : List ℕ} {queued : ℕ} (u : Upstream G work queued
   place-ends zero i h l = absurd (omega arith)
   place-ends (suc m) i h l = go (next G (queuedAt work i)) refl (place-ends m)
     where
-      go : (x : Next) → next G (queuedAt work i) ≡ x → ((j : ℕ) → j < m → j < queued → (k : ℕ) × Ends (next G) k (queuedAt work j)) → (k : ℕ) × Ends (next G) k (queuedAt work i)
+      go : (x : Next) → next G (queuedAt work i) ≡ x
+          → ((j : ℕ) → j < m → j < queued → (k : ℕ) × Ends (next G) k (queuedAt work j)) → (k : ℕ) × Ends (next G) k
+          (queuedAt work i)
       go Outlet e ih = (1, ends-here e)
       go (To r) e ih =
           let b = next-before u i r l e in
           let j = rankOf (cells G) work r - 1 in
-          let w = ih j (omega (arith, b .reached, b .earlier)) (place-on (u .queue) r (b .on) (b .reached)) in
-          (suc (w .0), ends-after e (subst (Ends (next G) (w .0)) (u .queue .stands r (b .on) (b .reached) .place) (w .1)))
+          let w = ih j (omega (arith, b .reached, b .earlier)) (place-on (u .queue) r (b .on) (b .reached)) in (
+            suc (w .0),
+            ends-after e (subst (Ends (next G) (w .0)) (u .queue .stands r (b .on) (b .reached) .place) (w .1)),
+          )
 
   -- the water of a queued cell comes to an outlet
   pub reached-ends : (c : ℕ) → c < cells G → 0 < rankOf (cells G) work c → reachesOutlet (next G) (cells G) c ≡ true
@@ -53,11 +57,14 @@ module _ {G : Grid} {work : List ℕ} {queued : ℕ} (s : Spread G work queued q
       let on = next-to-lt G c e in
       s .donors (rankOf (cells G) work r - 1) (place-on q r on h) c (e ∙ ap To (sym (q .stands r on h .place)))
 
-  reached-is : (c : ℕ) → c < cells G → isReached (cells G) work c ≡ both (inside G c) (reachesOutlet (next G) (cells G) c)
+  reached-is : (c : ℕ) → c < cells G
+      → isReached (cells G) work c ≡ both (inside G c) (reachesOutlet (next G) (cells G) c)
   reached-is c l = elim (ℕ-discrete (rankOf (cells G) work c) 0) [
     | yes e ↦
         reached-no (cells G) work c e
-        ∙ sym (not-true _ (λ h. let b = both-true _ _ h in let r = ends-reached (reaches-ends (next G) (cells G) c (b .1)) (b .0) in omega arith))
+        ∙ sym (not-true _
+        (λ h. let b = both-true _ _ h in let r = ends-reached (reaches-ends (next G) (cells G) c (b .1))
+        (b .0) in omega arith))
     | no d ↦
         let h : 0 < rankOf (cells G) work c = omega arith in
         reached-yes (cells G) work c h ∙ sym (rw (inside-of (s .upstream) c l h) (reached-ends (s .upstream) c l h))

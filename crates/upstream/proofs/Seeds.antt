@@ -32,7 +32,9 @@ module _ (G : Grid) where
     upstream = record {
       queue = record {
         room = omega (arith, f .room);
-        counted = sym (count-none (cells G) (isReached (cells G) work) (λ c l. reached-no (cells G) work c (f .zero (ranksPart * cells G + c) (omega arith))));
+        counted =
+            sym (count-none (cells G) (isReached (cells G) work)
+            (λ c l. reached-no (cells G) work c (f .zero (ranksPart * cells G + c) (omega arith))));
         item = λ i l. absurd (omega arith);
         stands = λ c l h. absurd (omega (arith, f .zero (ranksPart * cells G + c) (omega arith)));
       };
@@ -50,7 +52,10 @@ module _ (G : Grid) where
     seeded-none out = record {
       upstream = s .upstream;
       counted = s .counted ∙ sym (count-no cell (isOutlet G) out);
-      outlets = λ c l o. elim (ℕ-discrete c cell) [ yes e ↦ absurd (true≢false (sym o ∙ ap (isOutlet G) e ∙ out)) | no d ↦ s .outlets c (omega arith) o ];
+      outlets =
+          λ c l o. elim
+          (ℕ-discrete c cell)
+          [ yes e ↦ absurd (true≢false (sym o ∙ ap (isOutlet G) e ∙ out)) | no d ↦ s .outlets c (omega arith) o ];
       before = λ i l. omega (arith, s .before i l);
       rising = s .rising;
     }
@@ -62,7 +67,12 @@ module _ (G : Grid) where
         | yes e ↦ e
         | no d ↦
             let t = s .upstream .queue .stands cell on (omega arith) in
-            absurd (omega (arith, t .most, t .place, s .before (rankOf (cells G) work cell - 1) (omega (arith, t .most))))
+            absurd (omega (
+              arith,
+              t .most,
+              t .place,
+              s .before (rankOf (cells G) work cell - 1) (omega (arith, t .most)),
+            ))
       ]
 
       abbrev after : List ℕ

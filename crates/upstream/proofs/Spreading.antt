@@ -40,7 +40,9 @@ module _ {G : Grid} {work : List ℕ} {end row col : ℕ} (ready : Ready G work 
 
   -- what is found against a step goes to the cell
   pub found-next : {k q : ℕ} → k < 8 → neighbourAgainst G row col k ≡ At q → next G q ≡ To cell
-  found-next l e = neighbour-next G row col (ready .on .row-on) (ready .on .col-on) (inside-of (ready .upstream) cell on (ready .reached)) l e
+  found-next l e =
+      neighbour-next G row col (ready .on .row-on) (ready .on .col-on)
+      (inside-of (ready .upstream) cell on (ready .reached)) l e
 
   module _ (k : ℕ) where
     same-step : {j : ℕ} → k ≤ j → j < k + 1 → j ≡ k
@@ -55,50 +57,75 @@ module _ {G : Grid} {work : List ℕ} {end row col : ℕ} (ready : Ready G work 
 
     module _ {p : ℕ} (found : neighbourAgainst G row col k ≡ At p) where
       same-cell : {j q : ℕ} → k ≤ j → j < k + 1 → neighbourAgainst G row col j ≡ At q → p ≡ q
-      same-cell {q = q} l h f = let e : At p ≡ At q = sym found ∙ ap (neighbourAgainst G row col) (sym (same-step l h)) ∙ f in cc
+      same-cell {q = q} l h f = let e : At p ≡ At q = sym found ∙ ap (neighbourAgainst G row col)
+          (sym (same-step l h)) ∙ f in cc
 
       pub donors-old : 0 < rankOf (cells G) work p → DonorsPushed G work end work end row col k (k + 1)
-      donors-old r = record { upstream = ready .upstream; grown = grown-none _ _ _; donors = λ j l h q f. rw (← same-cell l h f) r }
+      donors-old r =
+          record {
+            upstream = ready .upstream;
+            grown = grown-none _ _ _;
+            donors = λ j l h q f. rw
+                (← same-cell l h f) r;
+          }
 
-      pub donors-new : k < 8 → rankOf (cells G) work p ≡ 0 → DonorsPushed G work end (pushed (cells G) work end p (cell + 1)) (end + 1) row col k (k + 1)
+      pub donors-new : k < 8 → rankOf (cells G) work p ≡ 0
+          → DonorsPushed G work end (pushed (cells G) work end p (cell + 1)) (end + 1) row col k (k + 1)
       donors-new kl free =
           let e = found-next kl found in
           let p-on = neighbour-lt G row col k found in
           let queue = ready .upstream .queue in
-          let before : Before (cells G) work end cell = record { on = on; reached = ready .reached; earlier = queue .stands cell on (ready .reached) .most } in
+          let before : Before
+          (cells G) work end cell =
+          record { on = on; reached = ready .reached; earlier = queue .stands cell on (ready .reached) .most } in
           record {
             upstream =
                 subst (λ (r : ℕ). Upstream G (pushed (cells G) work end p r) (end + 1)) (to-numbered e)
-                (upstream-push (ready .upstream) p p-on free (next-goes G p e .from-inside) (λ r f. let s : cell ≡ r = cc in rw s at before));
+                (upstream-push (ready .upstream) p p-on free (next-goes G p e .from-inside)
+                (λ r f. let s : cell ≡ r = cc in rw s at before));
             grown = grown-push queue p p-on free (cell + 1);
-            donors = λ j l h q f. rw (← same-cell l h f) (omega (arith, push-rank (cells G) work end p (cell + 1) (queue .room) (end-on queue p p-on free) p-on));
+            donors =
+                λ j l h q f. rw (← same-cell l h f) (omega (
+                  arith,
+                  push-rank (cells G) work end p (cell + 1) (queue .room) (end-on queue p p-on free) p-on,
+                ));
           }
 
 -- ---- the donors against all steps
 
 module _ {G : Grid} where
-  pub donors-start : {work : List ℕ} {end row col : ℕ} → Ready G work end row col → DonorsPushed G work end work end row col 0 0
+  pub donors-start : {work : List ℕ} {end row col : ℕ} → Ready G work end row col
+      → DonorsPushed G work end work end row col 0 0
   donors-start r = record { upstream = r .upstream; grown = grown-none _ _ _; donors = λ k l h. absurd (omega arith) }
 
-  pub donors-more : {a b c : List ℕ} {i j k row col step : ℕ} → DonorsPushed G a i b j row col 0 step → DonorsPushed G b j c k row col step (step + 1) → DonorsPushed G a i c k row col 0 (step + 1)
+  pub donors-more : {a b c : List ℕ} {i j k row col step : ℕ} → DonorsPushed G a i b j row col 0 step
+      → DonorsPushed G b j c k row col step (step + 1) → DonorsPushed G a i c k row col 0 (step + 1)
   donors-more {row = row} {col = col} {step = step} s t = record {
     upstream = t .upstream;
     grown = grown-more (s .grown) (t .grown);
     donors = λ k l h q f. elim (ℕ-discrete k step) [
       | yes e ↦ t .donors k (omega arith) h q f
-      | no d ↦ let r = s .donors k l (omega arith) q f in omega (arith, t .grown .ranks q (neighbour-lt G row col k f) r)
+      | no d ↦ let r =
+          s .donors k l (omega arith) q f in omega (arith, t .grown .ranks q (neighbour-lt G row col k f) r)
     ];
   }
 
-  pub ready-more : {a b : List ℕ} {i j row col step : ℕ} → Ready G a i row col → DonorsPushed G a i b j row col 0 step → Ready G b j row col
+  pub ready-more : {a b : List ℕ} {i j row col step : ℕ} → Ready G a i row col → DonorsPushed G a i b j row col 0 step
+      → Ready G b j row col
   ready-more {row = row} {col = col} r s = record {
     sized = r .sized;
     on = r .on;
     upstream = s .upstream;
-    reached = omega (arith, r .reached, s .grown .ranks (row * G .cols + col) (cell-lt (r .on .row-on) (r .on .col-on)) (r .reached));
+    reached =
+        omega (
+          arith,
+          r .reached,
+          s .grown .ranks (row * G .cols + col) (cell-lt (r .on .row-on) (r .on .col-on)) (r .reached),
+        );
   }
 
-  pub all-pushed : {a b : List ℕ} {i j row col cell : ℕ} → Coded G → OnSheet (G .rows) (G .cols) row col → row * G .cols + col ≡ cell → DonorsPushed G a i b j row col 0 8 → AllPushed G a i b j cell
+  pub all-pushed : {a b : List ℕ} {i j row col cell : ℕ} → Coded G → OnSheet (G .rows) (G .cols) row col
+      → row * G .cols + col ≡ cell → DonorsPushed G a i b j row col 0 8 → AllPushed G a i b j cell
   all-pushed {row = row} {col = col} coded on is s = record {
     upstream = s .upstream;
     grown = s .grown;
@@ -114,29 +141,42 @@ module _ {G : Grid} where
     upstream = s .upstream;
     outlets = record {
       reached = λ c o. s .outlets c (outlet-lt G c o) o;
-      first = λ c o. let l = outlet-lt G c o in omega (arith, s .counted, s .upstream .queue .stands c l (s .outlets c l o) .most);
+      first =
+          λ c o. let l =
+          outlet-lt G c o in omega (arith, s .counted, s .upstream .queue .stands c l (s .outlets c l o) .most);
       rising = λ i j l k. s .rising i j l (omega (arith, s .counted));
     };
     within = omega (arith, s .counted);
     donors = λ i l. absurd (omega arith);
   }
 
-  pub spread-ready : {work : List ℕ} {end head : ℕ} → Sized (G .rows) (G .cols) (G .dirs) → Spread G work end head → head < end → Ready G work end (queuedAt work head / G .cols) (queuedAt work head % G .cols)
+  pub spread-ready : {work : List ℕ} {end head : ℕ} → Sized (G .rows) (G .cols) (G .dirs) → Spread G work end head
+      → head < end → Ready G work end (queuedAt work head / G .cols) (queuedAt work head % G .cols)
   spread-ready {work} {end} {head} z s l =
       let t = s .upstream .queue .item head l in
       record {
         sized = z;
-        on = record { rows-most = z .rows-most; cols-most = z .cols-most; row-on = row-lt (z .cols-some) (t .on); col-on = mod-lt (queuedAt work head) (z .cols-some) };
+        on =
+            record {
+              rows-most = z .rows-most;
+              cols-most = z .cols-most;
+              row-on = row-lt (z .cols-some)
+                  (t .on);
+              col-on = mod-lt (queuedAt work head) (z .cols-some);
+            };
         upstream = s .upstream;
         reached = rw (div-add-mod' (queuedAt work head) (G .cols)) (omega (arith, t .rank));
       }
 
-  pub spread-more : {a b : List ℕ} {i j head : ℕ} → head < i → Spread G a i head → AllPushed G a i b j (queuedAt a head) → Spread G b j (head + 1)
+  pub spread-more : {a b : List ℕ} {i j head : ℕ} → head < i → Spread G a i head → AllPushed G a i b j (queuedAt a head)
+      → Spread G b j (head + 1)
   spread-more {a} {b} {i} {head = head} l s t = record {
     upstream = t .upstream;
     outlets = record {
       reached = λ c o. let h = s .outlets .reached c o in omega (arith, t .grown .ranks c (outlet-lt G c o) h);
-      first = λ c o. let h = s .outlets .reached c o in omega (arith, t .grown .ranks c (outlet-lt G c o) h, s .outlets .first c o);
+      first =
+          λ c o. let h =
+          s .outlets .reached c o in omega (arith, t .grown .ranks c (outlet-lt G c o) h, s .outlets .first c o);
       rising = λ m k h h′.
           let p = t .grown .places m (omega (arith, s .within)) in
           let r = t .grown .places k (omega (arith, s .within)) in

@@ -31,7 +31,8 @@ pub outlet-is : (G : Grid) (c : ℕ) → isOutlet G c ≡ true → (inside G c �
 unfolding isOutlet
 outlet-is G c e = go (inside G c) (next G c) refl refl e
   where
-    go : (b : Bool) (x : Next) → inside G c ≡ b → next G c ≡ x → cond b (goesNowhere x) false ≡ true → (inside G c ≡ true) × (next G c ≡ Outlet)
+    go : (b : Bool) (x : Next) → inside G c ≡ b → next G c ≡ x → cond b (goesNowhere x) false ≡ true
+        → (inside G c ≡ true) × (next G c ≡ Outlet)
     go true Outlet i n e = (i, n)
     go true (To r) i n e = absurd (true≢false (sym e))
     go false x i n e = absurd (true≢false (sym e))
@@ -58,7 +59,9 @@ module _ {G : Grid} {work : List ℕ} {queued : ℕ} (u : Upstream G work queued
 
   module _ (c : ℕ) (on : c < cells G) (reached : 0 < rankOf (cells G) work c) where
     pub inside-of : inside G c ≡ true
-    inside-of = subst (λ (x : ℕ). inside G x ≡ true) (u .queue .stands c on reached .place) (u .is-inside (rankOf (cells G) work c - 1) (place-on (u .queue) c on reached))
+    inside-of =
+        subst (λ (x : ℕ). inside G x ≡ true) (u .queue .stands c on reached .place)
+        (u .is-inside (rankOf (cells G) work c - 1) (place-on (u .queue) c on reached))
 
     pub receiver-of : receiverOf (cells G) work c ≡ numbered (next G c)
     receiver-of =
@@ -67,7 +70,8 @@ module _ {G : Grid} {work : List ℕ} {queued : ℕ} (u : Upstream G work queued
 
 -- ---- a push
 
-module _ {G : Grid} {work : List ℕ} {end : ℕ} (u : Upstream G work end) (cell : ℕ) (cell-on : cell < cells G) (free : rankOf (cells G) work cell ≡ 0)
+module _ {G : Grid} {work : List ℕ} {end : ℕ} (u : Upstream G work end) (cell : ℕ) (cell-on : cell < cells G)
+    (free : rankOf (cells G) work cell ≡ 0)
     (is-in : inside G cell ≡ true) (before : (r : ℕ) → next G cell ≡ To r → Before (cells G) work end r) where
   abbrev receiver : ℕ
   receiver = numbered (next G cell)
@@ -81,10 +85,13 @@ module _ {G : Grid} {work : List ℕ} {end : ℕ} (u : Upstream G work end) (cel
   old-place : (i : ℕ) → i < end → queuedAt after i ≡ queuedAt work i
   old-place i l = grown-push (u .queue) cell cell-on free receiver .places i l
 
-  old-receiver : (i : ℕ) → i < end → receiverOf (cells G) after (queuedAt work i) ≡ receiverOf (cells G) work (queuedAt work i)
+  old-receiver : (i : ℕ) → i < end
+      → receiverOf (cells G) after (queuedAt work i) ≡ receiverOf (cells G) work (queuedAt work i)
   old-receiver i l =
-      push-receiver-other (cells G) work end cell receiver (u .queue .room) (end-on (u .queue) cell cell-on free) cell-on (queuedAt work i)
-      (λ e. let z : rankOf (cells G) work (queuedAt work i) ≡ 0 = ap (rankOf (cells G) work) e ∙ free in omega (arith, u .queue .item i l .rank))
+      push-receiver-other (cells G) work end cell receiver (u .queue .room)
+      (end-on (u .queue) cell cell-on free) cell-on (queuedAt work i)
+      (λ e. let z : rankOf (cells G) work (queuedAt work i) ≡ 0 = ap (rankOf (cells G) work) e ∙ free in omega
+      (arith, u .queue .item i l .rank))
 
   pub upstream-push : Upstream G after (end + 1)
   upstream-push = record {
@@ -94,7 +101,9 @@ module _ {G : Grid} {work : List ℕ} {end : ℕ} (u : Upstream G work end) (cel
       | no d ↦ let l′ : i < end = omega arith in rw (old-place i l′) (u .is-inside i l′)
     ];
     receiver = λ i l. elim (ℕ-discrete i end) [
-      | yes e ↦ rw (e, new-place) (push-receiver (cells G) work end cell receiver (u .queue .room) (end-on (u .queue) cell cell-on free) cell-on)
+      | yes e ↦ rw (e, new-place)
+          (push-receiver (cells G) work end cell receiver (u .queue .room)
+          (end-on (u .queue) cell cell-on free) cell-on)
       | no d ↦ let l′ : i < end = omega arith in rw (old-place i l′) (old-receiver i l′ ∙ u .receiver i l′)
     ];
   }

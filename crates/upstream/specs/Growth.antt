@@ -42,7 +42,8 @@ pub record Ready (G : Grid) (work : List ℕ) (end row col : ℕ) : Type 0 where
 pub record DonorsPushed (G : Grid) (work : List ℕ) (end : ℕ) (work′ : List ℕ) (end′ row col from to : ℕ) : Type 0 where
   pub upstream : Upstream G work′ end′
   pub grown : Grown (cells G) work end work′ end′
-  pub donors : (k : ℕ) → from ≤ k → k < to → (q : ℕ) → neighbourAgainst G row col k ≡ At q → 0 < rankOf (cells G) work′ q
+  pub donors : (k : ℕ) → from ≤ k → k < to → (q : ℕ) → neighbourAgainst G row col k ≡ At q
+      → 0 < rankOf (cells G) work′ q
 
 -- all donors of a cell are queued
 pub record AllPushed (G : Grid) (work : List ℕ) (end : ℕ) (work′ : List ℕ) (end′ cell : ℕ) : Type 0 where

@@ -44,7 +44,8 @@ pub record Queue (n : ℕ) (work : List ℕ) (queued : ℕ) : Type 0 where
 pub record Upstream (G : Grid) (work : List ℕ) (queued : ℕ) : Type 0 where
   pub queue : Queue (cells G) work queued
   pub is-inside : (i : ℕ) → i < queued → inside G (queuedAt work i) ≡ true
-  pub receiver : (i : ℕ) → i < queued → receiverOf (cells G) work (queuedAt work i) ≡ numbered (next G (queuedAt work i))
+  pub receiver : (i : ℕ) → i < queued
+      → receiverOf (cells G) work (queuedAt work i) ≡ numbered (next G (queuedAt work i))
 
 abbrev pub outletCount : Grid → ℕ
 outletCount G = count (cells G) (isOutlet G)
@@ -58,7 +59,8 @@ pub record OutletsFirst (G : Grid) (work : List ℕ) : Type 0 where
 -- a search is finished: the cells reached are those whose water comes to an outlet
 pub record Searched (G : Grid) (work : List ℕ) (queued : ℕ) : Type 0 where
   pub upstream : Upstream G work queued
-  pub reached : (c : ℕ) → c < cells G → isReached (cells G) work c ≡ both (inside G c) (reachesOutlet (next G) (cells G) c)
+  pub reached : (c : ℕ) → c < cells G
+      → isReached (cells G) work c ≡ both (inside G c) (reachesOutlet (next G) (cells G) c)
   pub outlets : OutletsFirst G work
 
 -- all bytes are codes

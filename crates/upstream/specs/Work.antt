@@ -11,7 +11,8 @@ use Rattle.sheet.specs.Refusal.{written}
 
 -- ---- the parts, by their numbers; the places of part k are those from k * n on
 
--- part 0, from the search on: the queue, which holds the reached cells in the order of the search; its places are written i for 0 * n + i
+-- part 0, from the search on: the queue, which holds the reached cells in the order of the search; its places are
+-- written i for 0 * n + i
 
 -- from the search on: each cell's rank, which is its place in the queue, from 1; 0: not reached
 abbrev pub ranksPart : ℕ
@@ -75,7 +76,8 @@ nextOfNumber (suc r) = To r
 
 -- a cell is queued at the place `end`
 unfoldable pub pushed : ℕ → List ℕ → ℕ → ℕ → ℕ → List ℕ
-pushed n work end cell receiver = set (set (set work end cell) (ranksPart * n + cell) (end + 1)) (receiversPart * n + cell) receiver
+pushed n work end cell receiver =
+    set (set (set work end cell) (ranksPart * n + cell) (end + 1)) (receiversPart * n + cell) receiver
 
 -- sizes are written, and no other place
 unfoldable pub withSizes : ℕ → List ℕ → List ℕ → List ℕ

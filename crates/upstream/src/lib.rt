@@ -32,8 +32,10 @@ fn push_outlet(
     row: usize,
     col: usize,
 ) -> usize
-    requires { ⌜ Sized rows cols (now dirs) × OnSheet rows cols row col × Seeded (grid rows cols (now dirs)) (now work) end (row * cols + col) ⌝ }
-    ensures { λ r. ⌜ Seeded (grid rows cols (now (dirs .entry))) (now (work .exit)) r (row * cols + col + 1) × KeptFrom (sizesPart * (rows * cols)) (now (work .entry)) (now (work .exit)) ⌝ }
+    requires { ⌜ Sized rows cols (now dirs) × OnSheet rows cols row col
+        × Seeded (grid rows cols (now dirs)) (now work) end (row * cols + col) ⌝ }
+    ensures { λ r. ⌜ Seeded (grid rows cols (now (dirs .entry))) (now (work .exit)) r (row * cols + col + 1)
+        × KeptFrom (sizesPart * (rows * cols)) (now (work .entry)) (now (work .exit)) ⌝ }
 {
     if directions::is_outlet(dirs, rows, cols, row, col) {
         push(work, rows * cols, end, row * cols + col, 0)
@@ -51,8 +53,10 @@ fn seed_row(
     end: usize,
     row: usize,
 ) -> usize
-    requires { ⌜ Sized rows cols (now dirs) × (row < rows) × Seeded (grid rows cols (now dirs)) (now work) end (row * cols) ⌝ }
-    ensures { λ r. ⌜ Seeded (grid rows cols (now (dirs .entry))) (now (work .exit)) r ((row + 1) * cols) × KeptFrom (sizesPart * (rows * cols)) (now (work .entry)) (now (work .exit)) ⌝ }
+    requires { ⌜ Sized rows cols (now dirs) × (row < rows)
+        × Seeded (grid rows cols (now dirs)) (now work) end (row * cols) ⌝ }
+    ensures { λ r. ⌜ Seeded (grid rows cols (now (dirs .entry))) (now (work .exit)) r ((row + 1) * cols)
+        × KeptFrom (sizesPart * (rows * cols)) (now (work .entry)) (now (work .exit)) ⌝ }
 {
     let mut last = end;
     for col in 0..cols {
@@ -64,7 +68,8 @@ fn seed_row(
 // Queues the outlets, in reading order.
 fn seed(dirs: &[u8], rows: usize, cols: usize, work: &mut [u32]) -> usize
     requires { ⌜ Sized rows cols (now dirs) × Cleared (rows * cols) (now work) ⌝ }
-    ensures { λ r. ⌜ Seeded (grid rows cols (now (dirs .entry))) (now (work .exit)) r (rows * cols) × KeptFrom (sizesPart * (rows * cols)) (now (work .entry)) (now (work .exit)) ⌝ }
+    ensures { λ r. ⌜ Seeded (grid rows cols (now (dirs .entry))) (now (work .exit)) r (rows * cols)
+        × KeptFrom (sizesPart * (rows * cols)) (now (work .entry)) (now (work .exit)) ⌝ }
 {
     let mut end = 0;
     for row in 0..rows {
@@ -85,7 +90,8 @@ fn push_donor(
     k: usize,
 ) -> usize
     requires { ⌜ Ready (grid rows cols (now dirs)) (now work) end row col × (k < 8) ⌝ }
-    ensures { λ r. ⌜ DonorsPushed (grid rows cols (now (dirs .entry))) (now (work .entry)) end (now (work .exit)) r row col k (k + 1) ⌝ }
+    ensures { λ r. ⌜ DonorsPushed (grid rows cols (now (dirs .entry))) (now (work .entry)) end
+        (now (work .exit)) r row col k (k + 1) ⌝ }
 {
     let n = rows * cols;
     let End::At(donor) = directions::neighbour_against(dirs, rows, cols, row, col, k) else {
@@ -107,8 +113,10 @@ fn push_donors(
     end: usize,
     cell: usize,
 ) -> usize
-    requires { ⌜ Coded (grid rows cols (now dirs)) × Ready (grid rows cols (now dirs)) (now work) end (cell / cols) (cell % cols) ⌝ }
-    ensures { λ r. ⌜ AllPushed (grid rows cols (now (dirs .entry))) (now (work .entry)) end (now (work .exit)) r cell ⌝ }
+    requires { ⌜ Coded (grid rows cols (now dirs))
+        × Ready (grid rows cols (now dirs)) (now work) end (cell / cols) (cell % cols) ⌝ }
+    ensures { λ r. ⌜ AllPushed (grid rows cols (now (dirs .entry))) (now (work .entry)) end
+        (now (work .exit)) r cell ⌝ }
 {
     let row = cell / cols;
     let col = cell - row * cols;
@@ -121,8 +129,10 @@ fn push_donors(
 
 // Goes through the queue, and queues the donors of each cell.
 fn spread(dirs: &[u8], rows: usize, cols: usize, work: &mut [u32], outlets: usize) -> usize
-    requires { ⌜ Sized rows cols (now dirs) × Coded (grid rows cols (now dirs)) × Spread (grid rows cols (now dirs)) (now work) outlets 0 ⌝ }
-    ensures { λ r. ⌜ Spread (grid rows cols (now (dirs .entry))) (now (work .exit)) r r × KeptFrom (sizesPart * (rows * cols)) (now (work .entry)) (now (work .exit)) ⌝ }
+    requires { ⌜ Sized rows cols (now dirs) × Coded (grid rows cols (now dirs))
+        × Spread (grid rows cols (now dirs)) (now work) outlets 0 ⌝ }
+    ensures { λ r. ⌜ Spread (grid rows cols (now (dirs .entry))) (now (work .exit)) r r
+        × KeptFrom (sizesPart * (rows * cols)) (now (work .entry)) (now (work .exit)) ⌝ }
 {
     let mut end = outlets;
     let mut head = 0;
@@ -134,10 +144,12 @@ fn spread(dirs: &[u8], rows: usize, cols: usize, work: &mut [u32], outlets: usiz
     end
 }
 
-// Queues every inside cell whose water comes to an outlet, each after the cell that its water goes to. How many there are.
+// Queues every inside cell whose water comes to an outlet, each after the cell that its water goes to. How many there
+// are.
 pub fn search(dirs: &[u8], rows: usize, cols: usize, work: &mut [u32]) -> usize
     requires { ⌜ Sized rows cols (now dirs) × Coded (grid rows cols (now dirs)) × Cleared (rows * cols) (now work) ⌝ }
-    ensures { λ r. ⌜ Searched (grid rows cols (now (dirs .entry))) (now (work .exit)) r × KeptFrom (sizesPart * (rows * cols)) (now (work .entry)) (now (work .exit)) ⌝ }
+    ensures { λ r. ⌜ Searched (grid rows cols (now (dirs .entry))) (now (work .exit)) r
+        × KeptFrom (sizesPart * (rows * cols)) (now (work .entry)) (now (work .exit)) ⌝ }
 {
     let outlets = seed(dirs, rows, cols, work);
     spread(dirs, rows, cols, work, outlets)

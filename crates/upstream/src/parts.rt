@@ -1,4 +1,5 @@
-// The parts of the work places of a sheet of n cells, each of n places: specs/Work.antt says what they hold. Part 0 is the queue.
+// The parts of the work places of a sheet of n cells, each of n places: specs/Work.antt says what they hold. Part 0 is
+// the queue.
 pub const RANKS: usize = 1;
 
 pub const RECEIVERS: usize = 2;

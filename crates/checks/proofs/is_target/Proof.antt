@@ -30,7 +30,8 @@ mul-result : tie.Need-mul-result
 mul-result c = omega (arith, on-fits (c .before .before .before .before .before .before .pre .1))
 
 shared-slice-read-result : tie.Need-shared-slice-read-result
-shared-slice-read-result c = let p = c .before .before .before .before .before .before .before .pre in omega (arith, on-lt (p .1), p .2)
+shared-slice-read-result c =
+    let p = c .before .before .before .before .before .before .before .pre in omega (arith, on-lt (p .1), p .2)
 
 enum-known-target : tie.Need-enum-known-target
 enum-known-target c = search needs
@@ -42,7 +43,8 @@ is-outlet-requires : tie.Need-is-outlet-requires
 is-outlet-requires c κs = search needs
 
 returns-3 : tie.Need-returns-3
-returns-3 c = rw (c .enum-told .given .1) (sym (is-inside _ _ _ (on-lt (c .before .before .before .before .before .pre .1))))
+returns-3 c =
+    rw (c .enum-told .given .1) (sym (is-inside _ _ _ (on-lt (c .before .before .before .before .before .pre .1))))
 
 returns-4 : tie.Need-returns-4
 returns-4 c =
@@ -51,7 +53,8 @@ returns-4 c =
 
 returns-5 : tie.Need-returns-5
 returns-5 c =
-    rw (c .before .before .before .target .given .1) (c .is-outlet .ensures ∙ sym (outlet-from _ _ _ (c .before .if2 .left)))
+    rw (c .before .before .before .target .given .1)
+    (c .is-outlet .ensures ∙ sym (outlet-from _ _ _ (c .before .if2 .left)))
 
 pub is-target-spec : {M : Type 1} → statement M
 is-target-spec =

@@ -1,4 +1,5 @@
--- `decimal::decimal_length` meets its contract. The invariant: the digits counted and those of the rest, less one, are the digits of n.
+-- `decimal::decimal_length` meets its contract. The invariant: the digits counted and those of the rest, less one, are
+-- the digits of n.
 use Prim.Native.Nat.{_+_, _≤_}
 use mathlib.Core.Path.{_≡_, ap}
 use native.Mathlib.Omega.{arith}

@@ -15,7 +15,9 @@ use Rattle.decimal.proofs.read_digits.Statement.{statement}
 use Rattle.decimal.proofs.read_digits.Tie as tie
 
 abbrev Inv-loop : tie.InvT-loop
-Inv-loop line at most end₀ left₀ value₀ end left value = Gathered (digitRun (drop at line)) (digitRun (drop end line)) at most end left value × (end ≤ length line) × (left ≤ mostDigits)
+Inv-loop line at most end₀ left₀ value₀ end left value =
+    Gathered (digitRun (drop at line)) (digitRun (drop end line)) at most end left value × (end ≤ length line) ×
+    (left ≤ mostDigits)
 
 abbrev μ-loop : tie.MeasureT-loop
 μ-loop line at most end₀ left₀ value₀ end left value = length line - end
@@ -30,22 +32,37 @@ is-digit-requires : tie.Need-is-digit-requires Inv-loop μ-loop
 is-digit-requires c κs = search needs
 
 -- the byte at `end` is a digit
-digit : (c : tie.Then1 Inv-loop μ-loop) → isDigit (getD (c .before .before .before .before .before .before .args .line .now) (c .before .before .before .before .loop .end) 0) ≡ true
+digit : (c : tie.Then1 Inv-loop μ-loop)
+    → isDigit
+    (getD (c .before .before .before .before .before .before .args .line .now)
+    (c .before .before .before .before .loop .end) 0) ≡ true
 digit c = sym (c .before .is-digit .ensures) ∙ c .if1 .taken
 
 -- the digits to come begin with it
-to-come : (c : tie.Then1 Inv-loop μ-loop) → digitRun (drop (c .before .before .before .before .loop .end) (c .before .before .before .before .before .before .args .line .now)) ≡ getD (c .before .before .before .before .before .before .args .line .now) (c .before .before .before .before .loop .end) 0 ∷ digitRun (drop (c .before .before .before .before .loop .end + 1) (c .before .before .before .before .before .before .args .line .now))
+to-come : (c : tie.Then1 Inv-loop μ-loop)
+    → digitRun
+    (drop (c .before .before .before .before .loop .end)
+    (c .before .before .before .before .before .before .args .line .now))
+    ≡ getD (c .before .before .before .before .before .before .args .line .now)
+    (c .before .before .before .before .loop .end) 0 ∷ digitRun (drop (c .before .before .before .before .loop .end + 1) (c .before .before .before .before .before .before .args .line .now))
 to-come c = run-at-digit _ _ (c .before .before .before .loop-test .taken) (digit c)
 
 returns : tie.Need-returns Inv-loop μ-loop
-returns c = let d = c .before in gathered-over (d .before .before .before .before .loop .inv .0) (to-come d) (c .if2 .taken)
+returns c =
+    let d = c .before in gathered-over (d .before .before .before .before .loop .inv .0) (to-come d) (c .if2 .taken)
 
 sub-left : tie.Need-sub-left Inv-loop μ-loop
 sub-left c = search needs
 
 -- with the digit the number stays below 10 ^ 9
-fits : (c : tie.Else2 Inv-loop μ-loop) → c .before .before .before .before .before .loop .value * 10 + (getD (c .before .before .before .before .before .before .before .args .line .now) (c .before .before .before .before .before .loop .end) 0 - digitZero) < 1000000000
-fits c = let d = c .before in let l = d .before .before .before .before .loop in gathered-fits (l .inv .0) (to-come d) (digit d) (c .if2 .left) (l .inv .2)
+fits : (c : tie.Else2 Inv-loop μ-loop)
+    → c .before .before .before .before .before .loop .value * 10 +
+    (getD (c .before .before .before .before .before .before .before .args .line .now)
+    (c .before .before .before .before .before .loop .end) 0 - digitZero) < 1000000000
+fits c =
+    let d = c .before in
+    let l = d .before .before .before .before .loop in
+    gathered-fits (l .inv .0) (to-come d) (digit d) (c .if2 .left) (l .inv .2)
 
 mul-value : tie.Need-mul-value Inv-loop μ-loop
 mul-value c = omega (arith, fits c)
@@ -77,7 +94,8 @@ loop-again c =
 returns-2 : tie.Need-returns-2 Inv-loop μ-loop
 returns-2 c =
     let t = c .before .before .before in
-    gathered-all (t .before .loop .inv .0) (run-at-other _ _ (t .loop-test .taken) (sym (c .before .is-digit .ensures) ∙ c .if1 .left))
+    gathered-all (t .before .loop .inv .0)
+    (run-at-other _ _ (t .loop-test .taken) (sym (c .before .is-digit .ensures) ∙ c .if1 .left))
 
 returns-3 : tie.Need-returns-3 Inv-loop μ-loop
 returns-3 c = gathered-all (c .before .loop .inv .0) (run-at-end _ _ (c .loop-test .left))

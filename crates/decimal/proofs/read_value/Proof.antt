@@ -29,7 +29,8 @@ returns-3 : tie.Need-returns-3
 returns-3 c =
     let z = c .before .if3 .taken in
     let run = run-at-digit _ _ (c .before .before .before .if2 .left) (ap isDigit z ∙ zero-digit) in
-    with-values foundValues (c .read-digits .ensures ∙ sym (value-zero _ _ _ (c .before .before .before .before .if1 .left) run z))
+    with-values foundValues
+    (c .read-digits .ensures ∙ sym (value-zero _ _ _ (c .before .before .before .before .if1 .left) run z))
 
 is-digit-requires : tie.Need-is-digit-requires
 is-digit-requires c κs = search needs
@@ -39,14 +40,18 @@ read-digits-requires-2 c κs = search needs
 
 returns-4 : tie.Need-returns-4
 returns-4 c =
-    let run = run-at-digit _ _ (c .before .before .before .before .before .if2 .left) (sym (c .before .before .is-digit .ensures) ∙ c .before .if4 .taken) in
+    let run = run-at-digit _ _ (c .before .before .before .before .before .if2 .left)
+    (sym (c .before .before .is-digit .ensures) ∙ c .before .if4 .taken) in
     with-values foundValues
-    (c .read-digits2 .ensures ∙ sym (value-more _ _ _ (c .before .before .before .before .before .before .if1 .left) run (c .before .before .before .if3 .left)))
+    (c .read-digits2 .ensures ∙ sym
+    (value-more _ _ _ (c .before .before .before .before .before .before .if1 .left) run
+    (c .before .before .before .if3 .left)))
 
 returns-5 : tie.Need-returns-5
 returns-5 c =
     with-values foundValues
-    (sym (value-none _ _ _ (c .before .before .before .before .before .if1 .left) (run-at-other _ _ (c .before .before .before .before .if2 .left) (sym (c .before .is-digit .ensures) ∙ c .if4 .left))))
+    (sym (value-none _ _ _ (c .before .before .before .before .before .if1 .left)
+    (run-at-other _ _ (c .before .before .before .before .if2 .left) (sym (c .before .is-digit .ensures) ∙ c .if4 .left))))
 
 pub read-value-spec : {M : Type 1} → statement M
 read-value-spec =

@@ -1,4 +1,5 @@
--- `decimal::write_decimal` meets its contract. The invariant: the text of the rest, written on the present buffer, is the text of n, written on the first one.
+-- `decimal::write_decimal` meets its contract. The invariant: the text of the rest, written on the present buffer, is
+-- the text of n, written on the first one.
 use Prim.Native.Nat.{ℕ, _≤_, _+_}
 use mathlib.Core.Path.{_≡_, refl, ap, _∙_}
 use native.Mathlib.Omega.{arith}
@@ -16,7 +17,8 @@ values w = writtenValues (w .answer)
 
 abbrev Inv-loop : tie.InvT-loop
 Inv-loop n out₀ at count end₀ rest₀ out end rest =
-    (overwrite out at (decimalText rest) ≡ overwrite out₀ at (decimalText n)) × (end ≡ at + length (decimalText rest)) × (end ≤ at + count) × (length out ≡ length out₀)
+    (overwrite out at (decimalText rest) ≡ overwrite out₀ at (decimalText n)) ×
+    (end ≡ at + length (decimalText rest)) × (end ≤ at + count) × (length out ≡ length out₀)
 
 abbrev μ-loop : tie.MeasureT-loop
 μ-loop n out₀ at count end₀ rest₀ out end rest = rest
@@ -37,7 +39,12 @@ add-end : tie.Need-add-end Inv-loop μ-loop
 add-end c = omega arith
 
 loop-holds : tie.Need-loop-holds Inv-loop μ-loop
-loop-holds c = (refl, ap (λ (k : ℕ). c .before .before .before .before .args .at + k) (c .before .before .decimal-length .ensures), omega arith, refl)
+loop-holds c = (
+  refl,
+  ap (λ (k : ℕ). c .before .before .before .before .args .at + k) (c .before .before .decimal-length .ensures),
+  omega arith,
+  refl,
+)
 
 sub-end : tie.Need-sub-end Inv-loop μ-loop
 sub-end c = omega (arith, text-some (c .before .loop .rest))

@@ -24,13 +24,17 @@ shared-slice-read-if1 : tie.Need-shared-slice-read-if1 Inv-loop μ-loop
 shared-slice-read-if1 c = search needs
 
 returns : tie.Need-returns Inv-loop μ-loop
-returns c = sym (every-no _ _ _ (c .before .before .loop-test .taken) (within-below 9 _ (omega arith))) ∙ c .before .before .before .loop .inv
+returns c =
+    sym (every-no _ _ _ (c .before .before .loop-test .taken) (within-below 9 _ (omega arith)))
+    ∙ c .before .before .before .loop .inv
 
 shared-slice-read-if2 : tie.Need-shared-slice-read-if2 Inv-loop μ-loop
 shared-slice-read-if2 c = search needs
 
 returns-2 : tie.Need-returns-2 Inv-loop μ-loop
-returns-2 c = sym (every-no _ _ _ (c .before .before .before .before .loop-test .taken) (within-above 9 _ (omega arith))) ∙ c .before .before .before .before .before .loop .inv
+returns-2 c =
+    sym (every-no _ _ _ (c .before .before .before .before .loop-test .taken) (within-above 9 _ (omega arith)))
+    ∙ c .before .before .before .before .before .loop .inv
 
 add-i : tie.Need-add-i Inv-loop μ-loop
 add-i c = search needs
@@ -39,7 +43,9 @@ loop-less : tie.Need-loop-less Inv-loop μ-loop
 loop-less c = omega arith
 
 loop-again : tie.Need-loop-again Inv-loop μ-loop
-loop-again c = every-yes _ _ _ (c .before .before .before .before .loop-test .taken) (within-yes 9 _ (omega arith) (omega arith)) ∙ c .before .before .before .before .before .loop .inv
+loop-again c =
+    every-yes _ _ _ (c .before .before .before .before .loop-test .taken)
+    (within-yes 9 _ (omega arith) (omega arith)) ∙ c .before .before .before .before .before .loop .inv
 
 returns-3 : tie.Need-returns-3 Inv-loop μ-loop
 returns-3 c = sym (every-end _ _ _ (c .loop-test .left)) ∙ c .before .loop .inv

@@ -32,7 +32,8 @@ loop-less c = omega arith
 loop-again : tie.Need-loop-again Inv-loop μ-loop
 loop-again c =
     let l = c .before .before .before .loop in (
-      label-turn (l .m) (omega arith) (c .before .before .loop-test .taken) (l .left) (omega arith) (omega arith) ∙ l .inv .0,
+      label-turn (l .m) (omega arith) (c .before .before .loop-test .taken) (l .left) (omega arith)
+          (omega arith) ∙ l .inv .0,
       omega arith,
     )
 

@@ -18,13 +18,15 @@ all-digits-requires c κs = search needs
 
 number-of-requires : tie.Need-number-of-requires
 number-of-requires c κs =
-    let most = depth-most _ (sym (c .before .before .before .before .depth-fits .ensures) ∙ c .before .before .before .if1 .taken) in
+    let most = depth-most _
+    (sym (c .before .before .before .before .depth-fits .ensures) ∙ c .before .before .before .if1 .taken) in
     number-fits _ (digits-every _ (sym (c .before .all-digits .ensures) ∙ c .if3 .taken)) (omega arith)
 
 returns : tie.Need-returns
 unfolding labelAnswer areDigits
 returns c =
-    let fits = sym (c .before .before .before .before .before .depth-fits .ensures) ∙ c .before .before .before .before .if1 .taken in
+    let fits = sym
+    (c .before .before .before .before .before .depth-fits .ensures) ∙ c .before .before .before .before .if1 .taken in
     let short = le-leb _ _ (c .before .before .before .if2 .taken) in
     let digits = sym (c .before .before .all-digits .ensures) ∙ c .before .if3 .taken in
     (simp (fits, short, digits, c .number-of .ensures), simp (fits, short, digits, c .number-of .ensures))

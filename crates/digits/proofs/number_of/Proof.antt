@@ -20,7 +20,14 @@ unfolding number
 loop-holds c = refl
 
 mul-m : tie.Need-mul-m Inv-loop μ-loop
-mul-m c = let l = c .before .loop in omega (arith, number-room (l .m) (c .before .before .args .digits .now) (l .i) (c .loop-test .taken), l .inv, c .before .before .pre)
+mul-m c =
+    let l = c .before .loop in
+    omega (
+      arith,
+      number-room (l .m) (c .before .before .args .digits .now) (l .i) (c .loop-test .taken),
+      l .inv,
+      c .before .before .pre,
+    )
 
 shared-slice-read-m : tie.Need-shared-slice-read-m Inv-loop μ-loop
 shared-slice-read-m c = search needs
@@ -29,7 +36,14 @@ cast-m : tie.Need-cast-m Inv-loop μ-loop
 cast-m c = omega (arith, c .shared-slice-known .given (c .before .before .loop .i))
 
 add-m : tie.Need-add-m Inv-loop μ-loop
-add-m c = let l = c .before .before .loop in omega (arith, number-room (l .m) (c .before .before .before .args .digits .now) (l .i) (c .before .loop-test .taken), l .inv, c .before .before .before .pre)
+add-m c =
+    let l = c .before .before .loop in
+    omega (
+      arith,
+      number-room (l .m) (c .before .before .before .args .digits .now) (l .i) (c .before .loop-test .taken),
+      l .inv,
+      c .before .before .before .pre,
+    )
 
 add-i : tie.Need-add-i Inv-loop μ-loop
 add-i c = search needs

@@ -11,7 +11,9 @@ use Rattle.digits.proofs.put_digits.Statement.{statement}
 use Rattle.digits.proofs.put_digits.Tie as tie
 
 abbrev Inv-loop : tie.InvT-loop
-Inv-loop label count out₀ i₀ m₀ out i m = (written (digitsOf m) out ≡ written (digitsOf label) out₀) × (length (digitsOf m) + i ≡ count) × (length out ≡ length out₀) × (m ≤ label)
+Inv-loop label count out₀ i₀ m₀ out i m =
+    (written (digitsOf m) out ≡ written (digitsOf label) out₀) × (length (digitsOf m) + i ≡ count) ×
+    (length out ≡ length out₀) × (m ≤ label)
 
 abbrev μ-loop : tie.MeasureT-loop
 μ-loop label count out₀ i₀ m₀ out i m = count - i
@@ -39,7 +41,8 @@ loop-again c =
     let l = c .before .loop in
     let some = digits-some (l .m) (omega arith) in
     let longer = digits-longer (l .m) (omega arith) some in (
-      write-turn (l .m) (l .out) _ (omega arith) some (omega arith) (omega (arith, c .before .before .pre .1)) ∙ l .inv .0,
+      write-turn (l .m) (l .out) _ (omega arith) some (omega arith)
+          (omega (arith, c .before .before .pre .1)) ∙ l .inv .0,
       omega arith,
       simp length-set (l .inv .2),
       omega arith,

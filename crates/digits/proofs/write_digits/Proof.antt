@@ -33,9 +33,11 @@ returns : tie.Need-returns
 unfolding digitsAnswer digitsPlaces
 returns c =
     let a = c .before .before .before .before .before .before .before .args in
-    let fits = sym (c .before .before .before .before .before .depth-fits .ensures) ∙ c .before .before .before .before .if1 .taken in
+    let fits = sym
+    (c .before .before .before .before .before .depth-fits .ensures) ∙ c .before .before .before .before .if1 .taken in
     let label = sym (c .before .before .before .is-label .ensures) ∙ c .before .before .if2 .taken in
-    let short = lt-leb (length (digitsOf (a .label))) (length (a .out .now)) (omega (arith, c .before .count-digits .ensures)) in
+    let short = lt-leb (length (digitsOf (a .label))) (length (a .out .now))
+    (omega (arith, c .before .count-digits .ensures)) in
     (simp (fits, label, short), (simp (fits, label, short), simp (fits, label, short)))
 
 put-digits-requires : tie.Need-put-digits-requires
@@ -48,12 +50,22 @@ returns-2 : tie.Need-returns-2
 unfolding digitsAnswer digitsPlaces
 returns-2 c =
     let a = (start (after-depth-fits (then1 (c .before .before .before .before .before .before .before)))) .args in
-    let fits = sym ((after-depth-fits (then1 (c .before .before .before .before .before .before .before))) .depth-fits .ensures) ∙ (then1 (c .before .before .before .before .before .before .before)) .if1 .taken in
-    let label = sym (c .before .before .before .before .before .before .before .is-label .ensures) ∙ c .before .before .before .before .before .before .if2 .taken in
-    let room = le-leb (length (digitsOf (a .label))) (length (a .out .now)) (omega (arith, c .before .before .before .before .before .count-digits .ensures)) in
+    let fits = sym
+    ((after-depth-fits (then1 (c .before .before .before .before .before .before .before))) .depth-fits .ensures) ∙
+    (then1 (c .before .before .before .before .before .before .before)) .if1 .taken in
+    let label = sym
+    (c .before .before .before .before .before .before .before .is-label .ensures)
+    ∙ c .before .before .before .before .before .before .if2 .taken in
+    let room = le-leb (length (digitsOf (a .label))) (length (a .out .now)) (omega (
+      arith,
+      c .before .before .before .before .before .count-digits .ensures,
+    )) in
     let count = c .before .before .before .before .before .count-digits .ensures in (
       ap Written count ∙ simp (fits, label, room),
-      (ap (λ n. digitsValues (Written n)) count ∙ simp (fits, label, room), simp (fits, label, room) (c .before .before .put-digits .ensures)),
+      (
+        ap (λ n. digitsValues (Written n)) count ∙ simp (fits, label, room),
+        simp (fits, label, room) (c .before .before .put-digits .ensures),
+      ),
     )
 
 returns-3 : tie.Need-returns-3

@@ -31,7 +31,10 @@ enum-told-2 : tie.Need-enum-told-2
 enum-told-2 c = search needs
 
 -- what the call answers
-next-is : (c : tie.After-next-at) → let a = c .before .before .before .before .args in c .next-at .result ≡ next (grid (a .rows) (a .cols) (a .dirs .now)) (a .row * a .cols + a .col)
+next-is : (c : tie.After-next-at)
+    → let a =
+    c .before .before .before .before .args in c .next-at .result ≡ next (grid (a .rows) (a .cols) (a .dirs .now))
+    (a .row * a .cols + a .col)
 next-is c = c .next-at .ensures
 
 returns-2 : tie.Need-returns-2

@@ -11,8 +11,13 @@ use Rattle.directions.proofs.neighbour_against.Statement.{statement}
 use Rattle.directions.proofs.neighbour_against.Tie as tie
 
 -- the step back ends on the cell
-ends : (c : tie.After-known-told) → let a = c .before .before .before .before .before .before .args in stepBack (grid (a .rows) (a .cols) (a .dirs .now)) (a .row) (a .col) (a .k) ≡ At (c .before .t .given .0 .0)
-ends c = sym (rw (c .before .before .before .before .step-at .ensures) at (c .before .before .before .step-end .ensures)) ∙ c .before .t .given .1
+ends : (c : tie.After-known-told)
+    → let a =
+    c .before .before .before .before .before .before .args in stepBack (grid (a .rows) (a .cols) (a .dirs .now))
+    (a .row) (a .col) (a .k) ≡ At (c .before .t .given .0 .0)
+ends c =
+    sym (rw (c .before .before .before .before .step-at .ensures) at (c .before .before .before .step-end .ensures))
+    ∙ c .before .t .given .1
 
 add-step-at : tie.Need-add-step-at
 add-step-at c = search needs
@@ -21,7 +26,8 @@ step-at-requires : tie.Need-step-at-requires
 step-at-requires c κs = search needs
 
 step-end-requires : tie.Need-step-end-requires
-step-end-requires c κs = (c .before .before .pre .1, rw (c .step-at .ensures) (table-short (back (c .before .before .args .k))))
+step-end-requires c κs =
+    (c .before .before .pre .1, rw (c .step-at .ensures) (table-short (back (c .before .before .args .k))))
 
 enum-told : tie.Need-enum-told
 enum-told c = search needs
@@ -36,13 +42,24 @@ shared-slice-read-if1 : tie.Need-shared-slice-read-if1
 shared-slice-read-if1 c = omega (arith, end-lt _ _ _ _ _ (ends (c .before .before)))
 
 returns : tie.Need-returns
-returns c = neighbour-off _ _ _ _ (sym (rw (c .before .before .before .step-at .ensures) at (c .before .before .step-end .ensures)) ∙ c .enum-told .given .1)
+returns c =
+    neighbour-off _ _ _ _
+    (sym (rw (c .before .before .before .step-at .ensures) at
+    (c .before .before .step-end .ensures)) ∙ c .enum-told .given .1)
 
 returns-2 : tie.Need-returns-2
-returns-2 c = neighbour-yes _ _ _ _ (record { ends = ends (c .before .before .before .before); code = rw (c .before .before .before .step-at2 .ensures) at (c .if1 .taken) })
+returns-2 c =
+    neighbour-yes _ _ _ _
+    (record {
+      ends = ends (c .before .before .before .before);
+      code = rw
+          (c .before .before .before .step-at2 .ensures) at (c .if1 .taken);
+    })
 
 returns-3 : tie.Need-returns-3
-returns-3 c = neighbour-no _ _ _ _ (ends (c .before .before .before .before)) (rw (c .before .before .before .step-at2 .ensures) at (c .if1 .left))
+returns-3 c =
+    neighbour-no _ _ _ _ (ends (c .before .before .before .before))
+    (rw (c .before .before .before .step-at2 .ensures) at (c .if1 .left))
 
 pub neighbour-against-spec : {M : Type 1} → statement M
 neighbour-against-spec =

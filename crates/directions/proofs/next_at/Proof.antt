@@ -47,21 +47,29 @@ abbrev cell : tie.Start → ℕ
 cell c = c .args .row * c .args .cols + c .args .col
 
 -- the cell is inside, and its step is followed
-from-inside : (c : tie.After-step-end) → let s = c .before .before .before .before .before in inside (sheetOf s) (cell s) ≡ true
-from-inside c = inside-yes _ _ (on-lt (c .before .before .before .before .before .pre .1)) (c .before .before .if1 .left)
+from-inside : (c : tie.After-step-end)
+    → let s = c .before .before .before .before .before in inside (sheetOf s) (cell s) ≡ true
+from-inside c =
+    inside-yes _ _ (on-lt (c .before .before .before .before .before .pre .1)) (c .before .before .if1 .left)
 
 end-is : (c : tie.After-step-end) → let s = c .before .before .before .before .before in
-    c .step-end .result ≡ stepEnd (s .args .rows) (s .args .cols) (s .args .row) (s .args .col) (stepOf (dirAt (sheetOf s) (cell s)))
+    c .step-end .result ≡ stepEnd (s .args .rows) (s .args .cols) (s .args .row) (s .args .col)
+    (stepOf (dirAt (sheetOf s) (cell s)))
 end-is c = rw (c .before .step-of .ensures) at (c .step-end .ensures)
 
-ends : (c : tie.After-step-end) → let s = c .before .before .before .before .before in c .step-end .result ≡ endOf (sheetOf s) (cell s)
-ends c = let s = c .before .before .before .before .before in end-is c ∙ sym (end-of (sheetOf s) (s .args .row) (s .args .col) (s .pre .1 .col-on))
+ends : (c : tie.After-step-end)
+    → let s = c .before .before .before .before .before in c .step-end .result ≡ endOf (sheetOf s) (cell s)
+ends c =
+    let s = c .before .before .before .before .before in
+    end-is c ∙ sym (end-of (sheetOf s) (s .args .row) (s .args .col) (s .pre .1 .col-on))
 
-to-lt : (c : tie.After-known-told) → let a = (start (c .before .before .before .before .before)) .args in c .before .t .given .0 .0 < a .rows * a .cols
+to-lt : (c : tie.After-known-told)
+    → let a = (start (c .before .before .before .before .before)) .args in c .before .t .given .0 .0 < a .rows * a .cols
 to-lt c = end-lt _ _ _ _ _ (sym (c .before .before .before .step-end .ensures) ∙ c .before .t .given .1)
 
 shared-slice-read-if2 : tie.Need-shared-slice-read-if2
-shared-slice-read-if2 c = omega (arith, to-lt (c .before), (start (c .before .before .before .before .before .before)) .pre .0 .long)
+shared-slice-read-if2 c =
+    omega (arith, to-lt (c .before), (start (c .before .before .before .before .before .before)) .pre .0 .long)
 
 returns-2 : tie.Need-returns-2
 returns-2 c =
@@ -76,7 +84,13 @@ returns-3 c =
 returns-4 : tie.Need-returns-4
 returns-4 c =
     let s = c .before .before .before .before .before in
-    next-to _ _ (record { from-inside = from-inside s; ends = sym (ends s) ∙ c .before .before .before .t .given .1; to-inside = inside-yes _ _ (to-lt (c .before .before)) (c .if2 .left) })
+    next-to _ _
+    (record {
+      from-inside = from-inside s;
+      ends = sym
+          (ends s) ∙ c .before .before .before .t .given .1;
+      to-inside = inside-yes _ _ (to-lt (c .before .before)) (c .if2 .left);
+    })
 
 pub next-at-spec : {M : Type 1} → statement M
 next-at-spec =

@@ -63,7 +63,9 @@ returns-7 c = rw (c .before .match .keys7) refl
 returns-8 : tie.Need-returns-8
 returns-8 c =
     let r = c .before .match .rest in
-    rw (seventh (c .before .before .args .k) (c .before .before .pre) (from-four (c .before .before .args .k) (r .0 .0 .0 .0 .0 .0 .1) (r .0 .0 .0 .0 .0 .1) (r .0 .0 .0 .0 .1) (r .0 .0 .0 .1)) (r .0 .0 .1) (r .0 .1) (r .1)) refl
+    rw (seventh (c .before .before .args .k) (c .before .before .pre)
+    (from-four (c .before .before .args .k) (r .0 .0 .0 .0 .0 .0 .1) (r .0 .0 .0 .0 .0 .1) (r .0 .0 .0 .0 .1)
+    (r .0 .0 .0 .1)) (r .0 .0 .1) (r .0 .1) (r .1)) refl
 
 pub step-at-spec : {M : Type 1} → statement M
 step-at-spec =

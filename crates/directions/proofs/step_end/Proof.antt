@@ -19,11 +19,16 @@ enum-told : tie.Need-enum-told
 enum-told c = search needs
 
 -- what the two calls answer
-row-is : (c : tie.After-moved) → let a = c .before .before .args in c .moved .result ≡ movedBy (a .row) (a .s .row) (a .rows)
+row-is : (c : tie.After-moved)
+    → let a = c .before .before .args in c .moved .result ≡ movedBy (a .row) (a .s .row) (a .rows)
 row-is c = rw (read-step _ (c .before .before .pre .1 .rows)) at (c .moved .ensures)
 
-col-is : (c : tie.After-moved2) → let a = c .before .before .before .before .before .before .before .args in c .moved2 .result ≡ movedBy (a .col) (a .s .col) (a .cols)
-col-is c = rw (read-step _ (c .before .before .before .before .before .before .before .pre .1 .cols)) at (c .moved2 .ensures)
+col-is : (c : tie.After-moved2)
+    → let a =
+    c .before .before .before .before .before .before .before .args in c .moved2 .result ≡ movedBy (a .col) (a .s .col)
+    (a .cols)
+col-is c =
+    rw (read-step _ (c .before .before .before .before .before .before .before .pre .1 .cols)) at (c .moved2 .ensures)
 
 returns : tie.Need-returns
 returns c = end-off-row _ _ _ _ _ (sym (row-is (c .before .before)) ∙ c .enum-told .given .1)
@@ -40,7 +45,8 @@ enum-told-2 c = search needs
 returns-2 : tie.Need-returns-2
 returns-2 c =
     let r = c .before .before .before .before .before in
-    end-off-col _ _ _ _ _ (sym (row-is (r .before .before)) ∙ r .to-row .given .1) (sym (col-is (c .before .before)) ∙ c .enum-told2 .given .1)
+    end-off-col _ _ _ _ _ (sym (row-is (r .before .before)) ∙ r .to-row .given .1)
+    (sym (col-is (c .before .before)) ∙ c .enum-told2 .given .1)
 
 -- the cell lies on the sheet
 at-lt : (c : tie.After-known-told2) → let r = c .before .before .before .before .before .before in
@@ -61,7 +67,8 @@ add-t11 c = omega (arith, at-lt c)
 returns-3 : tie.Need-returns-3
 returns-3 c =
     let r = c .before .before .before .before .before .before in
-    end-at _ _ _ _ _ (sym (row-is (r .before .before)) ∙ r .to-row .given .1) (sym (col-is (c .before .before .before)) ∙ c .before .to-col .given .1)
+    end-at _ _ _ _ _ (sym (row-is (r .before .before)) ∙ r .to-row .given .1)
+    (sym (col-is (c .before .before .before)) ∙ c .before .to-col .given .1)
 
 pub step-end-spec : {M : Type 1} → statement M
 step-end-spec =

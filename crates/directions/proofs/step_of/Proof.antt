@@ -80,7 +80,8 @@ returns-8 c = rw (c .before .match .keys8) (c .step-at8 .ensures)
 returns-9 : tie.Need-returns-9
 returns-9 c =
     let r = c .match .rest in
-    no-step (c .before .args .code) (r .0 .0 .0 .0 .0 .0 .0 .1) (r .0 .0 .0 .0 .0 .0 .1) (r .0 .0 .0 .0 .0 .1) (r .0 .0 .0 .0 .1) (r .0 .0 .0 .1) (r .0 .0 .1) (r .0 .1) (r .1)
+    no-step (c .before .args .code) (r .0 .0 .0 .0 .0 .0 .0 .1) (r .0 .0 .0 .0 .0 .0 .1) (r .0 .0 .0 .0 .0 .1)
+    (r .0 .0 .0 .0 .1) (r .0 .0 .0 .1) (r .0 .0 .1) (r .0 .1) (r .1)
 
 pub step-of-spec : {M : Type 1} → statement M
 step-of-spec =

@@ -19,7 +19,8 @@ mul-result : tie.Need-mul-result
 mul-result c = let l = rw (c .before .outcome .given .1) at (c .before .before .before .pre) in omega arith
 
 add-result : tie.Need-add-result
-add-result c = let l = rw (c .before .outcome .given .1) at (c .before .before .before .pre) in omega (arith, c .known-told .given)
+add-result c =
+    let l = rw (c .before .outcome .given .1) at (c .before .before .before .pre) in omega (arith, c .known-told .given)
 
 returns : tie.Need-returns
 returns c = rw (c .enum-told .given .1)

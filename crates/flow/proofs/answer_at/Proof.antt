@@ -17,7 +17,10 @@ enum-known-i : tie.Need-enum-known-i
 enum-known-i c = search needs
 
 rule-at-requires : tie.Need-rule-at-requires
-rule-at-requires c κs = (part-left _ _ _ (sym (c .before .before .before .part-at .ensures) ∙ c .before .i .given .1), part-right _ _ _ (sym (c .before .before .before .part-at .ensures) ∙ c .before .i .given .1))
+rule-at-requires c κs = (
+  part-left _ _ _ (sym (c .before .before .before .part-at .ensures) ∙ c .before .i .given .1),
+  part-right _ _ _ (sym (c .before .before .before .part-at .ensures) ∙ c .before .i .given .1),
+)
 
 returns : tie.Need-returns
 unfolding answerAt
@@ -25,15 +28,31 @@ returns c = simp (sym (c .before .before .part-at .ensures) ∙ c .enum-told .gi
 
 returns-2 : tie.Need-returns-2
 unfolding answerAt
-returns-2 c = simp (sym (c .before .before .before .before .before .before .part-at .ensures) ∙ c .before .before .before .before .i .given .1, sym (c .before .before .rule-at .ensures) ∙ c .before .if1 .taken, le-ltb _ _ (c .if2 .taken))
+returns-2 c =
+    simp (
+      sym (c .before .before .before .before .before .before .part-at .ensures)
+          ∙ c .before .before .before .before .i .given .1,
+      sym (c .before .before .rule-at .ensures) ∙ c .before .if1 .taken,
+      le-ltb _ _ (c .if2 .taken),
+    )
 
 returns-3 : tie.Need-returns-3
 unfolding answerAt
-returns-3 c = simp (sym (c .before .before .before .before .before .before .part-at .ensures) ∙ c .before .before .before .before .i .given .1, sym (c .before .before .rule-at .ensures) ∙ c .before .if1 .taken, lt-ltb _ _ (c .if2 .left))
+returns-3 c =
+    simp (
+      sym (c .before .before .before .before .before .before .part-at .ensures)
+          ∙ c .before .before .before .before .i .given .1,
+      sym (c .before .before .rule-at .ensures) ∙ c .before .if1 .taken,
+      lt-ltb _ _ (c .if2 .left),
+    )
 
 returns-4 : tie.Need-returns-4
 unfolding answerAt
-returns-4 c = simp (sym (c .before .before .before .before .before .part-at .ensures) ∙ c .before .before .before .i .given .1, sym (c .before .rule-at .ensures) ∙ c .if1 .left)
+returns-4 c =
+    simp (
+      sym (c .before .before .before .before .before .part-at .ensures) ∙ c .before .before .before .i .given .1,
+      sym (c .before .rule-at .ensures) ∙ c .if1 .left,
+    )
 
 pub answer-at-spec : {M : Type 1} → statement M
 answer-at-spec =

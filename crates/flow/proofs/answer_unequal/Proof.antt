@@ -35,25 +35,53 @@ slice-aggregate-put-digits : tie.Need-slice-aggregate-put-digits
 slice-aggregate-put-digits c = search needs
 
 put-digits-requires : tie.Need-put-digits-requires
-put-digits-requires c κs = (c .before .before .count-digits .ensures, omega (arith, c .before .before .count-digits .ensures, digits-at-most-20 (c .before .before .before .args .p)))
+put-digits-requires c κs = (
+  c .before .before .count-digits .ensures,
+  omega (
+    arith,
+    c .before .before .count-digits .ensures,
+    digits-at-most-20 (c .before .before .before .args .p),
+  ),
+)
 
 slice-aggregate-put-digits-2 : tie.Need-slice-aggregate-put-digits-2
 slice-aggregate-put-digits-2 c = search needs
 
 put-digits-requires-2 : tie.Need-put-digits-requires-2
-put-digits-requires-2 c κs = (c .before .before .before .before .count-digits2 .ensures, omega (arith, c .before .before .before .before .count-digits2 .ensures, digits-at-most-20 (c .before .before .before .before .before .before .args .q)))
+put-digits-requires-2 c κs = (
+  c .before .before .before .before .count-digits2 .ensures,
+  omega (
+    arith,
+    c .before .before .before .before .count-digits2 .ensures,
+    digits-at-most-20 (c .before .before .before .before .before .before .args .q),
+  ),
+)
 
 array-share-prefix-a : tie.Need-array-share-prefix-a
-array-share-prefix-a c = written-within (digitsOf ((start (after-count-digits (after-count-digits2 (c .before .before .before .before)))) .args .p)) _ places _ (c .before .before .before .before .before .before .before .count-digits .ensures) (c .before .before .before .before .put-digits .ensures)
+array-share-prefix-a c =
+    written-within
+    (digitsOf
+    ((start (after-count-digits (after-count-digits2 (c .before .before .before .before)))) .args .p)) _ places _
+    (c .before .before .before .before .before .before .before .count-digits .ensures)
+    (c .before .before .before .before .put-digits .ensures)
 
 slice-aggregate-answer-at : tie.Need-slice-aggregate-answer-at
-slice-aggregate-answer-at c = written-count (digitsOf ((start (after-count-digits (after-count-digits2 (c .before .before .before .before .before)))) .args .p)) _ places _ ((after-count-digits (after-count-digits2 (c .before .before .before .before .before))) .count-digits .ensures) (c .before .before .before .before .before .put-digits .ensures)
+slice-aggregate-answer-at c =
+    written-count
+    (digitsOf
+    ((start (after-count-digits (after-count-digits2 (c .before .before .before .before .before)))) .args .p)) _ places _ ((after-count-digits (after-count-digits2 (c .before .before .before .before .before))) .count-digits .ensures) (c .before .before .before .before .before .put-digits .ensures)
 
 array-share-prefix-b : tie.Need-array-share-prefix-b
-array-share-prefix-b c = written-within (digitsOf ((start (after-count-digits (after-count-digits2 (c .before .before .before .before .before)))) .args .q)) _ places _ (c .before .before .before .before .before .before .before .count-digits2 .ensures) (c .before .before .put-digits2 .ensures)
+array-share-prefix-b c =
+    written-within
+    (digitsOf
+    ((start (after-count-digits (after-count-digits2 (c .before .before .before .before .before)))) .args .q)) _ places _ (c .before .before .before .before .before .before .before .count-digits2 .ensures) (c .before .before .put-digits2 .ensures)
 
 slice-aggregate-answer-at-2 : tie.Need-slice-aggregate-answer-at-2
-slice-aggregate-answer-at-2 c = written-count (digitsOf ((start (after-count-digits (after-count-digits2 (c .before .before .before .before .before .before)))) .args .q)) _ places _ ((after-count-digits2 (c .before .before .before .before .before .before)) .count-digits2 .ensures) (c .before .before .before .put-digits2 .ensures)
+slice-aggregate-answer-at-2 c =
+    written-count
+    (digitsOf
+    ((start (after-count-digits (after-count-digits2 (c .before .before .before .before .before .before)))) .args .q)) _ places _ ((after-count-digits2 (c .before .before .before .before .before .before)) .count-digits2 .ensures) (c .before .before .before .put-digits2 .ensures)
 
 answer-at-requires : tie.Need-answer-at-requires
 answer-at-requires c κs = search needs
@@ -61,12 +89,20 @@ answer-at-requires c κs = search needs
 returns : tie.Need-returns
 unfolding answerUnequal
 returns c =
-    let start = (start (after-count-digits (after-count-digits2 (c .before .before .before .before .before .before .before)))) in
-    let counted-p = (after-count-digits (after-count-digits2 (c .before .before .before .before .before .before .before))) .count-digits .ensures in
-    let counted-q = (after-count-digits2 (c .before .before .before .before .before .before .before)) .count-digits2 .ensures in
+    let start =
+    (start (after-count-digits (after-count-digits2 (c .before .before .before .before .before .before .before)))) in
+    let counted-p =
+    (after-count-digits
+    (after-count-digits2 (c .before .before .before .before .before .before .before))) .count-digits .ensures in
+    let counted-q =
+    (after-count-digits2 (c .before .before .before .before .before .before .before)) .count-digits2 .ensures in
     let written-p = c .before .before .before .before .before .before .before .put-digits .ensures in
     let written-q = c .before .before .before .before .put-digits2 .ensures in
-    simp (c .answer-at .ensures, written-first (digitsOf (start .args .p)) _ places _ counted-p written-p, written-first (digitsOf (start .args .q)) _ places _ counted-q written-q)
+    simp (
+      c .answer-at .ensures,
+      written-first (digitsOf (start .args .p)) _ places _ counted-p written-p,
+      written-first (digitsOf (start .args .q)) _ places _ counted-q written-q,
+    )
 
 pub answer-unequal-spec : {M : Type 1} → statement M
 answer-unequal-spec =

@@ -26,7 +26,8 @@ answer-unequal-requires c κs = search needs
 returns-2 : tie.Need-returns-2
 unfolding flow
 returns-2 c =
-    let fits = sym (c .before .before .before .before .before .depth-fits .ensures) ∙ c .before .before .before .before .if1 .taken in
+    let fits = sym
+    (c .before .before .before .before .before .depth-fits .ensures) ∙ c .before .before .before .before .if1 .taken in
     let labels = sym (c .before .before .before .are-labels .ensures) ∙ c .before .before .if2 .taken in
     let unequal = ne-eqb _ _ (c .before .if3 .left) in
     (simp (fits, labels, unequal, c .answer-unequal .ensures), simp (fits, labels, unequal, c .answer-unequal .ensures))

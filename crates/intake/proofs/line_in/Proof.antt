@@ -27,7 +27,8 @@ enum-known-stage-3 c = search needs
 
 cell-line-requires : tie.Need-cell-line-requires
 unfolding stateFault
-cell-line-requires c κs = simp (c .before .before .stage3 .given .1) at (c .before .before .before .before .before .before .pre)
+cell-line-requires c κs =
+    simp (c .before .before .stage3 .given .1) at (c .before .before .before .before .before .before .pre)
 
 enum-told-2 : tie.Need-enum-told-2
 enum-told-2 c = search needs

@@ -31,8 +31,12 @@ loop-less c = omega arith
 
 loop-again : tie.Need-loop-again Inv-loop μ-loop
 loop-again c =
-    let l = c .before .loop in
-    (omega arith, ap (λ (x : List ℕ). set x (l .i) 0) (l .inv .1) ∙ fill-more (l .i) 0 (c .before .before .args .labels .now) (omega arith), length-set (l .labels) (l .i) 0 ∙ l .inv .2)
+    let l = c .before .loop in (
+      omega arith,
+      ap (λ (x : List ℕ). set x (l .i) 0) (l .inv .1)
+          ∙ fill-more (l .i) 0 (c .before .before .args .labels .now) (omega arith),
+      length-set (l .labels) (l .i) 0 ∙ l .inv .2,
+    )
 
 same-length : tie.Need-same-length Inv-loop μ-loop
 same-length c = c .before .loop .inv .2
@@ -44,4 +48,5 @@ returns c =
 
 pub clear-labels-spec : {M : Type 1} → statement M
 clear-labels-spec =
-    tie.close (tie.spec Inv-loop μ-loop loop-holds mul-labels slice-write-labels add-i loop-less loop-again same-length returns)
+    tie.close
+    (tie.spec Inv-loop μ-loop loop-holds mul-labels slice-write-labels add-i loop-less loop-again same-length returns)

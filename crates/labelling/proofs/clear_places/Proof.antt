@@ -10,7 +10,8 @@ use Rattle.labelling.proofs.clear_places.Tie as tie
 
 abbrev Inv-loop : tie.InvT-loop
 Inv-loop places₀ i₀ i-end places i =
-    (places ≡ replicate i 0 ++ drop i places₀) × (i ≤ i-end) × (i-end ≡ length places₀) × (length places ≡ length places₀)
+    (places ≡ replicate i 0 ++ drop i places₀) × (i ≤ i-end) × (i-end ≡ length places₀) ×
+    (length places ≡ length places₀)
 
 abbrev μ-loop : tie.MeasureT-loop
 μ-loop places₀ i₀ i-end places i = i-end - i
@@ -32,8 +33,13 @@ loop-less c = omega arith
 
 loop-again : tie.Need-loop-again Inv-loop μ-loop
 loop-again c =
-    let l = c .before .loop in
-    (ap (λ (x : List ℕ). set x (l .i) 0) (l .inv .0) ∙ fill-more (l .i) 0 (c .before .before .args .places .now) (omega arith), omega arith, l .inv .2, length-set (l .places) (l .i) 0 ∙ l .inv .3)
+    let l = c .before .loop in (
+      ap (λ (x : List ℕ). set x (l .i) 0) (l .inv .0)
+          ∙ fill-more (l .i) 0 (c .before .before .args .places .now) (omega arith),
+      omega arith,
+      l .inv .2,
+      length-set (l .places) (l .i) 0 ∙ l .inv .3,
+    )
 
 same-length : tie.Need-same-length Inv-loop μ-loop
 same-length c = c .before .loop .inv .3
@@ -47,4 +53,5 @@ returns c =
 
 pub clear-places-spec : {M : Type 1} → statement M
 clear-places-spec =
-    tie.close (tie.spec Inv-loop μ-loop loop-holds mul-places slice-write-places add-i loop-less loop-again same-length returns)
+    tie.close
+    (tie.spec Inv-loop μ-loop loop-holds mul-places slice-write-places add-i loop-less loop-again same-length returns)

@@ -41,17 +41,21 @@ abbrev L : tie.Then2 → Lent
 L c = let a = (start (after-sizes-fit c)) .args in lent (a .areas .now) (a .labels .now) (a .work .now)
 
 sizes-passed : (c : tie.Then2) → sizesFit (S c .grid .rows) (S c .grid .cols) ≡ true
-sizes-passed c = let x = c .before .if1 .taken in let y = c .if2 .taken in let e = c .before .before .before .sizes-fit .ensures in cc
+sizes-passed c =
+    let x = c .before .if1 .taken in
+    let y = c .if2 .taken in let e = c .before .before .before .sizes-fit .ensures in cc
 
 depth-passed : (c : tie.Then2) → depthFits (S c .depth) ≡ true
-depth-passed c = let x = c .before .if1 .taken in let y = c .if2 .taken in let e = c .before .before .depth-fits .ensures in cc
+depth-passed c =
+    let x = c .before .if1 .taken in let y = c .if2 .taken in let e = c .before .before .depth-fits .ensures in cc
 
 -- after check 3
 slices-passed : (c : tie.Then3) → slicesFit (S (c .before .before) .grid) (L (c .before .before)) ≡ true
 unfolding slicesFit
 slices-passed c = sym (c .before .slices-fit .ensures) ∙ c .if3 .taken
 
-enough : (c : tie.Then3) → 8 * (S (c .before .before) .grid .rows * S (c .before .before) .grid .cols) ≤ length (L (c .before .before) .work)
+enough : (c : tie.Then3)
+    → 8 * (S (c .before .before) .grid .rows * S (c .before .before) .grid .cols) ≤ length (L (c .before .before) .work)
 enough c = let d = c .before .before in room (S d) (L d) (sizes-passed d) (depth-passed d) (slices-passed c)
 
 sizes-fit-requires : tie.Need-sizes-fit-requires
@@ -73,10 +77,14 @@ slice-relend-prefix-label-fitting : tie.Need-slice-relend-prefix-label-fitting
 slice-relend-prefix-label-fitting c = enough (c .before .before)
 
 slice-aggregate-label-fitting : tie.Need-slice-aggregate-label-fitting
-slice-aggregate-label-fitting c = let a = (start (after-sizes-fit (then2 (c .before .before .before)))) .args in sym (length-take-le (8 * (a .rows * a .cols)) (a .work .now) (enough (c .before .before .before)))
+slice-aggregate-label-fitting c =
+    let a = (start (after-sizes-fit (then2 (c .before .before .before)))) .args in
+    sym (length-take-le (8 * (a .rows * a .cols)) (a .work .now) (enough (c .before .before .before)))
 
 label-fitting-requires : tie.Need-label-fitting-requires
-label-fitting-requires c κs = let d = c .before .before .before .before .before in fitting (S d) (L d) (sizes-passed d) (depth-passed d) (slices-passed (c .before .before .before))
+label-fitting-requires c κs =
+    let d = c .before .before .before .before .before in
+    fitting (S d) (L d) (sizes-passed d) (depth-passed d) (slices-passed (c .before .before .before))
 
 same-length : tie.Need-same-length
 same-length c = search needs
@@ -91,14 +99,16 @@ returns : tie.Need-returns
 returns c =
     let d = (then2 (then3 (c .before .before .before .before .before .before))) in
     let f = c .before .before .before .before .before .before .label-fitting .ensures in
-    labelled (S d) (L d) (sizes-passed d) (depth-passed d) (slices-passed ((then3 (c .before .before .before .before .before .before)))) (f .0) (f .1 .0) (f .1 .1 .0)
+    labelled (S d) (L d) (sizes-passed d) (depth-passed d)
+    (slices-passed ((then3 (c .before .before .before .before .before .before)))) (f .0) (f .1 .0) (f .1 .1 .0)
     (ap (λ (w : List ℕ). w ++ drop (8 * (S d .grid .rows * S d .grid .cols)) (L d .work)) (f .1 .1 .1))
 
 -- refusals 1, 2 and 3
 returns-4 : tie.Need-returns-4
 returns-4 c =
     let a = c .before .before .before .before .before .before .before .args in
-    refused-1 (sheet (a .rows) (a .cols) (a .depth) (a .dirs .now)) (lent (a .areas .now) (a .labels .now) (a .work .now)) (sym (c .before .before .sizes-fit .ensures) ∙ c .if1 .left)
+    refused-1 (sheet (a .rows) (a .cols) (a .depth) (a .dirs .now))
+    (lent (a .areas .now) (a .labels .now) (a .work .now)) (sym (c .before .before .sizes-fit .ensures) ∙ c .if1 .left)
 
 returns-3 : tie.Need-returns-3
 returns-3 c =
@@ -109,11 +119,14 @@ returns-3 c =
     let t = c .before .before .depth-fits .ensures in
     let e : sizesFit (a .rows) (a .cols) ≡ true = cc in
     let f : depthFits (a .depth) ≡ false = cc in
-    refused-2 (sheet (a .rows) (a .cols) (a .depth) (a .dirs .now)) (lent (a .areas .now) (a .labels .now) (a .work .now)) e f
+    refused-2 (sheet (a .rows) (a .cols) (a .depth) (a .dirs .now))
+    (lent (a .areas .now) (a .labels .now) (a .work .now)) e f
 
 returns-2 : tie.Need-returns-2
 unfolding slicesFit
-returns-2 c = let d = c .before .before in refused-3 (S d) (L d) (sizes-passed d) (depth-passed d) (sym (c .before .slices-fit .ensures) ∙ c .if3 .left)
+returns-2 c =
+    let d = c .before .before in
+    refused-3 (S d) (L d) (sizes-passed d) (depth-passed d) (sym (c .before .slices-fit .ensures) ∙ c .if3 .left)
 
 pub label-spec : {M : Type 1} → statement M
 label-spec =

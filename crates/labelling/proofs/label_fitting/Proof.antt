@@ -41,8 +41,14 @@ same-length-3 c = search needs
 returns : tie.Need-returns
 returns c =
     let f = (after-label-in-order (after-areas (c .before .before))) .label-in-order in
-    let long = f .kept .1 .1 .1 .1 .1 .1 .0 ∙ (start (after-shared-slice-known (after-label-in-order (after-areas (c .before .before))))) .pre .work in
-    (f .ensures .outcome, (f .ensures .areas, (f .ensures .labels, c .before .before .clear-places .ensures ∙ ap (λ (k : ℕ). replicate k 0) long)))
+    let long = f .kept .1 .1 .1 .1 .1 .1 .0 ∙
+    (start (after-shared-slice-known (after-label-in-order (after-areas (c .before .before))))) .pre .work in (
+      f .ensures .outcome,
+      (
+        f .ensures .areas,
+        (f .ensures .labels, c .before .before .clear-places .ensures ∙ ap (λ (k : ℕ). replicate k 0) long),
+      ),
+    )
 
 pub label-fitting-spec : {M : Type 1} → statement M
 label-fitting-spec =

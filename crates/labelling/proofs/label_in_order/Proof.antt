@@ -26,12 +26,19 @@ clear-places-requires c κs = search needs
 
 inspect-requires : tie.Need-inspect-requires
 inspect-requires c κs =
-    let s = (start (c .before .before .before)) in
-    (s .pre .sized, cleared (s .args .rows * s .args .cols) (s .args .work .now) (s .pre .work) (c .before .before .before .clear-places .ensures))
+    let s = (start (c .before .before .before)) in (
+      s .pre .sized,
+      cleared (s .args .rows * s .args .cols) (s .args .work .now) (s .pre .work)
+          (c .before .before .before .clear-places .ensures),
+    )
 
 write-if-accepted-requires : tie.Need-write-if-accepted-requires
-write-if-accepted-requires c κs =
-    (other-work ((start (after-clear-places (c .before .before .before .before .before))) .pre) (c .before .before .before .before .before .inspect .kept .1 .1 .1 .0 ∙ (after-clear-places (c .before .before .before .before .before)) .clear-places .kept .0), inspected (c .before .before .before .before .before .inspect .ensures))
+write-if-accepted-requires c κs = (
+  other-work ((start (after-clear-places (c .before .before .before .before .before))) .pre)
+      (c .before .before .before .before .before .inspect .kept .1 .1 .1 .0 ∙
+      (after-clear-places (c .before .before .before .before .before)) .clear-places .kept .0),
+  inspected (c .before .before .before .before .before .inspect .ensures),
+)
 
 same-length : tie.Need-same-length
 same-length c = search needs
@@ -45,7 +52,13 @@ same-length-3 c = search needs
 returns : tie.Need-returns
 returns c =
     let w = c .before .before .before .before .before .before .write-if-accepted .ensures in
-    record { outcome = (after-inspect (c .before .before .before .before .before .before)) .inspect .ensures .outcome; areas = w .0; labels = w .1 .0; order = w .1 .1 }
+    record {
+      outcome =
+          (after-inspect (c .before .before .before .before .before .before)) .inspect .ensures .outcome;
+      areas = w .0;
+      labels = w .1 .0;
+      order = w .1 .1;
+    }
 
 pub label-in-order-spec : {M : Type 1} → statement M
 label-in-order-spec =

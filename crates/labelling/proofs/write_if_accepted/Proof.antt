@@ -19,7 +19,10 @@ enum-told : tie.Need-enum-told
 enum-told c = search needs
 
 write-labels-requires : tie.Need-write-labels-requires
-write-labels-requires c κs = ((start (c .before .before .before)) .pre .0, (start (c .before .before .before)) .pre .1 (c .before .before .before .enum-told .given .1))
+write-labels-requires c κs = (
+  (start (c .before .before .before)) .pre .0,
+  (start (c .before .before .before)) .pre .1 (c .before .before .before .enum-told .given .1),
+)
 
 enum-told-2 : tie.Need-enum-told-2
 enum-told-2 c = search needs
@@ -36,7 +39,8 @@ same-length-3 c = search needs
 returns : tie.Need-returns
 returns c =
     let w = c .before .before .before .before .before .before .write-labels .ensures in
-    rw ((after-enum-told (c .before .before .before .before .before .before)) .enum-told .given .1) (w .0, (w .1 .0, λ e. w .1 .1))
+    rw ((after-enum-told (c .before .before .before .before .before .before)) .enum-told .given .1)
+    (w .0, (w .1 .0, λ e. w .1 .1))
 
 returns-2 : tie.Need-returns-2
 returns-2 c = (search needs, (search needs, λ e. let z : _≡_ {A = ℕ} 0 1 = cc in absurd (omega arith)))

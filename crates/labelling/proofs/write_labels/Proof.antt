@@ -39,7 +39,9 @@ measure-requires c κs = search needs
 arrange-requires : tie.Need-arrange-requires
 arrange-requires c κs =
     let p = (start (c .before .before .before .before .before .before)) .pre in
-    surveyed (p .0) (p .1) (c .before .before .before .before .before .before .measure .ensures .0) (c .before .before .before .before .before .before .measure .ensures .1 _ refl) (c .before .before .before .before .before .before .measure .kept .1 .1 .1 .0)
+    surveyed (p .0) (p .1) (c .before .before .before .before .before .before .measure .ensures .0)
+    (c .before .before .before .before .before .before .measure .ensures .1 _ refl)
+    (c .before .before .before .before .before .before .measure .kept .1 .1 .1 .0)
 
 mul-n : tie.Need-mul-n
 mul-n c = search needs
@@ -51,13 +53,17 @@ mul-cells : tie.Need-mul-cells
 mul-cells c = search needs
 
 add-cells-end : tie.Need-add-cells-end
-add-cells-end c = let p = (start (after-measure (after-arrange (after-clear-labels (c .before))))) .pre in omega (arith, queued-most (p .1 .drained), cells-most (p .0 .sized .rows-most) (p .0 .sized .cols-most))
+add-cells-end c =
+    let p = (start (after-measure (after-arrange (after-clear-labels (c .before))))) .pre in
+    omega (arith, queued-most (p .1 .drained), cells-most (p .0 .sized .rows-most) (p .0 .sized .cols-most))
 
 mul-sizes : tie.Need-mul-sizes
 mul-sizes c = search needs
 
 add-sizes-end : tie.Need-add-sizes-end
-add-sizes-end c = let p = (start (after-measure (after-arrange (after-clear-labels (c .before))))) .pre in omega (arith, queued-most (p .1 .drained), cells-most (p .0 .sized .rows-most) (p .0 .sized .cols-most))
+add-sizes-end c =
+    let p = (start (after-measure (after-arrange (after-clear-labels (c .before))))) .pre in
+    omega (arith, queued-most (p .1 .drained), cells-most (p .0 .sized .rows-most) (p .0 .sized .cols-most))
 
 mul-label-basin : tie.Need-mul-label-basin
 mul-label-basin c = search needs
@@ -71,10 +77,18 @@ part-label-basin-start c = search needs
 part-label-basin-end : tie.Need-part-label-basin-end
 part-label-basin-end c =
     let p = (start (after-measure (after-arrange (after-clear-labels (c .before .before))))) .pre in
-    omega (arith, queued-most (p .1 .drained), p .0 .work, (after-measure (after-arrange (after-clear-labels (c .before .before)))) .measure .kept .1 .1 .1 .0, c .before .before .before .before .before .before .before .arrange .kept .1 .1 .1 .1 .1 .0)
+    omega (
+      arith,
+      queued-most (p .1 .drained),
+      p .0 .work,
+      (after-measure (after-arrange (after-clear-labels (c .before .before)))) .measure .kept .1 .1 .1 .0,
+      c .before .before .before .before .before .before .before .arrange .kept .1 .1 .1 .1 .1 .0,
+    )
 
 mul-label-basin-2 : tie.Need-mul-label-basin-2
-mul-label-basin-2 c = let p = (start (after-measure (after-arrange (after-clear-labels (c .before .before .before))))) .pre in omega (arith, cells-most (p .0 .sized .rows-most) (p .0 .sized .cols-most))
+mul-label-basin-2 c =
+    let p = (start (after-measure (after-arrange (after-clear-labels (c .before .before .before))))) .pre in
+    omega (arith, cells-most (p .0 .sized .rows-most) (p .0 .sized .cols-most))
 
 sub-label-basin-2 : tie.Need-sub-label-basin-2
 sub-label-basin-2 c = search needs
@@ -85,17 +99,28 @@ part-label-basin-start-2 c = search needs
 part-label-basin-end-2 : tie.Need-part-label-basin-end-2
 part-label-basin-end-2 c =
     let p = (start (after-measure (after-arrange (after-clear-labels (c .before .before .before))))) .pre in
-    omega (arith, queued-most (p .1 .drained), p .0 .work, (after-measure (after-arrange (after-clear-labels (c .before .before .before)))) .measure .kept .1 .1 .1 .0, (after-arrange (after-clear-labels (c .before .before .before))) .arrange .kept .1 .1 .1 .1 .1 .0)
+    omega (
+      arith,
+      queued-most (p .1 .drained),
+      p .0 .work,
+      (after-measure (after-arrange (after-clear-labels (c .before .before .before)))) .measure .kept .1 .1 .1 .0,
+      (after-arrange (after-clear-labels (c .before .before .before))) .arrange .kept .1 .1 .1 .1 .1 .0,
+    )
 
 label-basin-requires : tie.Need-label-basin-requires
 unfolding least split
 label-basin-requires c κs =
-    let p = (start (after-measure (after-arrange (after-clear-labels (c .before .before .before .before .before .before))))) .pre in
-    let a = (start (after-measure (after-arrange (after-clear-labels (c .before .before .before .before .before .before))))) .args in
+    let p = (start
+    (after-measure (after-arrange (after-clear-labels (c .before .before .before .before .before .before))))) .pre in
+    let a = (start
+    (after-measure (after-arrange (after-clear-labels (c .before .before .before .before .before .before))))) .args in
     let n = a .rows * a .cols in
     let S = sheet (a .rows) (a .cols) (a .depth) (a .dirs .now) in
-    let e = network-in S (a .areas .now) ((after-measure (after-arrange (after-clear-labels (c .before .before .before .before .before .before)))) .measure .ensures .1 S refl) in
-    let r = (after-arrange (after-clear-labels (c .before .before .before .before .before .before))) .arrange .ensures .0 in
+    let e = network-in S (a .areas .now)
+    ((after-measure
+    (after-arrange (after-clear-labels (c .before .before .before .before .before .before)))) .measure .ensures .1 S refl) in
+    let r = (after-arrange
+    (after-clear-labels (c .before .before .before .before .before .before))) .arrange .ensures .0 in
     rw (part-is (cellsPart * n) (a .queued), part-is (orderedSizesPart * n) (a .queued)) (
       p .0 .depth-most,
       (
@@ -103,7 +128,17 @@ label-basin-requires c κs =
         (
           network-of S (p .1 .accepted) e r,
           places S (p .1 .accepted) e r _ _
-              (omega (arith, p .0 .areas, (after-measure (after-arrange (after-clear-labels (c .before .before .before .before .before .before)))) .measure .kept .1 .1 .1 .1 .1 .0)) (omega (arith, p .0 .labels, c .before .before .before .before .before .before .before .clear-labels .kept .0)),
+              (omega (
+                arith,
+                p .0 .areas,
+                (after-measure
+                    (after-arrange
+                    (after-clear-labels (c .before .before .before .before .before .before)))) .measure .kept .1 .1 .1 .1 .1 .0,
+              )) (omega (
+                arith,
+                p .0 .labels,
+                c .before .before .before .before .before .before .before .clear-labels .kept .0,
+              )),
         ),
       ),
     )
@@ -125,9 +160,20 @@ returns c =
     let n = a .rows * a .cols in
     let r = (after-arrange (after-clear-labels (after-labels (c .before .before)))) .arrange .ensures .0 in
     let S = sheet (a .rows) (a .cols) (a .depth) (a .dirs .now) in
-    let areas = (after-measure (after-arrange (after-clear-labels (after-labels (c .before .before))))) .measure .ensures .1 S refl in
-    let e = rw (part-is (cellsPart * n) (a .queued), part-is (orderedSizesPart * n) (a .queued)) at (c .before .before .label-basin .ensures) in
-    (areas, (labels-written S (p .1 .accepted) (network-in S (a .areas .now) areas) r (a .labels .now) (p .0 .labels) ((after-clear-labels (after-labels (c .before .before))) .clear-labels .ensures) e, r))
+    let areas =
+    (after-measure
+    (after-arrange (after-clear-labels (after-labels (c .before .before))))) .measure .ensures .1 S refl in
+    let e = rw (
+      part-is (cellsPart * n) (a .queued),
+      part-is (orderedSizesPart * n) (a .queued),
+    ) at (c .before .before .label-basin .ensures) in (
+      areas,
+      (
+        labels-written S (p .1 .accepted) (network-in S (a .areas .now) areas) r (a .labels .now) (p .0 .labels)
+            ((after-clear-labels (after-labels (c .before .before))) .clear-labels .ensures) e,
+        r,
+      ),
+    )
 
 pub write-labels-spec : {M : Type 1} → statement M
 write-labels-spec =

@@ -20,10 +20,17 @@ label-length-requires : tie.Need-label-length-requires
 label-length-requires c κs = search needs
 
 -- all the digits of a line are at most 80
-few : (c : tie.After-label-length) → c .before .before .before .decimal-length .result + c .before .before .decimal-length2 .result + c .before .decimal-length3 .result + c .label-length .result ≤ 80
+few : (c : tie.After-label-length)
+    → c .before .before .before .decimal-length .result + c .before .before .decimal-length2 .result + c .before .decimal-length3 .result + c .label-length .result ≤ 80
 few c =
     let s = c .before .before .before .before in
-    omega (arith, text-64-bit (s .args .row) (s .fits .row .fits), text-64-bit (s .args .col) (s .fits .col .fits), text-32-bit (s .args .area) (s .fits .area .fits), label-64-bit (s .args .label) (s .fits .label .fits))
+    omega (
+      arith,
+      text-64-bit (s .args .row) (s .fits .row .fits),
+      text-64-bit (s .args .col) (s .fits .col .fits),
+      text-32-bit (s .args .area) (s .fits .area .fits),
+      label-64-bit (s .args .label) (s .fits .label .fits),
+    )
 
 add-result : tie.Need-add-result
 add-result c = omega (arith, few c)

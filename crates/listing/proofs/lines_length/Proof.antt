@@ -14,7 +14,8 @@ use Rattle.listing.proofs.lines_length.Statement.{statement}
 use Rattle.listing.proofs.lines_length.Tie as tie
 
 abbrev Inv-loop : tie.InvT-loop
-Inv-loop rows cols dirs areas labels n count₀ cell₀ count cell = (cell ≤ n) × (count ≡ length (linesBelow (grid rows cols dirs) areas labels cell))
+Inv-loop rows cols dirs areas labels n count₀ cell₀ count cell =
+    (cell ≤ n) × (count ≡ length (linesBelow (grid rows cols dirs) areas labels cell))
 
 abbrev μ-loop : tie.MeasureT-loop
 μ-loop rows cols dirs areas labels n count₀ cell₀ count cell = n - cell
@@ -28,7 +29,8 @@ abbrev start : tie.At-loop Inv-loop μ-loop → tie.Start Inv-loop μ-loop
 start c = c .before .before .before .before
 
 mul-n : tie.Need-mul-n Inv-loop μ-loop
-mul-n c = omega (arith, cells-most (c .before .before .before .pre .rows-most) (c .before .before .before .pre .cols-most))
+mul-n c =
+    omega (arith, cells-most (c .before .before .before .pre .rows-most) (c .before .before .before .pre .cols-most))
 
 loop-holds : tie.Need-loop-holds Inv-loop μ-loop
 unfolding linesBelow
@@ -44,7 +46,9 @@ loop-less : tie.Need-loop-less Inv-loop μ-loop
 loop-less c = search needs
 
 loop-again : tie.Need-loop-again Inv-loop μ-loop
-loop-again c = let l = c .before .before .before .loop in (omega arith, l .inv .1 ∙ ap length (sym (lines-outside _ _ _ (l .cell) (c .if1 .taken))))
+loop-again c =
+    let l = c .before .before .before .loop in
+    (omega arith, l .inv .1 ∙ ap length (sym (lines-outside _ _ _ (l .cell) (c .if1 .taken))))
 
 div-cell-length : tie.Need-div-cell-length Inv-loop μ-loop
 div-cell-length c = omega arith
@@ -53,13 +57,21 @@ rem-cell-length : tie.Need-rem-cell-length Inv-loop μ-loop
 rem-cell-length c = omega arith
 
 mul-cell-length : tie.Need-mul-cell-length Inv-loop μ-loop
-mul-cell-length c = omega (arith, cell-small (c .before .before .before .before .before .before .before .pre) (c .before .before .loop-test .taken))
+mul-cell-length c =
+    omega (
+      arith,
+      cell-small (c .before .before .before .before .before .before .before .pre) (c .before .before .loop-test .taken),
+    )
 
 shared-slice-read-cell-length : tie.Need-shared-slice-read-cell-length Inv-loop μ-loop
 shared-slice-read-cell-length c = omega arith
 
 mul-cell-length-2 : tie.Need-mul-cell-length-2 Inv-loop μ-loop
-mul-cell-length-2 c = omega (arith, cell-small ((start (c .before .before .before .before)) .pre) (c .before .before .before .loop-test .taken))
+mul-cell-length-2 c =
+    omega (
+      arith,
+      cell-small ((start (c .before .before .before .before)) .pre) (c .before .before .before .loop-test .taken),
+    )
 
 shared-slice-read-cell-length-2 : tie.Need-shared-slice-read-cell-length-2 Inv-loop μ-loop
 shared-slice-read-cell-length-2 c = omega arith
@@ -68,17 +80,27 @@ cell-length-requires : tie.Need-cell-length-requires Inv-loop μ-loop
 cell-length-requires c κs = search needs
 
 -- the bytes with those of this cell's line
-counted : (c : tie.After-cell-length Inv-loop μ-loop) → let l = c .before .before .before .before .before .before in l .loop .count + c .cell-length .result ≡ length (lines (l .before .before .before .before) (l .loop .cell + 1))
+counted : (c : tie.After-cell-length Inv-loop μ-loop)
+    → let l =
+    c .before .before .before .before .before .before in l .loop .count + c .cell-length .result ≡ length
+    (lines (l .before .before .before .before) (l .loop .cell + 1))
 counted c =
     let l = c .before .before .before .before .before .before in
     let a = l .before .before .before .before .args in
-    omega (arith, lines-inside-length (grid (a .rows) (a .cols) (a .dirs .now)) (a .areas .now) (a .labels .now) (l .loop .cell) (omega arith) (c .before .before .before .if1 .left))
+    omega (
+      arith,
+      lines-inside-length (grid (a .rows) (a .cols) (a .dirs .now)) (a .areas .now) (a .labels .now) (l .loop .cell)
+          (omega arith) (c .before .before .before .if1 .left),
+    )
 
 add-count : tie.Need-add-count Inv-loop μ-loop
 add-count c =
     let l = c .before .before .before .before .before .before in
     let s = l .before .before .before .before in
-    let most = lines-fit (grid (s .args .rows) (s .args .cols) (s .args .dirs .now)) (s .args .areas .now) (s .args .labels .now) (s .pre .rows-most) (s .pre .cols-most) (λ i. l .before .before .shared-slice-known2 .given i .fits) (λ i. l .before .shared-slice-known3 .given i .fits) (l .loop .cell + 1) (omega arith) in
+    let most = lines-fit (grid (s .args .rows) (s .args .cols) (s .args .dirs .now)) (s .args .areas .now)
+    (s .args .labels .now) (s .pre .rows-most) (s .pre .cols-most)
+    (λ i. l .before .before .shared-slice-known2 .given i .fits) (λ i. l .before .shared-slice-known3 .given i .fits)
+    (l .loop .cell + 1) (omega arith) in
     omega (arith, counted c)
 
 add-cell-2 : tie.Need-add-cell-2 Inv-loop μ-loop

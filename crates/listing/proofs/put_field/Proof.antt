@@ -23,16 +23,25 @@ room : (c : tie.Start) → c .args .at + length (decimalText (c .args .value)) �
 room c = omega arith
 
 -- and so it is written whole
-answer : (c : tie.After-slice-known2) → let a = c .before .before .before .before .before .args in c .before .before .write-decimal .result ≡ End (a .at + length (decimalText (a .value)))
+answer : (c : tie.After-slice-known2)
+    → let a =
+    c .before .before .before .before .before .args in c .before .before .write-decimal .result ≡ End
+    (a .at + length (decimalText (a .value)))
 answer c =
     let s = c .before .before .before .before .before in
-    wrote-answer (decimalText (s .args .value)) (s .args .out .now) (s .args .at) (room s) (c .before .before .write-decimal .ensures .0)
+    wrote-answer (decimalText (s .args .value)) (s .args .out .now) (s .args .at) (room s)
+    (c .before .before .write-decimal .ensures .0)
 
-number : (c : tie.After-known-told) → let w = c .before .before .before .before .before in let a = w .before .before .before .args in Put (a .out .now) (w .write-decimal .last .1 .0) (a .at) (c .before .end .given .0 .0) (decimalText (a .value))
+number : (c : tie.After-known-told)
+    → let w =
+    c .before .before .before .before .before in let a =
+    w .before .before .before .args in Put (a .out .now) (w .write-decimal .last .1 .0) (a .at)
+    (c .before .end .given .0 .0) (decimalText (a .value))
 number c =
     let w = c .before .before .before .before .before in
     let s = w .before .before .before in
-    wrote-put (decimalText (s .args .value)) (s .args .out .now) (s .args .at) (room s) (w .write-decimal .ensures .0) (c .before .end .given .1)
+    wrote-put (decimalText (s .args .value)) (s .args .out .now) (s .args .at) (room s) (w .write-decimal .ensures .0)
+    (c .before .end .given .1)
 
 enum-known-end : tie.Need-enum-known-end
 enum-known-end c = search needs
@@ -50,7 +59,9 @@ returns c =
     absurd (omega arith)
 
 -- the byte has room after the number
-after-room : (c : tie.After-known-told) → let w = c .before .before .before .before .before in c .before .end .given .0 .0 + 1 ≤ length (w .write-decimal .last .1 .0)
+after-room : (c : tie.After-known-told)
+    → let w =
+    c .before .before .before .before .before in c .before .end .given .0 .0 + 1 ≤ length (w .write-decimal .last .1 .0)
 after-room c =
     let s = (start (c .before .before .before .before .before)) in
     omega (arith, s .pre, number c .next-is, put-length (number c) (room s))

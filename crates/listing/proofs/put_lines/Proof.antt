@@ -16,7 +16,8 @@ use Rattle.listing.proofs.put_lines.Statement.{statement}
 use Rattle.listing.proofs.put_lines.Tie as tie
 
 abbrev Inv-loop : tie.InvT-loop
-Inv-loop rows cols dirs areas labels out₀ at n next₀ cell₀ out next cell = (cell ≤ n) × Put out₀ out at next (linesBelow (grid rows cols dirs) areas labels cell)
+Inv-loop rows cols dirs areas labels out₀ at n next₀ cell₀ out next cell =
+    (cell ≤ n) × Put out₀ out at next (linesBelow (grid rows cols dirs) areas labels cell)
 
 abbrev μ-loop : tie.MeasureT-loop
 μ-loop rows cols dirs areas labels out₀ at n next₀ cell₀ out next cell = n - cell
@@ -39,11 +40,18 @@ mul-n : tie.Need-mul-n Inv-loop μ-loop
 mul-n c = let p = c .before .before .before .before .pre .0 in omega (arith, cells-most (p .rows-most) (p .cols-most))
 
 -- the lines of the cells up to any one have room
-room : (c : tie.At-loop Inv-loop μ-loop) (k : ℕ) → let s = c .before .before .before .before .before in k ≤ s .args .rows * s .args .cols → s .args .at + length (lines s k) ≤ length (s .args .out .now)
+room : (c : tie.At-loop Inv-loop μ-loop) (k : ℕ)
+    → let s =
+    c .before .before .before .before .before in k ≤ s .args .rows * s .args .cols → s .args .at + length
+    (lines s k) ≤ length (s .args .out .now)
 room c k h =
     let s = c .before .before .before .before .before in
     let a = s .args in
-    omega (arith, lines-grow (grid (a .rows) (a .cols) (a .dirs .now)) (a .areas .now) (a .labels .now) k (a .rows * a .cols) h, s .pre .1)
+    omega (
+      arith,
+      lines-grow (grid (a .rows) (a .cols) (a .dirs .now)) (a .areas .now) (a .labels .now) k (a .rows * a .cols) h,
+      s .pre .1,
+    )
 
 loop-holds : tie.Need-loop-holds Inv-loop μ-loop
 unfolding linesBelow
@@ -59,7 +67,8 @@ loop-less : tie.Need-loop-less Inv-loop μ-loop
 loop-less c = search needs
 
 loop-again : tie.Need-loop-again Inv-loop μ-loop
-loop-again c = let l = c .before .before .before .loop in (omega arith, put-outside _ _ _ (l .cell) (c .if1 .taken) (l .inv .1))
+loop-again c =
+    let l = c .before .before .before .loop in (omega arith, put-outside _ _ _ (l .cell) (c .if1 .taken) (l .inv .1))
 
 div-put-cell : tie.Need-div-put-cell Inv-loop μ-loop
 div-put-cell c = omega arith
@@ -74,7 +83,11 @@ shared-slice-read-put-cell : tie.Need-shared-slice-read-put-cell Inv-loop μ-loo
 shared-slice-read-put-cell c = omega arith
 
 mul-put-cell-2 : tie.Need-mul-put-cell-2 Inv-loop μ-loop
-mul-put-cell-2 c = omega (arith, cell-small ((start (at-loop (in-loop (c .before)))) .pre .0) (c .before .before .before .loop-test .taken))
+mul-put-cell-2 c =
+    omega (
+      arith,
+      cell-small ((start (at-loop (in-loop (c .before)))) .pre .0) (c .before .before .before .loop-test .taken),
+    )
 
 shared-slice-read-put-cell-2 : tie.Need-shared-slice-read-put-cell-2 Inv-loop μ-loop
 shared-slice-read-put-cell-2 c = omega arith
@@ -82,7 +95,8 @@ shared-slice-read-put-cell-2 c = omega arith
 put-cell-requires : tie.Need-put-cell-requires Inv-loop μ-loop
 put-cell-requires c κs =
     let l = c .before .before .before .before .before .before in
-    line-room _ _ _ (l .loop .cell) (omega arith) (c .before .before .before .if1 .left) (room l (l .loop .cell + 1) (omega arith)) (l .loop .inv .1)
+    line-room _ _ _ (l .loop .cell) (omega arith) (c .before .before .before .if1 .left)
+    (room l (l .loop .cell + 1) (omega arith)) (l .loop .inv .1)
 
 add-cell-2 : tie.Need-add-cell-2 Inv-loop μ-loop
 add-cell-2 c = search needs
@@ -93,11 +107,15 @@ loop-less-2 c = search needs
 loop-again-2 : tie.Need-loop-again-2 Inv-loop μ-loop
 loop-again-2 c =
     let l = (at-loop (in-loop (c .before .before .before .before .before .before))) in
-    let on = (in-loop (c .before .before .before .before .before .before)) .loop-test .taken in
-    (omega arith, put-inside _ _ _ (l .loop .cell) on (c .before .before .before .before .before .before .if1 .left) (room l (l .loop .cell + 1) (omega arith)) (l .loop .inv .1) (c .before .before .put-cell .ensures))
+    let on = (in-loop (c .before .before .before .before .before .before)) .loop-test .taken in (
+      omega arith,
+      put-inside _ _ _ (l .loop .cell) on (c .before .before .before .before .before .before .if1 .left)
+          (room l (l .loop .cell + 1) (omega arith)) (l .loop .inv .1) (c .before .before .put-cell .ensures),
+    )
 
 same-length : tie.Need-same-length Inv-loop μ-loop
-same-length c = put-length (c .before .loop .inv .1) (room (c .before) (c .before .loop .cell) (c .before .loop .inv .0))
+same-length c =
+    put-length (c .before .loop .inv .1) (room (c .before) (c .before .loop .cell) (c .before .loop .inv .0))
 
 returns : tie.Need-returns Inv-loop μ-loop
 returns c =

@@ -22,7 +22,8 @@ loop-holds c = let a = c .args in (omega arith, paste-zero (a .out .now) (a .at)
 kept : (c : tie.At-loop Inv-loop μ-loop) → length (c .loop .out) ≡ length (c .before .args .out .now)
 kept c =
     let a = c .before .args in
-    ap length (c .loop .inv .1) ∙ length-paste (a .out .now) (a .at) (a .text .now) (c .loop .i) (omega arith) (c .loop .inv .0)
+    ap length (c .loop .inv .1) ∙ length-paste (a .out .now) (a .at) (a .text .now) (c .loop .i) (omega arith)
+    (c .loop .inv .0)
 
 shared-slice-read-out : tie.Need-shared-slice-read-out Inv-loop μ-loop
 shared-slice-read-out c = omega arith
@@ -44,7 +45,8 @@ loop-again c =
     let l = c .before .before .loop in
     let a = c .before .before .before .args in (
       omega arith,
-      rw (l .inv .1, add-one) (paste-suc (a .out .now) (a .at) (a .text .now) (l .i) 0 (omega arith) (c .before .loop-test .taken)),
+      rw (l .inv .1, add-one)
+          (paste-suc (a .out .now) (a .at) (a .text .now) (l .i) 0 (omega arith) (c .before .loop-test .taken)),
     )
 
 add-result : tie.Need-add-result Inv-loop μ-loop

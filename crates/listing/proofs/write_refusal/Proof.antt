@@ -33,14 +33,27 @@ abbrev after-put-text : tie.After-put-field → tie.After-put-text
 after-put-text c = c .before .before .before .before
 
 -- the bytes that were counted are those of the text, which are few
-counted : (c : tie.After-decimal-length2) → 14 + c .before .decimal-length .result + c .decimal-length2 .result + 2 ≡ length (text (c .before .before .before .before))
-counted c = let a = c .before .before .before .before .args in omega (arith, c .before .decimal-length .ensures, c .decimal-length2 .ensures, refusal-length (a .number) (a .place))
+counted : (c : tie.After-decimal-length2)
+    → 14 + c .before .decimal-length .result + c .decimal-length2 .result + 2 ≡ length
+    (text (c .before .before .before .before))
+counted c =
+    let a = c .before .before .before .before .args in
+    omega (
+      arith,
+      c .before .decimal-length .ensures,
+      c .decimal-length2 .ensures,
+      refusal-length (a .number) (a .place),
+    )
 
 few : (c : tie.After-decimal-length2) → length (text (c .before .before .before .before)) ≤ 39
-few c = let s = c .before .before .before .before in refusal-most (s .args .number) (s .args .place) (s .fits .number .fits) (s .fits .place .fits)
+few c =
+    let s = c .before .before .before .before in
+    refusal-most (s .args .number) (s .args .place) (s .fits .number .fits) (s .fits .place .fits)
 
 -- each part of the text has room
-room : (c : tie.Else1) → length (text (c .before .before .before .before .before)) ≤ length (c .before .before .before .before .before .args .out .now)
+room : (c : tie.Else1)
+    → length (text (c .before .before .before .before .before)) ≤ length
+    (c .before .before .before .before .before .args .out .now)
 room c = omega (arith, counted (c .before))
 
 decimal-length-requires : tie.Need-decimal-length-requires
@@ -61,33 +74,55 @@ add-if1-3 c = omega (arith, counted c, few c)
 returns : tie.Need-returns
 unfolding refusalInto
 returns c =
-    let short : length (c .before .before .before .before .before .args .out .now) < length (text (c .before .before .before .before .before)) = omega (arith, counted (c .before)) in
+    let short : length (c .before .before .before .before .before .args .out .now) < length
+    (text (c .before .before .before .before .before)) = omega (arith, counted (c .before)) in
     promises (put-none (text (c .before .before .before .before .before)) _ short)
 
 put-text-requires : tie.Need-put-text-requires
 put-text-requires c κs = search needs
 
 put-field-requires : tie.Need-put-field-requires
-put-field-requires c κs = let h = c .before .before .before in let s = start (else1 h) in omega (arith, room (h .before .before .before), refusal-length (s .args .number) (s .args .place), h .put-text .ensures .next-is, h .put-text .kept .1 .0)
+put-field-requires c κs =
+    let h = c .before .before .before in
+    let s = start (else1 h) in
+    omega (
+      arith,
+      room (h .before .before .before),
+      refusal-length (s .args .number) (s .args .place),
+      h .put-text .ensures .next-is,
+      h .put-text .kept .1 .0,
+    )
 
 put-field-requires-2 : tie.Need-put-field-requires-2
 put-field-requires-2 c κs =
     let n = c .before .before .before in
     let h = n .before .before .before .before in
     let s = start (else1 h) in
-    omega (arith, room (h .before .before .before), refusal-length (s .args .number) (s .args .place), h .put-text .ensures .next-is, h .put-text .kept .1 .0, field-end _ _ (n .put-field .ensures), n .put-field .kept .1 .1 .0)
+    omega (
+      arith,
+      room (h .before .before .before),
+      refusal-length (s .args .number) (s .args .place),
+      h .put-text .ensures .next-is,
+      h .put-text .kept .1 .0,
+      field-end _ _ (n .put-field .ensures),
+      n .put-field .kept .1 .1 .0,
+    )
 
 same-length : tie.Need-same-length
 same-length c = search needs
 
-heading-room : (c : tie.Else1) → 0 + length (refusalHeading ++ values (c .before .before .before .before .before)) ≤ length (c .before .before .before .before .before .args .out .now)
+heading-room : (c : tie.Else1)
+    → 0 + length (refusalHeading ++ values (c .before .before .before .before .before)) ≤ length
+    (c .before .before .before .before .before .args .out .now)
 unfolding refusalText
 heading-room c = omega (arith, room c)
 
-heading : (c : tie.After-put-text) → Put ((start (else1 c)) .args .out .now) (c .put-text .last .1 .0) 0 (c .put-text .result) refusalHeading
+heading : (c : tie.After-put-text)
+    → Put ((start (else1 c)) .args .out .now) (c .put-text .last .1 .0) 0 (c .put-text .result) refusalHeading
 heading c = c .put-text .ensures
 
-values-room : (c : tie.After-put-text) → c .put-text .result + length (values ((start (else1 c)))) ≤ length (c .put-text .last .1 .0)
+values-room : (c : tie.After-put-text)
+    → c .put-text .result + length (values ((start (else1 c)))) ≤ length (c .put-text .last .1 .0)
 values-room c = put-room (heading c) (values ((start (else1 c)))) (heading-room (c .before .before .before))
 
 returns-2 : tie.Need-returns-2
@@ -95,7 +130,8 @@ unfolding refusalInto refusalText
 returns-2 c =
     promises
     (put-whole _ _ (room ((else1 (after-put-text (c .before .before .before .before .before .before)))))
-    (put-then (heading ((after-put-text (c .before .before .before .before .before .before)))) (put-then (c .before .before .before .before .before .before .put-field .ensures) (c .before .before .put-field2 .ensures) (values-room ((after-put-text (c .before .before .before .before .before .before))))) (heading-room ((else1 (after-put-text (c .before .before .before .before .before .before)))))))
+    (put-then (heading ((after-put-text (c .before .before .before .before .before .before))))
+    (put-then (c .before .before .before .before .before .before .put-field .ensures) (c .before .before .put-field2 .ensures) (values-room ((after-put-text (c .before .before .before .before .before .before))))) (heading-room ((else1 (after-put-text (c .before .before .before .before .before .before)))))))
 
 pub write-refusal-spec : {M : Type 1} → statement M
 write-refusal-spec =

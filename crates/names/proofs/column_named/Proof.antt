@@ -9,7 +9,8 @@ use Rattle.names.proofs.column_named.Statement.{statement}
 use Rattle.names.proofs.column_named.Tie as tie
 
 -- what a call gives, with its last argument replaced by what an earlier call gives
-chain : (f name : List ℕ) (column : Column) {other given result : Column} → result ≡ columnIf f name column other → other ≡ given → result ≡ columnIf f name column given
+chain : (f name : List ℕ) (column : Column) {other given result : Column} → result ≡ columnIf f name column other
+    → other ≡ given → result ≡ columnIf f name column given
 chain f name column e g = e ∙ ap (columnIf f name column) g
 
 -- Points of the function, each from a later one.

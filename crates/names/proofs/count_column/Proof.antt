@@ -29,14 +29,24 @@ cast-result-3 c = search needs
 
 add-result-2 : tie.Need-add-result-2
 add-result-2 c =
-    omega
-    (arith, byte-small (c .before .before .same-column .result), byte-small (c .before .same-column2 .result), byte-small (c .same-column3 .result))
+    omega (
+      arith,
+      byte-small (c .before .before .same-column .result),
+      byte-small (c .before .same-column2 .result),
+      byte-small (c .same-column3 .result),
+    )
 
 returns : tie.Need-returns
 unfolding countColumn
 returns c =
-    rw
-    (byte-one (c .before .before .same-column .result), byte-one (c .before .same-column2 .result), byte-one (c .same-column3 .result), c .before .before .same-column .ensures, c .before .same-column2 .ensures, c .same-column3 .ensures)
+    rw (
+      byte-one (c .before .before .same-column .result),
+      byte-one (c .before .same-column2 .result),
+      byte-one (c .same-column3 .result),
+      c .before .before .same-column .ensures,
+      c .before .same-column2 .ensures,
+      c .same-column3 .ensures,
+    )
 
 pub count-column-spec : {M : Type 1} → statement M
 count-column-spec =

@@ -26,12 +26,14 @@ same-columns-requires c κs = search needs
 
 returns-3 : tie.Need-returns-3
 returns-3 c =
-    let named = sym (c .before .before .before .before .before .columns-in .ensures) ∙ c .before .before .before .columns .given .1 in
+    let named = sym
+    (c .before .before .before .before .before .columns-in .ensures) ∙ c .before .before .before .columns .given .1 in
     sym (names-expected _ _ (omega arith) named (sym (c .before .same-columns .ensures) ∙ c .if2 .taken))
 
 returns-4 : tie.Need-returns-4
 returns-4 c =
-    let named = sym (c .before .before .before .before .before .columns-in .ensures) ∙ c .before .before .before .columns .given .1 in
+    let named = sym
+    (c .before .before .before .before .before .columns-in .ensures) ∙ c .before .before .before .columns .given .1 in
     sym (names-unexpected _ _ (omega arith) named (sym (c .before .same-columns .ensures) ∙ c .if2 .left))
 
 pub read-names-spec : {M : Type 1} → statement M

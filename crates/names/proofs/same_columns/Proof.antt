@@ -17,12 +17,19 @@ as-often-requires-3 c κs = search needs
 returns : tie.Need-returns
 unfolding sameColumns
 returns c =
-    rw
-    (sym (c .before .before .before .before .as-often .ensures) ∙ c .before .before .before .if1 .taken, sym (c .before .before .as-often2 .ensures) ∙ c .before .if2 .taken, c .as-often3 .ensures)
+    rw (
+      sym (c .before .before .before .before .as-often .ensures) ∙ c .before .before .before .if1 .taken,
+      sym (c .before .before .as-often2 .ensures) ∙ c .before .if2 .taken,
+      c .as-often3 .ensures,
+    )
 
 returns-2 : tie.Need-returns-2
 unfolding sameColumns
-returns-2 c = rw (sym (c .before .before .before .as-often .ensures) ∙ c .before .before .if1 .taken, sym (c .before .as-often2 .ensures) ∙ c .if2 .left)
+returns-2 c =
+    rw (
+      sym (c .before .before .before .as-often .ensures) ∙ c .before .before .if1 .taken,
+      sym (c .before .as-often2 .ensures) ∙ c .if2 .left,
+    )
 
 returns-3 : tie.Need-returns-3
 unfolding sameColumns

@@ -9,7 +9,9 @@ use Rattle.programs.proofs.print.Lts as lts
 use Rattle.io.proofs.write_all.Reads as write-all-reads
 
 slice-aggregate-write-all : tie.Need-slice-aggregate-write-all
-slice-aggregate-write-all c = sym (length-take-le (c .before .before .before .args .n) (c .before .before .before .args .out .now) (c .before .if1 .taken))
+slice-aggregate-write-all c =
+    sym (length-take-le (c .before .before .before .args .n) (c .before .before .before .args .out .now)
+    (c .before .if1 .taken))
 
 write-all-requires : tie.Need-write-all-requires
 write-all-requires c κs = search needs

@@ -23,7 +23,12 @@ returns c = simp (sym (c .before .before .before .end .ensures .0), c .enum-told
 
 returns-2 : tie.Need-returns-2
 unfolding endAfter
-returns-2 c = simp (sym (c .before .before .before .before .before .end .ensures .0), c .before .before .outcome .given .1, c .next-line .ensures)
+returns-2 c =
+    simp (
+      sym (c .before .before .before .before .before .end .ensures .0),
+      c .before .before .outcome .given .1,
+      c .next-line .ensures,
+    )
 
 pub end-intake-spec : {M : Type 1} → statement M
 end-intake-spec =

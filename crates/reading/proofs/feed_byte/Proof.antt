@@ -23,7 +23,12 @@ same-length c = search needs
 
 returns-2 : tie.Need-returns-2
 unfolding byteAfter
-returns-2 c = simp (c .before .before .before .before .before .before .before .enum-told .given .1, eq-eqb _ _ (c .before .before .before .before .before .before .if1 .taken), c .before .before .line-end .ensures)
+returns-2 c =
+    simp (
+      c .before .before .before .before .before .before .before .enum-told .given .1,
+      eq-eqb _ _ (c .before .before .before .before .before .before .if1 .taken),
+      c .before .before .line-end .ensures,
+    )
 
 element-write-line : tie.Need-element-write-line
 element-write-line c = search needs
@@ -33,7 +38,12 @@ add-t15 c = search needs
 
 returns-3 : tie.Need-returns-3
 unfolding byteAfter keepByte
-returns-3 c = simp (c .before .before .before .enum-told .given .1, ne-eqb _ _ (c .before .before .if1 .left), lt-ltb _ _ (c .if2 .taken))
+returns-3 c =
+    simp (
+      c .before .before .before .enum-told .given .1,
+      ne-eqb _ _ (c .before .before .if1 .left),
+      lt-ltb _ _ (c .if2 .taken),
+    )
 
 long-line-requires : tie.Need-long-line-requires
 long-line-requires c κs = search needs
@@ -44,7 +54,11 @@ same-length-2 c = search needs
 returns-4 : tie.Need-returns-4
 unfolding byteAfter keepByte
 returns-4 c =
-    rw (c .before .before .before .before .before .before .before .enum-told .given .1, ne-eqb _ _ (c .before .before .before .before .before .before .if1 .left), le-ltb _ _ (c .before .before .before .before .if2 .left))
+    rw (
+      c .before .before .before .before .before .before .before .enum-told .given .1,
+      ne-eqb _ _ (c .before .before .before .before .before .before .if1 .left),
+      le-ltb _ _ (c .before .before .before .before .if2 .left),
+    )
     (c .before .before .long-line .ensures _)
 
 pub feed-byte-spec : {M : Type 1} → statement M

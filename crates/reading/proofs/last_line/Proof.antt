@@ -27,7 +27,12 @@ same-length c = search needs
 
 returns-3 : tie.Need-returns-3
 unfolding lastLine
-returns-3 c = simp (c .before .before .before .before .before .before .before .enum-told .given .1, ne-eqb _ _ (c .before .before .before .before .before .if1 .left), c .before .before .line-end .ensures)
+returns-3 c =
+    simp (
+      c .before .before .before .before .before .before .before .enum-told .given .1,
+      ne-eqb _ _ (c .before .before .before .before .before .if1 .left),
+      c .before .before .line-end .ensures,
+    )
 
 pub last-line-spec : {M : Type 1} → statement M
 last-line-spec =

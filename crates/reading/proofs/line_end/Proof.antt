@@ -9,7 +9,8 @@ use Rattle.reading.proofs.line_end.Statement.{statement}
 use Rattle.reading.proofs.line_end.Tie as tie
 
 slice-aggregate-hand-line : tie.Need-slice-aggregate-hand-line
-slice-aggregate-hand-line c = sym (length-take-le _ _ (omega (arith, c .before .if1 .taken, c .before .before .before .before .pre)))
+slice-aggregate-hand-line c =
+    sym (length-take-le _ _ (omega (arith, c .before .if1 .taken, c .before .before .before .before .pre)))
 
 hand-line-requires : tie.Need-hand-line-requires
 hand-line-requires c κs = search needs
@@ -19,7 +20,8 @@ same-length c = search needs
 
 returns : tie.Need-returns
 unfolding lineEnd
-returns c = rw (le-leb _ _ (c .before .before .before .before .before .if1 .taken)) (c .before .before .hand-line .ensures _)
+returns c =
+    rw (le-leb _ _ (c .before .before .before .before .before .if1 .taken)) (c .before .before .hand-line .ensures _)
 
 long-line-requires : tie.Need-long-line-requires
 long-line-requires c κs = search needs

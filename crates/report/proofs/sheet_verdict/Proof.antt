@@ -33,7 +33,13 @@ same-length-3 c = search needs
 
 returns : tie.Need-returns
 unfolding sizesVerdict lentWith
-returns c = (simp (sym ((after-label-of-at-match-keys1 (c .before)) .label .ensures .0), c .enum-told .given .1), (after-label-of-at-match-keys1 (c .before)) .label .ensures .1 .1)
+returns c = (
+  simp (
+    sym ((after-label-of-at-match-keys1 (c .before)) .label .ensures .0),
+    c .enum-told .given .1,
+  ),
+  (after-label-of-at-match-keys1 (c .before)) .label .ensures .1 .1,
+)
 
 same-length-4 : tie.Need-same-length-4
 same-length-4 c = search needs
@@ -46,7 +52,13 @@ same-length-6 c = search needs
 
 returns-2 : tie.Need-returns-2
 unfolding sizesVerdict lentWith
-returns-2 c = (simp (sym ((after-label-of-at-match-keys2 (c .before .before)) .label .ensures .0), c .before .outcome .given .1), (after-label-of-at-match-keys2 (c .before .before)) .label .ensures .1 .1)
+returns-2 c = (
+  simp (
+    sym ((after-label-of-at-match-keys2 (c .before .before)) .label .ensures .0),
+    c .before .outcome .given .1,
+  ),
+  (after-label-of-at-match-keys2 (c .before .before)) .label .ensures .1 .1,
+)
 
 pub sheet-verdict-spec : {M : Type 1} → statement M
 sheet-verdict-spec =

@@ -56,7 +56,9 @@ same-length-3 c = search needs
 
 returns-5 : tie.Need-returns-5
 unfolding endedSizes
-returns-5 c = rw ((after-stage (c .before .before .before .before .before .before)) .stage .given .1) (c .before .before .before .before .before .before .sheet-verdict .ensures)
+returns-5 c =
+    rw ((after-stage (c .before .before .before .before .before .before)) .stage .given .1)
+    (c .before .before .before .before .before .before .sheet-verdict .ensures)
 
 pub stage-verdict-spec : {M : Type 1} → statement M
 stage-verdict-spec =

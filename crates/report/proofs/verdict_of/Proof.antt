@@ -36,7 +36,8 @@ returns-2 : tie.Need-returns-2
 unfolding verdictOf readLent intakeLent
 returns-2 c =
     let e = c .before .before .before .before .before .before .stage-verdict .ensures in
-    rw ((after-read2 (c .before .before .before .before .before .before)) .read2 .given .1) (e .0, (ap verdictValues (e .0), e .1))
+    rw ((after-read2 (c .before .before .before .before .before .before)) .read2 .given .1)
+    (e .0, (ap verdictValues (e .0), e .1))
 
 pub verdict-of-spec : {M : Type 1} → statement M
 verdict-of-spec =

@@ -21,14 +21,16 @@ same-length c = search needs
 
 returns : tie.Need-returns
 unfolding verdictInto
-returns c = rw (c .before .before .before .before .before .verdict .given .1) (c .before .before .write-refusal .ensures .0)
+returns c =
+    rw (c .before .before .before .before .before .verdict .given .1) (c .before .before .write-refusal .ensures .0)
 
 same-length-2 : tie.Need-same-length-2
 same-length-2 c = search needs
 
 returns-2 : tie.Need-returns-2
 unfolding verdictInto
-returns-2 c = rw (c .before .before .before .before .before .verdict2 .given .1) (c .before .before .write-listing .ensures .0)
+returns-2 c =
+    rw (c .before .before .before .before .before .verdict2 .given .1) (c .before .before .write-listing .ensures .0)
 
 pub write-verdict-spec : {M : Type 1} → statement M
 write-verdict-spec =

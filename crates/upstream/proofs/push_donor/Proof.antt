@@ -33,14 +33,23 @@ enum-told : tie.Need-enum-told
 enum-told c = search needs
 
 returns : tie.Need-returns
-returns c = donors-off (c .before .before .before .before .before .pre .0) _ (sym (c .before .before .neighbour-against .ensures) ∙ c .enum-told .given .1)
+returns c =
+    donors-off (c .before .before .before .before .before .pre .0) _
+    (sym (c .before .before .neighbour-against .ensures) ∙ c .enum-told .given .1)
 
 -- the donor, which lies on the sheet
-found : (c : tie.After-known-told) → let a = c .before .before .before .before .before .before .args in neighbourAgainst (grid (a .rows) (a .cols) (a .dirs .now)) (a .row) (a .col) (a .k) ≡ At (c .before .donor .given .0 .0)
+found : (c : tie.After-known-told)
+    → let a =
+    c .before .before .before .before .before .before .args in neighbourAgainst
+    (grid (a .rows) (a .cols) (a .dirs .now)) (a .row) (a .col) (a .k) ≡ At (c .before .donor .given .0 .0)
 found c = sym (c .before .before .before .neighbour-against .ensures) ∙ c .before .donor .given .1
 
-donor-on : (c : tie.After-known-told) → let a = c .before .before .before .before .before .before .args in c .before .donor .given .0 .0 < a .rows * a .cols
-donor-on c = let a = c .before .before .before .before .before .before .args in neighbour-lt (grid (a .rows) (a .cols) (a .dirs .now)) (a .row) (a .col) (a .k) (found c)
+donor-on : (c : tie.After-known-told)
+    → let a =
+    c .before .before .before .before .before .before .args in c .before .donor .given .0 .0 < a .rows * a .cols
+donor-on c =
+    let a = c .before .before .before .before .before .before .args in
+    neighbour-lt (grid (a .rows) (a .cols) (a .dirs .now)) (a .row) (a .col) (a .k) (found c)
 
 -- the cell, which lies on the sheet
 on-sheet : (c : tie.Start) → c .args .row * c .args .cols + c .args .col < c .args .rows * c .args .cols
@@ -59,32 +68,68 @@ mul-if1-2 : tie.Need-mul-if1-2
 mul-if1-2 c = omega (arith, donor-on c, cells-fit (c .before .before .before .before .before .before))
 
 slice-read-if1 : tie.Need-slice-read-if1
-slice-read-if1 c = omega (arith, donor-on (c .before), c .before .before .before .before .before .before .before .pre .0 .upstream .queue .room)
+slice-read-if1 c =
+    omega (
+      arith,
+      donor-on (c .before),
+      c .before .before .before .before .before .before .before .pre .0 .upstream .queue .room,
+    )
 
 mul-push : tie.Need-mul-push
-mul-push c = omega (arith, on-sheet ((start (after-neighbour-against (c .before)))), cells-fit ((start (after-neighbour-against (c .before)))))
+mul-push c =
+    omega (
+      arith,
+      on-sheet ((start (after-neighbour-against (c .before)))),
+      cells-fit ((start (after-neighbour-against (c .before)))),
+    )
 
 add-push : tie.Need-add-push
-add-push c = omega (arith, on-sheet ((start (after-neighbour-against (c .before)))), cells-fit ((start (after-neighbour-against (c .before)))))
+add-push c =
+    omega (
+      arith,
+      on-sheet ((start (after-neighbour-against (c .before)))),
+      cells-fit ((start (after-neighbour-against (c .before)))),
+    )
 
 add-push-2 : tie.Need-add-push-2
-add-push-2 c = omega (arith, on-sheet ((start (after-neighbour-against (c .before)))), cells-fit ((start (after-neighbour-against (c .before)))))
+add-push-2 c =
+    omega (
+      arith,
+      on-sheet ((start (after-neighbour-against (c .before)))),
+      cells-fit ((start (after-neighbour-against (c .before)))),
+    )
 
 push-requires : tie.Need-push-requires
 push-requires c κs =
     let q = (start (after-neighbour-against (c .before))) .pre .0 .upstream .queue in
-    let on = donor-on (c .before .before .before) in
-    (q .room, cells-fit ((start (after-neighbour-against (c .before)))), end-on q _ on (c .before .if1 .taken), on, omega (arith, on-sheet ((start (after-neighbour-against (c .before))))))
+    let on = donor-on (c .before .before .before) in (
+      q .room,
+      cells-fit ((start (after-neighbour-against (c .before)))),
+      end-on q _ on (c .before .if1 .taken),
+      on,
+      omega (
+        arith,
+        on-sheet ((start (after-neighbour-against (c .before)))),
+      ),
+    )
 
 same-length : tie.Need-same-length
 same-length c = search needs
 
 returns-2 : tie.Need-returns-2
 returns-2 c =
-    rw (c .before .before .push .ensures .0, c .before .before .push .ensures .1) (donors-new ((start (after-neighbour-against (c .before .before .before .before))) .pre .0) _ (found (c .before .before .before .before .before .before)) ((start (after-neighbour-against (c .before .before .before .before))) .pre .1) (c .before .before .before .before .if1 .taken))
+    rw (
+      c .before .before .push .ensures .0,
+      c .before .before .push .ensures .1,
+    ) (donors-new ((start (after-neighbour-against (c .before .before .before .before))) .pre .0) _
+    (found (c .before .before .before .before .before .before))
+    ((start (after-neighbour-against (c .before .before .before .before))) .pre .1)
+    (c .before .before .before .before .if1 .taken))
 
 returns-3 : tie.Need-returns-3
-returns-3 c = donors-old ((start (c .before .before .before .before .before)) .pre .0) _ (found (c .before .before)) (omega (arith, c .if1 .left))
+returns-3 c =
+    donors-old ((start (c .before .before .before .before .before)) .pre .0) _ (found (c .before .before))
+    (omega (arith, c .if1 .left))
 
 pub push-donor-spec : {M : Type 1} → statement M
 push-donor-spec =

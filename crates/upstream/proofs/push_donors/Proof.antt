@@ -19,10 +19,14 @@ abbrev μ-loop : tie.MeasureT-loop
 μ-loop dirs rows cols work₀ end cell row col last₀ k₀ work last k = 8 - k
 
 -- the column is what the division leaves
-col-is : (c : tie.Start Inv-loop μ-loop) → let a = c .args in a .cell - (a .cell / a .cols) * a .cols ≡ a .cell % a .cols
+col-is : (c : tie.Start Inv-loop μ-loop)
+    → let a = c .args in a .cell - (a .cell / a .cols) * a .cols ≡ a .cell % a .cols
 col-is c = omega (arith, div-add-mod' (c .args .cell) (c .args .cols))
 
-ready : (c : tie.Start Inv-loop μ-loop) → let a = c .args in Ready (grid (a .rows) (a .cols) (a .dirs .now)) (a .work .now) (a .end) (a .cell / a .cols) (a .cell - (a .cell / a .cols) * a .cols)
+ready : (c : tie.Start Inv-loop μ-loop)
+    → let a =
+    c .args in Ready (grid (a .rows) (a .cols) (a .dirs .now)) (a .work .now) (a .end) (a .cell / a .cols)
+    (a .cell - (a .cell / a .cols) * a .cols)
 ready c = rw (col-is c) (c .pre .1)
 
 div-row : tie.Need-div-row Inv-loop μ-loop
@@ -38,7 +42,10 @@ loop-holds : tie.Need-loop-holds Inv-loop μ-loop
 loop-holds c = (omega arith, refl, donors-start (ready (c .before .before)))
 
 push-donor-requires : tie.Need-push-donor-requires Inv-loop μ-loop
-push-donor-requires c κs = (ready-more (ready (c .before .before .before .before .before)) (c .before .before .loop .inv .2), c .before .loop-test .taken)
+push-donor-requires c κs = (
+  ready-more (ready (c .before .before .before .before .before)) (c .before .before .loop .inv .2),
+  c .before .loop-test .taken,
+)
 
 add-k : tie.Need-add-k Inv-loop μ-loop
 add-k c = search needs
@@ -48,8 +55,11 @@ loop-less c = search needs
 
 loop-again : tie.Need-loop-again Inv-loop μ-loop
 loop-again c =
-    let l = c .before .before .before .before .before .loop in
-    (omega arith, c .before .before .push-donor .kept .1 .1 .1 .0 ∙ l .inv .1, donors-more (l .inv .2) (c .before .before .push-donor .ensures))
+    let l = c .before .before .before .before .before .loop in (
+      omega arith,
+      c .before .before .push-donor .kept .1 .1 .1 .0 ∙ l .inv .1,
+      donors-more (l .inv .2) (c .before .before .push-donor .ensures),
+    )
 
 same-length : tie.Need-same-length Inv-loop μ-loop
 same-length c = c .before .loop .inv .1
@@ -59,7 +69,11 @@ returns c =
     let a = c .before .before .before .before .args in
     let r = ready (c .before .before .before .before) in
     let e : c .before .loop .k ≡ 8 = omega arith in
-    let is : (a .cell / a .cols) * a .cols + (a .cell - (a .cell / a .cols) * a .cols) ≡ a .cell = omega (arith, col-is (c .before .before .before .before), div-add-mod' (a .cell) (a .cols)) in
+    let is : (a .cell / a .cols) * a .cols + (a .cell - (a .cell / a .cols) * a .cols) ≡ a .cell = omega (
+      arith,
+      col-is (c .before .before .before .before),
+      div-add-mod' (a .cell) (a .cols),
+    ) in
     all-pushed (c .before .before .before .before .pre .0) (r .on) is (rw e at (c .before .loop .inv .2))
 
 pub push-donors-spec : {M : Type 1} → statement M

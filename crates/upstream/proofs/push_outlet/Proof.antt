@@ -31,19 +31,37 @@ mul-push : tie.Need-mul-push
 mul-push c = search needs
 
 mul-push-2 : tie.Need-mul-push-2
-mul-push-2 c = omega (arith, on-sheet (c .before .before .before .before .before), cells-fit (c .before .before .before .before .before))
+mul-push-2 c =
+    omega (
+      arith,
+      on-sheet (c .before .before .before .before .before),
+      cells-fit (c .before .before .before .before .before),
+    )
 
 add-push : tie.Need-add-push
-add-push c = omega (arith, on-sheet (c .before .before .before .before .before), cells-fit (c .before .before .before .before .before))
+add-push c =
+    omega (
+      arith,
+      on-sheet (c .before .before .before .before .before),
+      cells-fit (c .before .before .before .before .before),
+    )
 
-is : (c : tie.Then1) → let a = c .before .before .before .before .args in isOutlet (grid (a .rows) (a .cols) (a .dirs .now)) (cell (c .before .before .before .before)) ≡ true
+is : (c : tie.Then1)
+    → let a =
+    c .before .before .before .before .args in isOutlet (grid (a .rows) (a .cols) (a .dirs .now))
+    (cell (c .before .before .before .before)) ≡ true
 is c = sym (c .before .is-outlet .ensures) ∙ c .if1 .taken
 
 push-requires : tie.Need-push-requires
 push-requires c κs =
     let s = c .before .before .before .before .before .pre .2 in
-    let on = on-sheet (c .before .before .before .before .before) in
-    (s .upstream .queue .room, cells-fit (c .before .before .before .before .before), end-on (s .upstream .queue) _ on (seed-free _ s on (is (c .before))), on, omega arith)
+    let on = on-sheet (c .before .before .before .before .before) in (
+      s .upstream .queue .room,
+      cells-fit (c .before .before .before .before .before),
+      end-on (s .upstream .queue) _ on (seed-free _ s on (is (c .before))),
+      on,
+      omega arith,
+    )
 
 same-length : tie.Need-same-length
 same-length c = search needs
@@ -52,10 +70,19 @@ returns : tie.Need-returns
 returns c =
     let s = (start (c .before .before .before .before .before)) .pre .2 in
     let on = on-sheet ((start (c .before .before .before .before .before))) in
-    rw (c .before .before .push .ensures .0, c .before .before .push .ensures .1) (seeded-push _ s on (is (c .before .before .before .before)), seed-grown _ s on (is (c .before .before .before .before)) .kept)
+    rw (
+      c .before .before .push .ensures .0,
+      c .before .before .push .ensures .1,
+    ) (
+      seeded-push _ s on (is (c .before .before .before .before)),
+      seed-grown _ s on (is (c .before .before .before .before)) .kept,
+    )
 
 returns-2 : tie.Need-returns-2
-returns-2 c = (seeded-none _ (c .before .before .before .before .pre .2) (sym (c .before .is-outlet .ensures) ∙ c .if1 .left), refl)
+returns-2 c = (
+  seeded-none _ (c .before .before .before .before .pre .2) (sym (c .before .is-outlet .ensures) ∙ c .if1 .left),
+  refl,
+)
 
 pub push-outlet-spec : {M : Type 1} → statement M
 push-outlet-spec =

@@ -13,7 +13,8 @@ use Rattle.upstream.proofs.seed.Tie as tie
 
 abbrev Inv-loop : tie.InvT-loop
 Inv-loop dirs rows cols work₀ end₀ row₀ work end row =
-    (row ≤ rows) × (length work ≡ length work₀) × Seeded (grid rows cols dirs) work end (row * cols) × KeptFrom (sizesPart * (rows * cols)) work₀ work
+    (row ≤ rows) × (length work ≡ length work₀) × Seeded (grid rows cols dirs) work end (row * cols) × KeptFrom
+    (sizesPart * (rows * cols)) work₀ work
 
 abbrev μ-loop : tie.MeasureT-loop
 μ-loop dirs rows cols work₀ end₀ row₀ work end row = rows - row
@@ -25,7 +26,8 @@ loop-holds c =
     (omega arith, refl, rw e (seeded-start _ (c .before .before .pre .1)), refl)
 
 seed-row-requires : tie.Need-seed-row-requires Inv-loop μ-loop
-seed-row-requires c κs = (c .before .before .before .before .before .pre .0, c .before .loop-test .taken, c .before .before .loop .inv .2)
+seed-row-requires c κs =
+    (c .before .before .before .before .before .pre .0, c .before .loop-test .taken, c .before .before .loop .inv .2)
 
 add-row : tie.Need-add-row Inv-loop μ-loop
 add-row c = search needs
@@ -35,8 +37,12 @@ loop-less c = search needs
 
 loop-again : tie.Need-loop-again Inv-loop μ-loop
 loop-again c =
-    let l = c .before .before .before .before .before .loop in
-    (omega arith, c .before .before .seed-row .kept .1 .1 .1 .0 ∙ l .inv .1, c .before .before .seed-row .ensures .0, c .before .before .seed-row .ensures .1 ∙ l .inv .3)
+    let l = c .before .before .before .before .before .loop in (
+      omega arith,
+      c .before .before .seed-row .kept .1 .1 .1 .0 ∙ l .inv .1,
+      c .before .before .seed-row .ensures .0,
+      c .before .before .seed-row .ensures .1 ∙ l .inv .3,
+    )
 
 same-length : tie.Need-same-length Inv-loop μ-loop
 same-length c = c .before .loop .inv .1

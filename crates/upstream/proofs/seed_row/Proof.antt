@@ -13,7 +13,8 @@ use Rattle.upstream.proofs.seed_row.Tie as tie
 
 abbrev Inv-loop : tie.InvT-loop
 Inv-loop dirs rows cols work₀ end row last₀ col₀ work last col =
-    (col ≤ cols) × (length work ≡ length work₀) × Seeded (grid rows cols dirs) work last (row * cols + col) × KeptFrom (sizesPart * (rows * cols)) work₀ work
+    (col ≤ cols) × (length work ≡ length work₀) × Seeded (grid rows cols dirs) work last (row * cols + col) × KeptFrom
+    (sizesPart * (rows * cols)) work₀ work
 
 abbrev μ-loop : tie.MeasureT-loop
 μ-loop dirs rows cols work₀ end row last₀ col₀ work last col = cols - col
@@ -30,8 +31,11 @@ loop-holds c =
 
 push-outlet-requires : tie.Need-push-outlet-requires Inv-loop μ-loop
 push-outlet-requires c κs =
-    let p = c .before .before .before .before .before .pre in
-    (p .0, record { rows-most = p .0 .rows-most; cols-most = p .0 .cols-most; row-on = p .1; col-on = c .before .loop-test .taken }, c .before .before .loop .inv .2)
+    let p = c .before .before .before .before .before .pre in (
+      p .0,
+      record { rows-most = p .0 .rows-most; cols-most = p .0 .cols-most; row-on = p .1; col-on = c .before .loop-test .taken },
+      c .before .before .loop .inv .2,
+    )
 
 add-col : tie.Need-add-col Inv-loop μ-loop
 add-col c = search needs
@@ -43,8 +47,12 @@ loop-again : tie.Need-loop-again Inv-loop μ-loop
 loop-again c =
     let a = (start (c .before .before .before .before .before)) .args in
     let l = c .before .before .before .before .before .loop in
-    let e : a .row * a .cols + (l .col + 1) ≡ a .row * a .cols + l .col + 1 = omega arith in
-    (omega arith, c .before .before .push-outlet .kept .1 .1 .1 .0 ∙ l .inv .1, rw e (c .before .before .push-outlet .ensures .0), c .before .before .push-outlet .ensures .1 ∙ l .inv .3)
+    let e : a .row * a .cols + (l .col + 1) ≡ a .row * a .cols + l .col + 1 = omega arith in (
+      omega arith,
+      c .before .before .push-outlet .kept .1 .1 .1 .0 ∙ l .inv .1,
+      rw e (c .before .before .push-outlet .ensures .0),
+      c .before .before .push-outlet .ensures .1 ∙ l .inv .3,
+    )
 
 same-length : tie.Need-same-length Inv-loop μ-loop
 same-length c = c .before .loop .inv .1

@@ -27,17 +27,25 @@ abbrev after-search : tie.After-first-target2 → tie.After-search
 after-search c = c .before .before .before .before .before
 
 -- what each search found, in the definition's terms
-no-bad : (c : tie.After-enum-told) → let G = sheetOf (c .before .before .before .before .before) in first (badCode G) (cells G) ≡ Nothing
+no-bad : (c : tie.After-enum-told)
+    → let G = sheetOf (c .before .before .before .before .before) in first (badCode G) (cells G) ≡ Nothing
 no-bad c = sym (c .before .before .first-bad-code .ensures) ∙ c .enum-told .given .1
 
-in-cells : (c : tie.After-first-target) → let G = sheetOf ((start (c .before .before .before))) in c .first-target .result ≡ first (inside G) (cells G)
+in-cells : (c : tie.After-first-target)
+    → let G = sheetOf ((start (c .before .before .before))) in c .first-target .result ≡ first (inside G) (cells G)
 in-cells c = c .first-target .ensures ∙ inside-is _ _
 
-some : (c : tie.After-enum-told2) → let G = sheetOf ((start (after-enum-told c))) in first (inside G) (cells G) ≡ At (c .enum-told2 .given .0 .0)
+some : (c : tie.After-enum-told2)
+    → let G = sheetOf ((start (after-enum-told c))) in first (inside G) (cells G) ≡ At (c .enum-told2 .given .0 .0)
 some c = sym (in-cells (c .before .before)) ∙ c .enum-told2 .given .1
 
-unreached : (c : tie.After-first-target2) → let G = sheetOf ((start (after-enum-told (after-enum-told2 (after-search c))))) in c .first-target2 .result ≡ first (undrained G) (cells G)
-unreached c = c .first-target2 .ensures ∙ undrained-is _ _ (c .before .before .before .before .before .search .ensures .0) (ranks-part _ _)
+unreached : (c : tie.After-first-target2)
+    → let G =
+    sheetOf ((start (after-enum-told (after-enum-told2 (after-search c))))) in c .first-target2 .result ≡ first
+    (undrained G) (cells G)
+unreached c =
+    c .first-target2 .ensures ∙ undrained-is _ _ (c .before .before .before .before .before .search .ensures .0)
+    (ranks-part _ _)
 
 first-bad-code-requires : tie.Need-first-bad-code-requires
 first-bad-code-requires c κs = search needs
@@ -49,7 +57,9 @@ refused-requires : tie.Need-refused-requires
 refused-requires c κs = search needs
 
 returns : tie.Need-returns
-returns c = inspected-before (c .refused .ensures) (omega arith) (refused-4 _ (sym (c .before .before .before .before .first-bad-code .ensures) ∙ c .before .before .c .given .1))
+returns c =
+    inspected-before (c .refused .ensures) (omega arith)
+    (refused-4 _ (sym (c .before .before .before .before .first-bad-code .ensures) ∙ c .before .before .c .given .1))
 
 enum-told : tie.Need-enum-told
 enum-told c = search needs
@@ -91,10 +101,15 @@ same-length : tie.Need-same-length
 same-length c = search needs
 
 returns-2 : tie.Need-returns-2
-returns-2 c = inspected-before (c .refused2 .ensures) (omega arith) (refused-5 _ (no-bad (c .before .before .before .before .before .before)) (sym (in-cells (c .before .before .before)) ∙ c .before .enum-told3 .given .1))
+returns-2 c =
+    inspected-before (c .refused2 .ensures) (omega arith)
+    (refused-5 _ (no-bad (c .before .before .before .before .before .before))
+    (sym (in-cells (c .before .before .before)) ∙ c .before .enum-told3 .given .1))
 
 search-requires : tie.Need-search-requires
-search-requires c κs = let p = (start (after-enum-told (c .before))) .pre in (p .0, coded-of _ (no-bad (c .before .before .before .before .before .before)), p .1)
+search-requires c κs =
+    let p = (start (after-enum-told (c .before))) .pre in
+    (p .0, coded-of _ (no-bad (c .before .before .before .before .before .before)), p .1)
 
 mul-first-target-2 : tie.Need-mul-first-target-2
 mul-first-target-2 c = search needs
@@ -135,8 +150,12 @@ same-length-2 c = search needs
 returns-3 : tie.Need-returns-3
 returns-3 c =
     let search = (after-search (c .before .before .before .before)) .search in
-    inspected (no-bad ((after-enum-told (after-enum-told2 (after-search (c .before .before .before .before)))))) (some ((after-enum-told2 (after-search (c .before .before .before .before))))) (search .ensures .0)
-    (rw (unreached (c .before .before .before .before), c .before .second-outlet .ensures) at (c .refused-by .ensures)) (search .ensures .1)
+    inspected (no-bad ((after-enum-told (after-enum-told2 (after-search (c .before .before .before .before))))))
+    (some ((after-enum-told2 (after-search (c .before .before .before .before))))) (search .ensures .0)
+    (rw (
+      unreached (c .before .before .before .before),
+      c .before .second-outlet .ensures,
+    ) at (c .refused-by .ensures)) (search .ensures .1)
 
 pub inspect-spec : {M : Type 1} → statement M
 inspect-spec =

@@ -21,10 +21,12 @@ shared-slice-read-receiver : tie.Need-shared-slice-read-receiver
 shared-slice-read-receiver c = search needs
 
 cast-receiver : tie.Need-cast-receiver
-cast-receiver c = omega (arith, c .shared-slice-known .given (receiversPart * c .before .args .n + c .before .args .cell))
+cast-receiver c =
+    omega (arith, c .shared-slice-known .given (receiversPart * c .before .args .n + c .before .args .cell))
 
 abbrev receiver : tie.Then1 → ℕ
-receiver c = receiverOf (c .before .before .args .n) (c .before .before .args .work .now) (c .before .before .args .cell)
+receiver c =
+    receiverOf (c .before .before .args .n) (c .before .before .args .work .now) (c .before .before .args .cell)
 
 -- the receiver's number is one more than its cell
 is : (c : tie.Then1) → receiver c ≡ receiver c - 1 + 1
@@ -49,7 +51,11 @@ slice-read-totals-2 : tie.Need-slice-read-totals-2
 slice-read-totals-2 c = search needs
 
 add-totals : tie.Need-add-totals
-add-totals c = omega (arith, c .before .before .before .before .pre .fits (receiver (c .before .before) - 1) (is (c .before .before)))
+add-totals c =
+    omega (
+      arith,
+      c .before .before .before .before .pre .fits (receiver (c .before .before) - 1) (is (c .before .before)),
+    )
 
 mul-totals-3 : tie.Need-mul-totals-3
 mul-totals-3 c = omega (arith, on (c .before .before), c .before .before .before .before .pre .room)

@@ -20,7 +20,10 @@ own-counts-requires : tie.Need-own-counts-requires
 own-counts-requires c κs = search needs
 
 -- the own counts
-own : (c : tie.After-own-counts) → let a = c .before .before .before .before .before .args in c .own-counts .last .1 .1 .0 ≡ filled (ownValues (a .dirs .now) ones) (a .rows * a .cols) (a .areas .now)
+own : (c : tie.After-own-counts)
+    → let a =
+    c .before .before .before .before .before .args in c .own-counts .last .1 .1 .0 ≡ filled
+    (ownValues (a .dirs .now) ones) (a .rows * a .cols) (a .areas .now)
 own c = c .own-counts .ensures ∙ sym (filled-written _ _ _)
 
 gather-requires : tie.Need-gather-requires
@@ -32,7 +35,9 @@ same-length : tie.Need-same-length
 same-length c = search needs
 
 returns : tie.Need-returns
-returns c S e = (rw (own (c .before .before .before .before .before .before)) at (c .before .before .gather .ensures)) ∙ areas-written ((start (c .before .before .before .before .before .before)) .pre .1) _ S e
+returns c S e =
+    (rw (own (c .before .before .before .before .before .before)) at (c .before .before .gather .ensures))
+    ∙ areas-written ((start (c .before .before .before .before .before .before)) .pre .1) _ S e
 
 pub areas-spec : {M : Type 1} → statement M
 areas-spec = tie.close (tie.spec mul-n own-counts-requires gather-requires same-length returns)

@@ -20,7 +20,9 @@ loop-holds : tie.Need-loop-holds Inv-loop μ-loop
 loop-holds c = (omega arith, filled-none _ _)
 
 long : (c : tie.At-loop Inv-loop μ-loop) → length (c .loop .to) ≡ length (c .before .args .to .now)
-long c = ap length (c .loop .inv .1) ∙ filled-long (valueAt (c .before .args .from .now)) (c .loop .i) (c .before .args .to .now) (omega arith)
+long c =
+    ap length (c .loop .inv .1) ∙ filled-long (valueAt (c .before .args .from .now)) (c .loop .i)
+    (c .before .args .to .now) (omega arith)
 
 mul-to : tie.Need-mul-to Inv-loop μ-loop
 mul-to c = omega arith
@@ -53,7 +55,8 @@ returns : tie.Need-returns Inv-loop μ-loop
 returns c =
     let a = c .before .before .args in
     let e : c .before .loop .i ≡ a .n = omega arith in
-    (rw e at (c .before .loop .inv .1)) ∙ ap (λ (l : List ℕ). l ++ drop (a .n) (a .to .now)) (list-take (a .n) (a .from .now) (c .before .before .pre .0))
+    (rw e at (c .before .loop .inv .1)) ∙ ap (λ (l : List ℕ). l ++ drop (a .n) (a .to .now))
+    (list-take (a .n) (a .from .now) (c .before .before .pre .0))
 
 pub copy-spec : {M : Type 1} → statement M
 copy-spec =

@@ -24,32 +24,55 @@ loop-holds c = (omega arith, gathered-start (c .before .before .pre))
 on : (c : tie.In-loop Inv-loop μ-loop) → c .before .loop .i - 1 < c .before .before .before .before .args .queued
 on c = omega arith
 
-gathered : (c : tie.In-loop Inv-loop μ-loop) → let a = c .before .before .before .before .args in Gathered (a .n) (a .work .now) (c .before .loop .i - 1 + 1) (a .totals .now) (c .before .loop .totals)
+gathered : (c : tie.In-loop Inv-loop μ-loop)
+    → let a =
+    c .before .before .before .before .args in Gathered (a .n) (a .work .now) (c .before .loop .i - 1 + 1)
+    (a .totals .now) (c .before .loop .totals)
 gathered c =
     let a = c .before .before .before .before .args in
     let e : c .before .loop .i ≡ c .before .loop .i - 1 + 1 = omega arith in
-    subst (λ (i : ℕ). Gathered (a .n) (a .work .now) i (a .totals .now) (c .before .loop .totals)) e (c .before .loop .inv .1)
+    subst (λ (i : ℕ). Gathered (a .n) (a .work .now) i (a .totals .now) (c .before .loop .totals)) e
+    (c .before .loop .inv .1)
 
 sub-i : tie.Need-sub-i Inv-loop μ-loop
 sub-i c = omega arith
 
 mul-add-to-receiver : tie.Need-mul-add-to-receiver Inv-loop μ-loop
-mul-add-to-receiver c = omega (arith, on c, queued-most (c .before .before .before .before .pre .queue), c .before .before .before .before .pre .queue .room)
+mul-add-to-receiver c =
+    omega (
+      arith,
+      on c,
+      queued-most (c .before .before .before .before .pre .queue),
+      c .before .before .before .before .pre .queue .room,
+    )
 
 shared-slice-read-add-to-receiver : tie.Need-shared-slice-read-add-to-receiver Inv-loop μ-loop
-shared-slice-read-add-to-receiver c = omega (arith, on (c .before), queued-most (c .before .before .before .before .before .pre .queue), c .before .before .before .before .before .pre .queue .room)
+shared-slice-read-add-to-receiver c =
+    omega (
+      arith,
+      on (c .before),
+      queued-most (c .before .before .before .before .before .pre .queue),
+      c .before .before .before .before .before .pre .queue .room,
+    )
 
 cast-add-to-receiver : tie.Need-cast-add-to-receiver Inv-loop μ-loop
 cast-add-to-receiver c = omega (arith, c .shared-slice-known2 .given (c .before .before .loop .i - 1))
 
 add-to-receiver-requires : tie.Need-add-to-receiver-requires Inv-loop μ-loop
-add-to-receiver-requires c κs = adds (c .before .before .before .before .before .before .pre) (on (c .before .before)) (gathered (c .before .before))
+add-to-receiver-requires c κs =
+    adds (c .before .before .before .before .before .before .pre) (on (c .before .before))
+    (gathered (c .before .before))
 
 loop-less : tie.Need-loop-less Inv-loop μ-loop
 loop-less c = omega arith
 
 loop-again : tie.Need-loop-again Inv-loop μ-loop
-loop-again c = (omega arith, rw (c .before .before .add-to-receiver .ensures) (gathered-more ((start (c .before .before .before .before .before .before)) .pre) (on (c .before .before .before .before .before)) (gathered (c .before .before .before .before .before))))
+loop-again c = (
+  omega arith,
+  rw (c .before .before .add-to-receiver .ensures)
+      (gathered-more ((start (c .before .before .before .before .before .before)) .pre)
+      (on (c .before .before .before .before .before)) (gathered (c .before .before .before .before .before))),
+)
 
 same-length : tie.Need-same-length Inv-loop μ-loop
 same-length c = c .before .loop .inv .1 .long

@@ -23,8 +23,15 @@ sizes-requires c κs = search needs
 areas-requires : tie.Need-areas-requires
 areas-requires c κs =
     let p = (start (c .before .before .before .before .before .before)) .pre in
-    let e = c .before .before .before .before .before .before .sizes .ensures in
-    (p .0, rw (e .0) (drained-same (with-sizes-same _ _ _ (p .1 .searched .upstream .queue .room)) (p .1)), omega (arith, p .2, c .before .before .before .before .before .before .sizes .kept .1 .1 .1 .1 .1 .0))
+    let e = c .before .before .before .before .before .before .sizes .ensures in (
+      p .0,
+      rw (e .0) (drained-same (with-sizes-same _ _ _ (p .1 .searched .upstream .queue .room)) (p .1)),
+      omega (
+        arith,
+        p .2,
+        c .before .before .before .before .before .before .sizes .kept .1 .1 .1 .1 .1 .0,
+      ),
+    )
 
 same-length : tie.Need-same-length
 same-length c = search needs
@@ -36,8 +43,12 @@ returns : tie.Need-returns
 returns c =
     let a = (start (after-sizes (c .before .before))) .args in
     let G = grid (a .rows) (a .cols) (a .dirs .now) in
-    let e = (after-sizes (c .before .before)) .sizes .ensures in
-    (e .0, λ S s. (rw (e .1) at (c .before .before .areas .ensures S s)) ∙ written-over (areasOf S) (sizesOf G) (a .lent-areas .now) (sizes-long G ∙ ap cells (sym s) ∙ sym (areas-long S)))
+    let e = (after-sizes (c .before .before)) .sizes .ensures in (
+      e .0,
+      λ S s. (rw (e .1) at (c .before .before .areas .ensures S s))
+          ∙ written-over (areasOf S) (sizesOf G) (a .lent-areas .now)
+          (sizes-long G ∙ ap cells (sym s) ∙ sym (areas-long S)),
+    )
 
 pub measure-spec : {M : Type 1} → statement M
 measure-spec = tie.close (tie.spec sizes-requires areas-requires same-length same-length-2 returns)

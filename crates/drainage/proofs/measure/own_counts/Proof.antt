@@ -19,8 +19,11 @@ abbrev μ-loop : tie.MeasureT-loop
 loop-holds : tie.Need-loop-holds Inv-loop μ-loop
 loop-holds c = (omega arith, filled-none _ _)
 
-long : (c : tie.At-loop Inv-loop μ-loop) → length (c .loop .totals) ≡ length (c .before .before .before .args .totals .now)
-long c = ap length (c .loop .inv .1) ∙ filled-long (ownValues (c .before .before .before .args .dirs .now) ones) (c .loop .c) (c .before .before .before .args .totals .now) (omega arith)
+long : (c : tie.At-loop Inv-loop μ-loop)
+    → length (c .loop .totals) ≡ length (c .before .before .before .args .totals .now)
+long c =
+    ap length (c .loop .inv .1) ∙ filled-long (ownValues (c .before .before .before .args .dirs .now) ones)
+    (c .loop .c) (c .before .before .before .args .totals .now) (omega arith)
 
 shared-slice-read-own-count : tie.Need-shared-slice-read-own-count Inv-loop μ-loop
 shared-slice-read-own-count c = omega arith
@@ -42,8 +45,11 @@ loop-less c = search needs
 
 loop-again : tie.Need-loop-again Inv-loop μ-loop
 loop-again c =
-    let l = c .before .before .before .loop in
-    (omega arith, ap (λ (t : List ℕ). set t (l .c) (c .own-count .result)) (l .inv .1) ∙ filled-more _ (l .c) _ (c .own-count .result) (omega arith) (c .own-count .ensures))
+    let l = c .before .before .before .loop in (
+      omega arith,
+      ap (λ (t : List ℕ). set t (l .c) (c .own-count .result)) (l .inv .1)
+          ∙ filled-more _ (l .c) _ (c .own-count .result) (omega arith) (c .own-count .ensures),
+    )
 
 same-length : tie.Need-same-length Inv-loop μ-loop
 same-length c = long (c .before)

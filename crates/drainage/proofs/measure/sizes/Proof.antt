@@ -28,17 +28,26 @@ own-counts-requires : tie.Need-own-counts-requires
 own-counts-requires c κs = search needs
 
 -- the own counts
-own : (c : tie.After-own-counts) → let a = c .before .before .before .before .before .args in c .own-counts .last .1 .1 .0 ≡ filled (ownValues (a .dirs .now) ones) (a .rows * a .cols) (a .areas .now)
+own : (c : tie.After-own-counts)
+    → let a =
+    c .before .before .before .before .before .args in c .own-counts .last .1 .1 .0 ≡ filled
+    (ownValues (a .dirs .now) ones) (a .rows * a .cols) (a .areas .now)
 own c = c .own-counts .ensures ∙ sym (filled-written _ _ _)
 
 gather-requires : tie.Need-gather-requires
 gather-requires c κs =
     let p = (start (c .before .before .before .before)) .pre in
-    rw (own (c .before .before .before .before)) (own-gathers (p .1) _ (cells-most (p .0 .rows-most) (p .0 .cols-most)) (p .2))
+    rw (own (c .before .before .before .before))
+    (own-gathers (p .1) _ (cells-most (p .0 .rows-most) (p .0 .cols-most)) (p .2))
 
 -- the sizes
-gathered : (c : tie.After-gather) → let a = (start (after-own-counts c)) .args in c .gather .last .1 .1 .1 .0 ≡ written (sizesOf (grid (a .rows) (a .cols) (a .dirs .now))) (a .areas .now)
-gathered c = (rw (own (c .before .before .before .before .before)) at (c .gather .ensures)) ∙ sizes-written ((start (after-own-counts c)) .pre .1) _
+gathered : (c : tie.After-gather)
+    → let a =
+    (start (after-own-counts c)) .args in c .gather .last .1 .1 .1 .0 ≡ written
+    (sizesOf (grid (a .rows) (a .cols) (a .dirs .now))) (a .areas .now)
+gathered c =
+    (rw (own (c .before .before .before .before .before)) at (c .gather .ensures)) ∙ sizes-written
+    ((start (after-own-counts c)) .pre .1) _
 
 mul-from : tie.Need-mul-from
 mul-from c = search needs
@@ -69,8 +78,10 @@ returns c =
     let a = (start (after-own-counts (c .before .before .before .before .before .before .before))) .args in
     let G = grid (a .rows) (a .cols) (a .dirs .now) in
     let n = a .rows * a .cols in (
-      ap (putMid (sizesPart * n) (length (a .work .now) - sizesPart * n) (a .work .now)) (c .before .before .copy .ensures)
-          ∙ sizes-put n (a .work .now) (sizesOf G) _ (a .areas .now) ((start (after-own-counts (c .before .before .before .before .before .before .before))) .pre .1 .searched .upstream .queue .room) (sizes-long G) (gathered (c .before .before .before .before .before .before .before)),
+      ap (putMid (sizesPart * n) (length (a .work .now) - sizesPart * n) (a .work .now))
+          (c .before .before .copy .ensures)
+          ∙ sizes-put n (a .work .now) (sizesOf G) _ (a .areas .now)
+          ((start (after-own-counts (c .before .before .before .before .before .before .before))) .pre .1 .searched .upstream .queue .room) (sizes-long G) (gathered (c .before .before .before .before .before .before .before)),
       gathered (c .before .before .before .before .before .before .before),
     )
 

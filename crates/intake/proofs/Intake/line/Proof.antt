@@ -24,14 +24,23 @@ returns : tie.Need-returns
 unfolding lineAfter
 returns c =
     with-values values
-    (simp (sym (c .before .before .before .before .before .state-fault .ensures) ∙ c .before .before .before .before .if1 .taken, c .before .before .line-in .ensures))
+    (simp (
+      sym (c .before .before .before .before .before .state-fault .ensures)
+          ∙ c .before .before .before .before .if1 .taken,
+      c .before .before .line-in .ensures,
+    ))
 
 answer-requires : tie.Need-answer-requires
 answer-requires c κs = search needs
 
 returns-2 : tie.Need-returns-2
 unfolding lineAfter
-returns-2 c = with-values values (simp (sym (c .before .before .state-fault .ensures), ne-eqb _ _ (c .before .if1 .left), c .answer .ensures))
+returns-2 c =
+    with-values values (simp (
+      sym (c .before .before .state-fault .ensures),
+      ne-eqb _ _ (c .before .if1 .left),
+      c .answer .ensures,
+    ))
 
 pub line-spec : {M : Type 1} → statement M
 line-spec =

@@ -17,7 +17,8 @@ is-dir-requires : tie.Need-is-dir-requires
 is-dir-requires c κs = search needs
 
 -- where both tests are passed, the cell's byte is lent
-placed : (c : tie.Then2) → let a = c .before .before .before .before .before .args in Placed (a .sizes) (a .cell) (length (a .dirs .now))
+placed : (c : tie.Then2)
+    → let a = c .before .before .before .before .before .args in Placed (a .sizes) (a .cell) (length (a .dirs .now))
 placed c =
     let a = c .before .before .before .before .before .args in
     let on : onSheet (a .sizes) (a .cell) ≡ true = cc in
@@ -36,17 +37,35 @@ returns : tie.Need-returns
 unfolding cellFault
 returns c =
     let t = c .before .before .before .before .before in
-    simp (sym (t .before .before .before .on-sheet .ensures), sym (t .before .before .is-dir .ensures), t .before .if1 .taken, t .if2 .taken, eq-eqb _ _ (c .if3 .taken))
+    simp (
+      sym (t .before .before .before .on-sheet .ensures),
+      sym (t .before .before .is-dir .ensures),
+      t .before .if1 .taken,
+      t .if2 .taken,
+      eq-eqb _ _ (c .if3 .taken),
+    )
 
 returns-2 : tie.Need-returns-2
 unfolding cellFault
 returns-2 c =
     let t = c .before .before .before .before .before in
-    simp (sym (t .before .before .before .on-sheet .ensures), sym (t .before .before .is-dir .ensures), t .before .if1 .taken, t .if2 .taken, ne-eqb _ _ (c .if3 .left))
+    simp (
+      sym (t .before .before .before .on-sheet .ensures),
+      sym (t .before .before .is-dir .ensures),
+      t .before .if1 .taken,
+      t .if2 .taken,
+      ne-eqb _ _ (c .if3 .left),
+    )
 
 returns-3 : tie.Need-returns-3
 unfolding cellFault
-returns-3 c = simp (sym (c .before .before .before .on-sheet .ensures), sym (c .before .before .is-dir .ensures), c .before .if1 .taken, c .if2 .left)
+returns-3 c =
+    simp (
+      sym (c .before .before .before .on-sheet .ensures),
+      sym (c .before .before .is-dir .ensures),
+      c .before .if1 .taken,
+      c .if2 .left,
+    )
 
 returns-4 : tie.Need-returns-4
 unfolding cellFault

@@ -19,7 +19,8 @@ answer-requires c κs = search needs
 
 returns : tie.Need-returns
 unfolding onCells
-returns c = simp (sym (c .before .before .before .read-values .ensures .0) ∙ c .before .enum-told .given .1, c .answer .ensures)
+returns c =
+    simp (sym (c .before .before .before .read-values .ensures .0) ∙ c .before .enum-told .given .1, c .answer .ensures)
 
 take-cell-requires : tie.Need-take-cell-requires
 take-cell-requires c κs = search needs
@@ -28,7 +29,12 @@ same-length : tie.Need-same-length
 same-length c = search needs
 
 returns-2 : tie.Need-returns-2
-returns-2 c = simp (sym (c .before .before .before .before .before .before .before .read-values .ensures .0) ∙ c .before .before .before .before .before .values .given .1, c .before .before .take-cell .ensures)
+returns-2 c =
+    simp (
+      sym (c .before .before .before .before .before .before .before .read-values .ensures .0)
+          ∙ c .before .before .before .before .before .values .given .1,
+      c .before .before .take-cell .ensures,
+    )
 
 pub cell-line-spec : {M : Type 1} → statement M
 cell-line-spec =

@@ -27,7 +27,9 @@ same-length c = search needs
 returns : tie.Need-returns
 returns c =
     let in-line = (after-cell-in (c .before .before .before .before .before .before)) .cell-in .ensures in
-    let none = sym (c .before .before .before .before .before .before .cell-fault .ensures) ∙ c .before .before .before .before .before .if1 .taken in
+    let none = sym
+    (c .before .before .before .before .before .before .cell-fault .ensures)
+    ∙ c .before .before .before .before .before .if1 .taken in
     simp (c .answer .ensures, c .before .before .before .write-cell .ensures) (sym (cell-accepted _ _ _ _ in-line none))
 
 answer-requires-2 : tie.Need-answer-requires-2

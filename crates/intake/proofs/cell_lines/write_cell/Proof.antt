@@ -11,13 +11,21 @@ cast-dirs : tie.Need-cast-dirs
 cast-dirs c = omega (arith, cell-good _ _ _ (c .before .pre .1) .1)
 
 mul-dirs : tie.Need-mul-dirs
-mul-dirs c = let p = on-sheet-placed _ _ _ (sizes-fit _ _ (c .before .before .before .pre .0)) (cell-good _ _ _ (c .before .before .before .pre .1) .0) in omega (arith, p .number-small)
+mul-dirs c =
+    let p = on-sheet-placed _ _ _ (sizes-fit _ _ (c .before .before .before .pre .0))
+    (cell-good _ _ _ (c .before .before .before .pre .1) .0) in
+    omega (arith, p .number-small)
 
 add-dirs : tie.Need-add-dirs
-add-dirs c = let p = on-sheet-placed _ _ _ (sizes-fit _ _ (c .before .before .before .before .pre .0)) (cell-good _ _ _ (c .before .before .before .before .pre .1) .0) in omega (arith, p .number-small)
+add-dirs c =
+    let p = on-sheet-placed _ _ _ (sizes-fit _ _ (c .before .before .before .before .pre .0))
+    (cell-good _ _ _ (c .before .before .before .before .pre .1) .0) in
+    omega (arith, p .number-small)
 
 slice-write-dirs : tie.Need-slice-write-dirs
-slice-write-dirs c = on-sheet-placed _ _ _ (sizes-fit _ _ (c .before .before .before .before .pre .0)) (cell-good _ _ _ (c .before .before .before .before .pre .1) .0) .byte-lent
+slice-write-dirs c =
+    on-sheet-placed _ _ _ (sizes-fit _ _ (c .before .before .before .before .pre .0))
+    (cell-good _ _ _ (c .before .before .before .before .pre .1) .0) .byte-lent
 
 same-length : tie.Need-same-length
 same-length c = search needs

@@ -19,14 +19,22 @@ answer-requires c κs = search needs
 
 returns : tie.Need-returns
 unfolding onSizeNames
-returns c = simp (sym (c .before .before .before .read-size-names .ensures .0) ∙ c .before .enum-told .given .1, c .answer .ensures)
+returns c =
+    simp (
+      sym (c .before .before .before .read-size-names .ensures .0) ∙ c .before .enum-told .given .1,
+      c .answer .ensures,
+    )
 
 answer-requires-2 : tie.Need-answer-requires-2
 answer-requires-2 c κs = search needs
 
 returns-2 : tie.Need-returns-2
 unfolding onSizeNames
-returns-2 c = simp (sym (c .before .before .before .before .read-size-names .ensures .0) ∙ c .before .before .columns .given .1, c .answer2 .ensures)
+returns-2 c =
+    simp (
+      sym (c .before .before .before .before .read-size-names .ensures .0) ∙ c .before .before .columns .given .1,
+      c .answer2 .ensures,
+    )
 
 pub size-names-line-spec : {M : Type 1} → statement M
 size-names-line-spec =

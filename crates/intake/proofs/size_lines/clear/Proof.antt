@@ -31,8 +31,11 @@ loop-less c = search needs
 loop-again : tie.Need-loop-again Inv-loop μ-loop
 loop-again c =
     let l = c .before .loop in
-    let dirs = c .before .before .args .dirs .now in
-    (omega arith, ap (λ (t : List ℕ). set t (l .i) 0) (l .inv .1) ∙ fill-more (l .i) 0 dirs (omega arith), simp length-set (l .inv .2))
+    let dirs = c .before .before .args .dirs .now in (
+      omega arith,
+      ap (λ (t : List ℕ). set t (l .i) 0) (l .inv .1) ∙ fill-more (l .i) 0 dirs (omega arith),
+      simp length-set (l .inv .2),
+    )
 
 same-length : tie.Need-same-length Inv-loop μ-loop
 same-length c = search needs

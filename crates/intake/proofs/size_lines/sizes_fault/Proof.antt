@@ -29,17 +29,35 @@ returns : tie.Need-returns
 unfolding sizesFault
 returns c =
     let t = c .before .before in
-    simp (sym (t .before .before .before .sizes-fit .ensures), sym (t .before .before .depth-fits .ensures), t .before .if1 .taken, t .if2 .taken, le-leb _ _ (c .if3 .taken))
+    simp (
+      sym (t .before .before .before .sizes-fit .ensures),
+      sym (t .before .before .depth-fits .ensures),
+      t .before .if1 .taken,
+      t .if2 .taken,
+      le-leb _ _ (c .if3 .taken),
+    )
 
 returns-2 : tie.Need-returns-2
 unfolding sizesFault
 returns-2 c =
     let t = c .before .before in
-    simp (sym (t .before .before .before .sizes-fit .ensures), sym (t .before .before .depth-fits .ensures), t .before .if1 .taken, t .if2 .taken, lt-leb _ _ (c .if3 .left))
+    simp (
+      sym (t .before .before .before .sizes-fit .ensures),
+      sym (t .before .before .depth-fits .ensures),
+      t .before .if1 .taken,
+      t .if2 .taken,
+      lt-leb _ _ (c .if3 .left),
+    )
 
 returns-3 : tie.Need-returns-3
 unfolding sizesFault
-returns-3 c = simp (sym (c .before .before .before .sizes-fit .ensures), sym (c .before .before .depth-fits .ensures), c .before .if1 .taken, c .if2 .left)
+returns-3 c =
+    simp (
+      sym (c .before .before .before .sizes-fit .ensures),
+      sym (c .before .before .depth-fits .ensures),
+      c .before .if1 .taken,
+      c .if2 .left,
+    )
 
 returns-4 : tie.Need-returns-4
 unfolding sizesFault

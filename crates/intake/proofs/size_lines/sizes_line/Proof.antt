@@ -19,7 +19,8 @@ answer-requires c κs = search needs
 
 returns : tie.Need-returns
 unfolding onSizes
-returns c = simp (sym (c .before .before .before .read-values .ensures .0) ∙ c .before .enum-told .given .1, c .answer .ensures)
+returns c =
+    simp (sym (c .before .before .before .read-values .ensures .0) ∙ c .before .enum-told .given .1, c .answer .ensures)
 
 take-sizes-requires : tie.Need-take-sizes-requires
 take-sizes-requires c κs = search needs
@@ -28,7 +29,12 @@ same-length : tie.Need-same-length
 same-length c = search needs
 
 returns-2 : tie.Need-returns-2
-returns-2 c = simp (sym (c .before .before .before .before .before .before .before .read-values .ensures .0) ∙ c .before .before .before .before .before .values .given .1, c .before .before .take-sizes .ensures)
+returns-2 c =
+    simp (
+      sym (c .before .before .before .before .before .before .before .read-values .ensures .0)
+          ∙ c .before .before .before .before .before .values .given .1,
+      c .before .before .take-sizes .ensures,
+    )
 
 pub sizes-line-spec : {M : Type 1} → statement M
 sizes-line-spec =

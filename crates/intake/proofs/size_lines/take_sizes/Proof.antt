@@ -25,7 +25,8 @@ mul-clear c =
     omega (arith, cells-most (fits .rows-most) (fits .cols-most))
 
 clear-requires : tie.Need-clear-requires
-clear-requires c κs = sizes-fit _ _ (sym (c .before .before .before .sizes-fault .ensures) ∙ c .before .before .if1 .taken) .lent-enough
+clear-requires c κs =
+    sizes-fit _ _ (sym (c .before .before .before .sizes-fault .ensures) ∙ c .before .before .if1 .taken) .lent-enough
 
 answer-requires : tie.Need-answer-requires
 answer-requires c κs = search needs
@@ -37,7 +38,9 @@ returns : tie.Need-returns
 unfolding sizesWritten
 returns c =
     let in-line = (after-sizes-in (c .before .before .before .before .before .before .before)) .sizes-in .ensures in
-    let none = sym (c .before .before .before .before .before .before .before .sizes-fault .ensures) ∙ c .before .before .before .before .before .before .if1 .taken in
+    let none = sym
+    (c .before .before .before .before .before .before .before .sizes-fault .ensures)
+    ∙ c .before .before .before .before .before .before .if1 .taken in
     simp (c .answer .ensures, c .before .before .before .clear .ensures) (sym (sizes-accepted _ _ _ in-line none))
 
 answer-requires-2 : tie.Need-answer-requires-2

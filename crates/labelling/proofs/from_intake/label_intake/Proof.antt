@@ -57,7 +57,9 @@ same-length-3 c = search needs
 
 returns-5 : tie.Need-returns-5
 unfolding intakeOutcome intakeLent
-returns-5 c = rw ((after-stage (c .before .before .before .before .before .before)) .stage .given .1) (c .before .before .before .before .before .before .label .ensures)
+returns-5 c =
+    rw ((after-stage (c .before .before .before .before .before .before)) .stage .given .1)
+    (c .before .before .before .before .before .before .label .ensures)
 
 pub label-intake-spec : {M : Type 1} → statement M
 label-intake-spec =

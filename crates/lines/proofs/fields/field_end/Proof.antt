@@ -23,7 +23,9 @@ shared-slice-read-if1 : tie.Need-shared-slice-read-if1 Inv-loop μ-loop
 shared-slice-read-if1 c = search needs
 
 returns : tie.Need-returns Inv-loop μ-loop
-returns c = sym (end-at-comma _ _ (c .before .before .loop-test .taken) (c .if1 .taken)) ∙ c .before .before .before .loop .inv .0
+returns c =
+    sym (end-at-comma _ _ (c .before .before .loop-test .taken) (c .if1 .taken))
+    ∙ c .before .before .before .loop .inv .0
 
 add-end : tie.Need-add-end Inv-loop μ-loop
 add-end c = omega arith
@@ -32,7 +34,10 @@ loop-less : tie.Need-loop-less Inv-loop μ-loop
 loop-less c = omega arith
 
 loop-again : tie.Need-loop-again Inv-loop μ-loop
-loop-again c = (end-at-other _ _ (c .before .before .loop-test .taken) (c .if1 .left) ∙ c .before .before .before .loop .inv .0, omega arith)
+loop-again c = (
+  end-at-other _ _ (c .before .before .loop-test .taken) (c .if1 .left) ∙ c .before .before .before .loop .inv .0,
+  omega arith,
+)
 
 returns-2 : tie.Need-returns-2 Inv-loop μ-loop
 returns-2 c = sym (end-at-end _ _ (c .loop-test .left)) ∙ c .before .loop .inv .0

@@ -28,7 +28,9 @@ shared-slice-read-if2-2 : tie.Need-shared-slice-read-if2-2 Inv-loop μ-loop
 shared-slice-read-if2-2 c = omega arith
 
 returns-2 : tie.Need-returns-2 Inv-loop μ-loop
-returns-2 c = sym (same-at-different _ _ _ (c .before .before .before .loop-test .taken) (omega arith) (c .if2 .taken)) ∙ c .before .before .before .before .loop .inv .0
+returns-2 c =
+    sym (same-at-different _ _ _ (c .before .before .before .loop-test .taken) (omega arith) (c .if2 .taken))
+    ∙ c .before .before .before .before .loop .inv .0
 
 add-i : tie.Need-add-i Inv-loop μ-loop
 add-i c = omega arith
@@ -37,7 +39,11 @@ loop-less : tie.Need-loop-less Inv-loop μ-loop
 loop-less c = omega arith
 
 loop-again : tie.Need-loop-again Inv-loop μ-loop
-loop-again c = (same-at-equal _ _ _ (c .before .before .before .loop-test .taken) (omega arith) (c .if2 .left) ∙ c .before .before .before .before .loop .inv .0, omega arith)
+loop-again c = (
+  same-at-equal _ _ _ (c .before .before .before .loop-test .taken) (omega arith) (c .if2 .left)
+      ∙ c .before .before .before .before .loop .inv .0,
+  omega arith,
+)
 
 returns-3 : tie.Need-returns-3 Inv-loop μ-loop
 returns-3 c = sym (same-at-end _ _ _ (c .loop-test .left) (omega arith)) ∙ c .before .loop .inv .0

@@ -19,10 +19,16 @@ returns : tie.Need-returns
 returns c = sym (field-none _ (sym (c .before .before .read-value .ensures .0) ∙ c .enum-told .given .1))
 
 returns-2 : tie.Need-returns-2
-returns-2 c = sym (field-whole _ (sym (c .before .before .before .before .read-value .ensures .0) ∙ c .before .before .value .given .1) (omega arith))
+returns-2 c =
+    sym (field-whole _
+    (sym (c .before .before .before .before .read-value .ensures .0) ∙ c .before .before .value .given .1)
+    (omega arith))
 
 returns-3 : tie.Need-returns-3
-returns-3 c = sym (field-more _ (sym (c .before .before .before .before .read-value .ensures .0) ∙ c .before .before .value .given .1) (omega arith))
+returns-3 c =
+    sym (field-more _
+    (sym (c .before .before .before .before .read-value .ensures .0) ∙ c .before .before .value .given .1)
+    (omega arith))
 
 pub field-value-spec : {M : Type 1} → statement M
 field-value-spec =

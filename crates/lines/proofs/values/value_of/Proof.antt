@@ -17,7 +17,11 @@ same-column-requires-2 c κs = search needs
 
 returns-2 : tie.Need-returns-2
 unfolding valueOf
-returns-2 c = rw (sym (c .before .before .before .same-column .ensures) ∙ c .before .before .if1 .left, sym (c .before .same-column2 .ensures) ∙ c .if2 .taken)
+returns-2 c =
+    rw (
+      sym (c .before .before .before .same-column .ensures) ∙ c .before .before .if1 .left,
+      sym (c .before .same-column2 .ensures) ∙ c .if2 .taken,
+    )
 
 same-column-requires-3 : tie.Need-same-column-requires-3
 same-column-requires-3 c κs = search needs
@@ -25,14 +29,22 @@ same-column-requires-3 c κs = search needs
 returns-3 : tie.Need-returns-3
 unfolding valueOf
 returns-3 c =
-    rw
-    (sym (c .before .before .before .before .before .same-column .ensures) ∙ c .before .before .before .before .if1 .left, sym (c .before .before .before .same-column2 .ensures) ∙ c .before .before .if2 .left, sym (c .before .same-column3 .ensures) ∙ c .if3 .taken)
+    rw (
+      sym (c .before .before .before .before .before .same-column .ensures)
+          ∙ c .before .before .before .before .if1 .left,
+      sym (c .before .before .before .same-column2 .ensures) ∙ c .before .before .if2 .left,
+      sym (c .before .same-column3 .ensures) ∙ c .if3 .taken,
+    )
 
 returns-4 : tie.Need-returns-4
 unfolding valueOf
 returns-4 c =
-    rw
-    (sym (c .before .before .before .before .before .same-column .ensures) ∙ c .before .before .before .before .if1 .left, sym (c .before .before .before .same-column2 .ensures) ∙ c .before .before .if2 .left, sym (c .before .same-column3 .ensures) ∙ c .if3 .left)
+    rw (
+      sym (c .before .before .before .before .before .same-column .ensures)
+          ∙ c .before .before .before .before .if1 .left,
+      sym (c .before .before .before .same-column2 .ensures) ∙ c .before .before .if2 .left,
+      sym (c .before .same-column3 .ensures) ∙ c .if3 .left,
+    )
 
 pub value-of-spec : {M : Type 1} → statement M
 value-of-spec =

@@ -1,4 +1,5 @@
--- `lines::values::values_in` meets its contract. The invariant: the values from the present place on, read into the present values, are the values of the line.
+-- `lines::values::values_in` meets its contract. The invariant: the values from the present place on, read into the
+-- present values, are the values of the line.
 use Prim.Native.Nat.{_≤_, _-_, _+_}
 use mathlib.Core.Path.{_≡_, sym, ap, _∙_}
 use native.Mathlib.Omega.{arith}
@@ -13,13 +14,18 @@ use Rattle.lines.proofs.values.values_in.Tie as tie
 
 abbrev Inv-loop : tie.InvT-loop
 Inv-loop line count values₀ place₀ at₀ values place at =
-    (valuesFrom count place (fieldsFrom line at) values ≡ valuesFrom count 0 (fields line) noValues) × (place ≤ at) × (at ≤ length line + 1)
+    (valuesFrom count place (fieldsFrom line at) values ≡ valuesFrom count 0 (fields line) noValues) × (place ≤ at) ×
+    (at ≤ length line + 1)
 
 abbrev μ-loop : tie.MeasureT-loop
 μ-loop line count values₀ place₀ at₀ values place at = length line + 1 - at
 
 loop-holds : tie.Need-loop-holds Inv-loop μ-loop
-loop-holds c = (ap (λ fs. valuesFrom (c .before .args .count) 0 fs noValues) (fields-all (c .before .args .line .now)), omega arith, omega arith)
+loop-holds c = (
+  ap (λ fs. valuesFrom (c .before .args .count) 0 fs noValues) (fields-all (c .before .args .line .now)),
+  omega arith,
+  omega arith,
+)
 
 field-end-requires : tie.Need-field-end-requires Inv-loop μ-loop
 field-end-requires c κs = search needs
@@ -28,7 +34,8 @@ field-end-requires c κs = search needs
 starts : (c : tie.After-field-end Inv-loop μ-loop) → c .before .before .loop .at ≤ c .field-end .result
 starts c = rw (c .field-end .ensures) (end-after _ _ (c .before .loop-test .taken))
 
-ends : (c : tie.After-field-end Inv-loop μ-loop) → c .field-end .result ≤ length (c .before .before .before .before .args .line .now)
+ends : (c : tie.After-field-end Inv-loop μ-loop)
+    → c .field-end .result ≤ length (c .before .before .before .before .args .line .now)
 ends c = rw (c .field-end .ensures) (end-within _ _ (c .before .loop-test .taken))
 
 sub-field-value : tie.Need-sub-field-value Inv-loop μ-loop
@@ -52,14 +59,17 @@ enum-told c = search needs
 returns : tie.Need-returns Inv-loop μ-loop
 returns c =
     let f = c .before .before .before .before in
-    sym (values-at-other _ _ _ _ (f .before .loop-test .taken) (f .field-end .ensures) (c .before .before .field-value .ensures) (c .enum-told .given .1))
+    sym (values-at-other _ _ _ _ (f .before .loop-test .taken) (f .field-end .ensures)
+    (c .before .before .field-value .ensures) (c .enum-told .given .1))
     ∙ f .before .before .loop .inv .0
 
 with-value-requires : tie.Need-with-value-requires Inv-loop μ-loop
 with-value-requires c κs = search needs
 
 add-place : tie.Need-add-place Inv-loop μ-loop
-add-place c = let l = c .before .before .before .before .before .before .before in omega (arith, l .before .loop .inv .1, l .loop-test .taken)
+add-place c =
+    let l = c .before .before .before .before .before .before .before in
+    omega (arith, l .before .loop .inv .1, l .loop-test .taken)
 
 add-at : tie.Need-add-at Inv-loop μ-loop
 add-at c = omega (arith, ends (c .before .before .before .before .before .before))
@@ -71,7 +81,9 @@ loop-again : tie.Need-loop-again Inv-loop μ-loop
 loop-again c =
     let f = c .before .before .before .before .before .before in
     let l = f .before .before .loop in (
-      values-at-value _ _ _ _ (f .before .loop-test .taken) (f .field-end .ensures) (c .before .before .before .before .field-value .ensures) (c .before .before .value .given .1) (c .with-value .ensures) ∙ l .inv .0,
+      values-at-value _ _ _ _ (f .before .loop-test .taken) (f .field-end .ensures)
+          (c .before .before .before .before .field-value .ensures) (c .before .before .value .given .1)
+          (c .with-value .ensures) ∙ l .inv .0,
       omega (arith, starts f, l .inv .1),
       omega (arith, ends f),
     )
@@ -80,13 +92,15 @@ returns-2 : tie.Need-returns-2 Inv-loop μ-loop
 returns-2 c =
     let l = c .before .before .loop in
     let a = c .before .before .before .before .args in
-    sym (values-at-done (a .count) (l .place) (l .values) (a .line .now) (c .before .loop-test .left) (omega arith)) ∙ l .inv .0
+    sym (values-at-done (a .count) (l .place) (l .values) (a .line .now) (c .before .loop-test .left) (omega arith))
+    ∙ l .inv .0
 
 returns-3 : tie.Need-returns-3 Inv-loop μ-loop
 returns-3 c =
     let l = c .before .before .loop in
     let a = c .before .before .before .before .args in
-    sym (values-at-short (a .count) (l .place) (l .values) (a .line .now) (c .before .loop-test .left) (omega arith)) ∙ l .inv .0
+    sym (values-at-short (a .count) (l .place) (l .values) (a .line .now) (c .before .loop-test .left) (omega arith))
+    ∙ l .inv .0
 
 pub values-in-spec : {M : Type 1} → statement M
 values-in-spec =

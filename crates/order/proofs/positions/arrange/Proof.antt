@@ -19,7 +19,9 @@ mul-enter-all : tie.Need-mul-enter-all
 mul-enter-all c = search needs
 
 enter-all-requires : tie.Need-enter-all-requires
-enter-all-requires c κs = apart ((start (c .before .before .before)) .pre) (c .before .before .before .place-all .kept .1 .1 .1 .1 .1 .0) (c .before .before .before .place-all .ensures)
+enter-all-requires c κs =
+    apart ((start (c .before .before .before)) .pre) (c .before .before .before .place-all .kept .1 .1 .1 .1 .1 .0)
+    (c .before .before .before .place-all .ensures)
 
 same-length : tie.Need-same-length
 same-length c = search needs
@@ -28,8 +30,10 @@ returns : tie.Need-returns
 returns c =
     let w = (start (c .before .before .before .before .before .before)) .pre in
     let p = c .before .before .before .before .before .before .place-all in
-    let e = c .before .before .enter-all in
-    (arranged w (p .kept .1 .1 .1 .1 .1 .0) (p .ensures) (e .kept .1 .1 .0) (e .ensures), other-places w (p .kept .1 .1 .1 .1 .1 .0) (p .ensures) (e .kept .1 .1 .0) (e .ensures))
+    let e = c .before .before .enter-all in (
+      arranged w (p .kept .1 .1 .1 .1 .1 .0) (p .ensures) (e .kept .1 .1 .0) (e .ensures),
+      other-places w (p .kept .1 .1 .1 .1 .1 .0) (p .ensures) (e .kept .1 .1 .0) (e .ensures),
+    )
 
 pub arrange-spec : {M : Type 1} → statement M
 arrange-spec =

@@ -30,7 +30,8 @@ mul-cell : tie.Need-mul-cell Inv-loop μ-loop
 mul-cell c = omega (arith, c .before .before .before .pre .most, c .before .before .before .pre .small)
 
 slice-read-cell : tie.Need-slice-read-cell Inv-loop μ-loop
-slice-read-cell c = omega (arith, c .before .before .before .before .pre .most, c .before .before .before .before .pre .room)
+slice-read-cell c =
+    omega (arith, c .before .before .before .before .pre .most, c .before .before .before .before .pre .room)
 
 cast-cell : tie.Need-cast-cell Inv-loop μ-loop
 cast-cell c = omega (arith, c .slice-known2 .given (c .before .before .loop .i))
@@ -39,8 +40,16 @@ enter-requires : tie.Need-enter-requires Inv-loop μ-loop
 enter-requires c κs =
     let p = c .before .before .before .before .before .pre in
     let l = c .before .before .before .loop in
-    let h = c .before .before .loop-test .taken in
-    (p .small, omega (arith, p .room, l .inv .1), omega (arith, cell-kept p (l .inv .1) (l .inv .2) h, p .on (l .i) h), omega (arith, at-kept p (l .inv .1) (l .inv .2) h, p .below (l .i) h))
+    let h = c .before .before .loop-test .taken in (
+      p .small,
+      omega (arith, p .room, l .inv .1),
+      omega (
+        arith,
+        cell-kept p (l .inv .1) (l .inv .2) h,
+        p .on (l .i) h,
+      ),
+      omega (arith, at-kept p (l .inv .1) (l .inv .2) h, p .below (l .i) h),
+    )
 
 add-i : tie.Need-add-i Inv-loop μ-loop
 add-i c = search needs
@@ -50,8 +59,13 @@ loop-less c = search needs
 
 loop-again : tie.Need-loop-again Inv-loop μ-loop
 loop-again c =
-    let l = c .before .before .before .before .before .before .loop in
-    (omega arith, c .before .before .enter .kept .1 .1 .0 ∙ l .inv .1, rw (c .before .before .enter .ensures) (entered-more ((start (c .before .before .before .before .before .before)) .pre) (l .inv .1) (l .inv .2) (c .before .before .before .before .before .loop-test .taken)))
+    let l = c .before .before .before .before .before .before .loop in (
+      omega arith,
+      c .before .before .enter .kept .1 .1 .0 ∙ l .inv .1,
+      rw (c .before .before .enter .ensures)
+          (entered-more ((start (c .before .before .before .before .before .before)) .pre) (l .inv .1) (l .inv .2)
+          (c .before .before .before .before .before .loop-test .taken)),
+    )
 
 same-length : tie.Need-same-length Inv-loop μ-loop
 same-length c = c .before .loop .inv .1

@@ -22,7 +22,8 @@ use Rattle.order.proofs.positions.place_upstream.Reads as place-upstrea
 abbrev Inv-loop : tie.InvT-loop
 Inv-loop dirs rows cols areas queued work₀ i₀ work i =
     (i ≤ queued) × (length work ≡ length work₀)
-    × ((entry : List ℕ) → Surveyed (grid rows cols dirs) areas entry queued → work₀ ≡ set entry (positionsPart * (rows * cols) + outlet (grid rows cols dirs)) 0
+    × ((entry : List ℕ) → Surveyed (grid rows cols dirs) areas entry queued → work₀ ≡ set entry
+    (positionsPart * (rows * cols) + outlet (grid rows cols dirs)) 0
     → Placed (grid rows cols dirs) areas entry work queued i)
 
 abbrev μ-loop : tie.MeasureT-loop
@@ -37,14 +38,24 @@ most c = cells-most (c .pre .measured .sized .rows-most) (c .pre .measured .size
 
 -- the outlet has its position
 outlet-placed : (c : tie.After-place-outlet Inv-loop μ-loop)
-    → c .place-outlet .last .1 .0 ≡ set (c .before .before .before .before .before .args .work .now) (positionsPart * (c .before .before .before .before .before .args .rows * c .before .before .before .before .before .args .cols) + outlet (grid (c .before .before .before .before .before .args .rows) (c .before .before .before .before .before .args .cols) (c .before .before .before .before .before .args .dirs .now))) 0
+    → c .place-outlet .last .1 .0 ≡ set (c .before .before .before .before .before .args .work .now)
+    (positionsPart *
+    (c .before .before .before .before .before .args .rows * c .before .before .before .before .before .args .cols) + outlet (grid (c .before .before .before .before .before .args .rows) (c .before .before .before .before .before .args .cols) (c .before .before .before .before .before .args .dirs .now))) 0
 outlet-placed c = c .place-outlet .ensures ∙ (rw (c .before .before .before .before .before .pre .single .first))
 
 -- the first cells of the queue have been gone through
-present : (c : tie.At-loop Inv-loop μ-loop) → Placed (grid ((start (c .before .before .before)) .args .rows) ((start (c .before .before .before)) .args .cols) ((start (c .before .before .before)) .args .dirs .now)) ((start (c .before .before .before)) .args .areas .now) ((start (c .before .before .before)) .args .work .now) (c .loop .work) ((start (c .before .before .before)) .args .queued) (c .loop .i)
-present c = c .loop .inv .2 ((start (c .before .before .before)) .args .work .now) ((start (c .before .before .before)) .pre) (outlet-placed (c .before .before .before))
+present : (c : tie.At-loop Inv-loop μ-loop)
+    → Placed
+    (grid ((start (c .before .before .before)) .args .rows) ((start (c .before .before .before)) .args .cols)
+    ((start (c .before .before .before)) .args .dirs .now)) ((start (c .before .before .before)) .args .areas .now)
+    ((start (c .before .before .before)) .args .work .now) (c .loop .work)
+    ((start (c .before .before .before)) .args .queued) (c .loop .i)
+present c =
+    c .loop .inv .2 ((start (c .before .before .before)) .args .work .now) ((start (c .before .before .before)) .pre)
+    (outlet-placed (c .before .before .before))
 
-length-kept : (c : tie.At-loop Inv-loop μ-loop) → length (c .loop .work) ≡ length ((start (c .before .before .before)) .args .work .now)
+length-kept : (c : tie.At-loop Inv-loop μ-loop)
+    → length (c .loop .work) ≡ length ((start (c .before .before .before)) .args .work .now)
 length-kept c = c .loop .inv .1 ∙ c .before .before .before .place-outlet .kept .1 .0
 
 mul-place-outlet : tie.Need-mul-place-outlet Inv-loop μ-loop
@@ -52,23 +63,41 @@ mul-place-outlet c = omega (arith, most (c .before .before .before))
 
 place-outlet-requires : tie.Need-place-outlet-requires Inv-loop μ-loop
 place-outlet-requires c κs =
-    let p = c .before .before .before .before .pre in
-    (most (c .before .before .before .before), p .room, rw (p .single .first) (inside-lt _ _ (whole p 0 0 .outlet-inside)))
+    let p = c .before .before .before .before .pre in (
+      most (c .before .before .before .before),
+      p .room,
+      rw (p .single .first) (inside-lt _ _ (whole p 0 0 .outlet-inside)),
+    )
 
 loop-holds : tie.Need-loop-holds Inv-loop μ-loop
 loop-holds c = (omega arith, refl, λ w s e. rw e (placed-none s))
 
 mul-cell : tie.Need-mul-cell Inv-loop μ-loop
-mul-cell c = omega (arith, queue-most ((start (c .before .before .before .before)) .pre), most ((start (c .before .before .before .before))))
+mul-cell c =
+    omega (
+      arith,
+      queue-most ((start (c .before .before .before .before)) .pre),
+      most ((start (c .before .before .before .before))),
+    )
 
 slice-read-cell : tie.Need-slice-read-cell Inv-loop μ-loop
-slice-read-cell c = omega (arith, queue-most ((start (c .before .before .before .before .before)) .pre), length-kept (c .before .before), (start (c .before .before .before .before .before)) .pre .room)
+slice-read-cell c =
+    omega (
+      arith,
+      queue-most ((start (c .before .before .before .before .before)) .pre),
+      length-kept (c .before .before),
+      (start (c .before .before .before .before .before)) .pre .room,
+    )
 
 cast-cell : tie.Need-cast-cell Inv-loop μ-loop
 cast-cell c = omega (arith, c .slice-known3 .given (c .before .before .loop .i))
 
 place-upstream-requires : tie.Need-place-upstream-requires Inv-loop μ-loop
-place-upstream-requires c κs = ((start (c .before .before .before .before .before .before)) .pre .measured, standing ((start (c .before .before .before .before .before .before)) .pre) (present (c .before .before .before)) (c .before .before .loop-test .taken) (length-kept (c .before .before .before)))
+place-upstream-requires c κs = (
+  (start (c .before .before .before .before .before .before)) .pre .measured,
+  standing ((start (c .before .before .before .before .before .before)) .pre) (present (c .before .before .before))
+      (c .before .before .loop-test .taken) (length-kept (c .before .before .before)),
+)
 
 add-i : tie.Need-add-i Inv-loop μ-loop
 add-i c = search needs
@@ -81,7 +110,8 @@ loop-again c =
     let l = c .before .before .before .before .before .before .loop in (
       omega arith,
       c .before .before .place-upstream .kept .1 .1 .1 .1 .1 .0 ∙ l .inv .1,
-      λ w s e. placed-more s (l .inv .2 w s e) (c .before .before .before .before .before .loop-test .taken) (c .before .before .place-upstream .ensures),
+      λ w s e. placed-more s (l .inv .2 w s e) (c .before .before .before .before .before .loop-test .taken)
+          (c .before .before .place-upstream .ensures),
     )
 
 same-length : tie.Need-same-length Inv-loop μ-loop

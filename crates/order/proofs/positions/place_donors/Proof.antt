@@ -27,16 +27,26 @@ abbrev μ-loop : tie.MeasureT-loop
 μ-loop n first keys work₀ sizes positions at₀ k₀ k-end work at k = length keys - k
 
 -- the key at the place k, and those after it
-rest : (c : tie.In-loop Inv-loop μ-loop) → drop (c .before .loop .k) (c .before .before .args .keys .now) ≡ getD (c .before .before .args .keys .now) (c .before .loop .k) 0 ∷ drop (c .before .loop .k + 1) (c .before .before .args .keys .now)
-rest c = rw (add-one (c .before .loop .k)) (drop-cons (c .before .before .args .keys .now) (c .before .loop .k) 0 (c .loop-test .taken))
+rest : (c : tie.In-loop Inv-loop μ-loop)
+    → drop (c .before .loop .k) (c .before .before .args .keys .now) ≡ getD (c .before .before .args .keys .now)
+    (c .before .loop .k) 0 ∷ drop (c .before .loop .k + 1) (c .before .before .args .keys .now)
+rest c =
+    rw (add-one (c .before .loop .k))
+    (drop-cons (c .before .before .args .keys .now) (c .before .loop .k) 0 (c .loop-test .taken))
 
-fitted : (c : tie.In-loop Inv-loop μ-loop) → PositionsFit (c .before .before .args .n) (c .before .loop .at) (getD (c .before .before .args .keys .now) (c .before .loop .k) 0 ∷ drop (c .before .loop .k + 1) (c .before .before .args .keys .now)) (c .before .loop .work)
+fitted : (c : tie.In-loop Inv-loop μ-loop)
+    → PositionsFit (c .before .before .args .n) (c .before .loop .at)
+    (getD (c .before .before .args .keys .now) (c .before .loop .k) 0 ∷ drop (c .before .loop .k + 1)
+    (c .before .before .args .keys .now)) (c .before .loop .work)
 fitted c = rw (rest c) at (c .before .loop .inv .2)
 
-on : (c : tie.In-loop Inv-loop μ-loop) → cellOf (getD (c .before .before .args .keys .now) (c .before .loop .k) 0) < c .before .before .args .n
+on : (c : tie.In-loop Inv-loop μ-loop)
+    → cellOf (getD (c .before .before .args .keys .now) (c .before .loop .k) 0) < c .before .before .args .n
 on c = fitted c .on _ (List·Memᴰ·head refl)
 
-fits : (c : tie.In-loop Inv-loop μ-loop) → c .before .loop .at + sizeAt (c .before .before .args .n) (c .before .loop .work) (cellOf (getD (c .before .before .args .keys .now) (c .before .loop .k) 0)) < 2 ^ 32
+fits : (c : tie.In-loop Inv-loop μ-loop)
+    → c .before .loop .at + sizeAt (c .before .before .args .n) (c .before .loop .work)
+    (cellOf (getD (c .before .before .args .keys .now) (c .before .loop .k) 0)) < 2 ^ 32
 unfolding sum
 fits c = let f = fitted c .fits in omega arith
 
@@ -62,7 +72,8 @@ mul-size : tie.Need-mul-size Inv-loop μ-loop
 mul-size c = omega (arith, on (c .before), fitted (c .before) .room, fitted (c .before) .small)
 
 slice-read-size : tie.Need-slice-read-size Inv-loop μ-loop
-slice-read-size c = omega (arith, on (c .before .before), fitted (c .before .before) .room, fitted (c .before .before) .small)
+slice-read-size c =
+    omega (arith, on (c .before .before), fitted (c .before .before) .room, fitted (c .before .before) .small)
 
 add-work : tie.Need-add-work Inv-loop μ-loop
 add-work c = omega (arith, on (c .before .before), fitted (c .before .before) .room, fitted (c .before .before) .small)
@@ -71,7 +82,8 @@ mul-work : tie.Need-mul-work Inv-loop μ-loop
 mul-work c = omega (arith, on (c .before .before), fitted (c .before .before) .room, fitted (c .before .before) .small)
 
 slice-write-work : tie.Need-slice-write-work Inv-loop μ-loop
-slice-write-work c = omega (arith, on (c .before .before), fitted (c .before .before) .room, fitted (c .before .before) .small)
+slice-write-work c =
+    omega (arith, on (c .before .before), fitted (c .before .before) .room, fitted (c .before .before) .small)
 
 add-at : tie.Need-add-at Inv-loop μ-loop
 add-at c = record { fits = fits (c .before .before) }
@@ -85,8 +97,12 @@ loop-less c = search needs
 loop-again : tie.Need-loop-again Inv-loop μ-loop
 unfolding positioned
 loop-again c =
-    let l = c .before .before .before .loop in
-    (omega arith, simp length-set (l .inv .1), fitting-next (fitted (c .before .before)), (rw (rest (c .before .before)) at (l .inv .3)))
+    let l = c .before .before .before .loop in (
+      omega arith,
+      simp length-set (l .inv .1),
+      fitting-next (fitted (c .before .before)),
+      (rw (rest (c .before .before)) at (l .inv .3)),
+    )
 
 same-length : tie.Need-same-length Inv-loop μ-loop
 same-length c = search needs

@@ -37,7 +37,8 @@ mul-if1-2 : tie.Need-mul-if1-2
 mul-if1-2 c = omega (arith, on (c .before .before .before), c .before .before .before .pre .1 .room)
 
 slice-read-if1 : tie.Need-slice-read-if1
-slice-read-if1 c = omega (arith, on (c .before .before .before .before), c .before .before .before .before .pre .1 .room)
+slice-read-if1 c =
+    omega (arith, on (c .before .before .before .before), c .before .before .before .before .pre .1 .room)
 
 returns : tie.Need-returns
 returns c = none-placed (c .before .before .before .before .before .pre .1) (c .if1 .taken)
@@ -46,13 +47,28 @@ mul-first : tie.Need-mul-first
 mul-first c = search needs
 
 add-first : tie.Need-add-first
-add-first c = omega (arith, on (c .before .before .before .before .before), c .before .before .before .before .before .pre .1 .room)
+add-first c =
+    omega (
+      arith,
+      on (c .before .before .before .before .before),
+      c .before .before .before .before .before .pre .1 .room,
+    )
 
 mul-first-2 : tie.Need-mul-first-2
-mul-first-2 c = omega (arith, on (c .before .before .before .before .before), c .before .before .before .before .before .pre .1 .room)
+mul-first-2 c =
+    omega (
+      arith,
+      on (c .before .before .before .before .before),
+      c .before .before .before .before .before .pre .1 .room,
+    )
 
 slice-read-first : tie.Need-slice-read-first
-slice-read-first c = omega (arith, on (c .before .before .before .before .before .before), c .before .before .before .before .before .before .pre .1 .room)
+slice-read-first c =
+    omega (
+      arith,
+      on (c .before .before .before .before .before .before),
+      c .before .before .before .before .before .before .pre .1 .room,
+    )
 
 add-first-2 : tie.Need-add-first-2
 add-first-2 c = search needs
@@ -75,14 +91,20 @@ slice-aggregate-place-donors c =
 
 place-donors-requires : tie.Need-place-donors-requires
 place-donors-requires c κs =
-    rw (listed-first (c .before .before .before .donors-of .ensures)) (fitting ((start (else1 (c .before .before .before))) .pre .0) ((start (else1 (c .before .before .before))) .pre .1))
+    rw (listed-first (c .before .before .before .donors-of .ensures))
+    (fitting ((start (else1 (c .before .before .before))) .pre .0)
+    ((start (else1 (c .before .before .before))) .pre .1))
 
 same-length : tie.Need-same-length
 same-length c = search needs
 
 returns-2 : tie.Need-returns-2
 returns-2 c =
-    rw (c .before .before .place-donors .ensures, listed-first (c .before .before .before .before .before .before .donors-of .ensures)) (donors-placed ((start (else1 (c .before .before .before .before .before .before))) .pre .0) ((start (else1 (c .before .before .before .before .before .before))) .pre .1))
+    rw (
+      c .before .before .place-donors .ensures,
+      listed-first (c .before .before .before .before .before .before .donors-of .ensures),
+    ) (donors-placed ((start (else1 (c .before .before .before .before .before .before))) .pre .0)
+    ((start (else1 (c .before .before .before .before .before .before))) .pre .1))
 
 pub place-upstream-spec : {M : Type 1} → statement M
 place-upstream-spec =

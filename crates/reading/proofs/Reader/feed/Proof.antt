@@ -15,7 +15,9 @@ at reader line dirs = record { reader = reader; line = line; dirs = dirs }
 
 -- what is still to be fed gives what the whole chunk gives
 abbrev Inv-loop : tie.InvT-loop
-Inv-loop chunk line₀ dirs₀ reader₀ i₀ line dirs reader i = (feedAll (at reader line dirs) (drop i chunk) ≡ feedAll (at reader₀ line₀ dirs₀) chunk) × (length dirs ≡ length dirs₀)
+Inv-loop chunk line₀ dirs₀ reader₀ i₀ line dirs reader i =
+    (feedAll (at reader line dirs) (drop i chunk) ≡ feedAll (at reader₀ line₀ dirs₀) chunk) ×
+    (length dirs ≡ length dirs₀)
 
 abbrev μ-loop : tie.MeasureT-loop
 μ-loop chunk line₀ dirs₀ reader₀ i₀ line dirs reader i = length chunk - i
@@ -43,7 +45,9 @@ loop-again : tie.Need-loop-again Inv-loop μ-loop
 loop-again c =
     let l = c .before .before .before .before .before .before .before .loop in
     let chunk = (start (c .before .before .before .before .before .before .before)) .args .chunk .now in (
-      ap (λ (x : Reading). feedAll x (drop (l .i + 1) chunk)) (c .before .before .feed-byte .ensures) ∙ feed-turn (at (l .reader) (l .line) (l .dirs)) chunk (l .i) (c .before .before .before .before .before .before .loop-test .taken) ∙ l .inv .0,
+      ap (λ (x : Reading). feedAll x (drop (l .i + 1) chunk)) (c .before .before .feed-byte .ensures) ∙ feed-turn
+          (at (l .reader) (l .line) (l .dirs)) chunk (l .i)
+          (c .before .before .before .before .before .before .loop-test .taken) ∙ l .inv .0,
       c .before .before .feed-byte .kept .1 .1 .1 .0 ∙ l .inv .1,
     )
 

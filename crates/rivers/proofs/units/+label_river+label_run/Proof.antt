@@ -67,26 +67,40 @@ run-calls t = (
 )
 
 -- Points of the function, each from a later one.
-abbrev river-start : (t : ℕ) → label-river-lts.After-label-run (river-calls t) (label-river-at t) label-river.Post → label-river-lts.Start (river-calls t) (label-river-at t) label-river.Post
+abbrev river-start : (t : ℕ) → label-river-lts.After-label-run (river-calls t) (label-river-at t) label-river.Post
+    → label-river-lts.Start (river-calls t) (label-river-at t) label-river.Post
 river-start t c = c .before .before .before .before .before .before .before
 
 river-mul-end : (t : ℕ) → label-river-lts.Need-mul-end (river-calls t) (label-river-at t) label-river.Post
 river-mul-end t c = omega arith
 
-river-shared-slice-read-end : (t : ℕ) → label-river-lts.Need-shared-slice-read-end (river-calls t) (label-river-at t) label-river.Post
-river-shared-slice-read-end t c = omega (arith, c .before .before .before .before .before .pre .1 .1 .1 .0 .for-areas .sized)
+river-shared-slice-read-end : (t : ℕ)
+    → label-river-lts.Need-shared-slice-read-end (river-calls t) (label-river-at t) label-river.Post
+river-shared-slice-read-end t c =
+    omega (arith, c .before .before .before .before .before .pre .1 .1 .1 .0 .for-areas .sized)
 
 river-cast-end : (t : ℕ) → label-river-lts.Need-cast-end (river-calls t) (label-river-at t) label-river.Post
 river-cast-end t c = omega (arith, c .shared-slice-known4 .given (c .before .before .before .before .before .args .j))
 
 river-add-end : (t : ℕ) → label-river-lts.Need-add-end (river-calls t) (label-river-at t) label-river.Post
-river-add-end t c = omega (arith, c .before .before .before .before .before .pre .1 .1 .1 .0 .for-areas .within (c .before .before .before .before .before .args .j) (c .before .before .before .before .before .pre .1 .0))
+river-add-end t c =
+    omega (
+      arith,
+      c .before .before .before .before .before .pre .1 .1 .1 .0 .for-areas .within
+          (c .before .before .before .before .before .args .j) (c .before .before .before .before .before .pre .1 .0),
+    )
 
-river-label-run-requires : (t : ℕ) → label-river-lts.Need-label-run-requires (river-calls t) (label-river-at t) label-river.Post
+river-label-run-requires : (t : ℕ)
+    → label-river-lts.Need-label-run-requires (river-calls t) (label-river-at t) label-river.Post
 river-label-run-requires t c κs =
     let s = c .before .before .before .before .before .before in
-    let y = s .pre .1 .1 .1 .0 in
-    (rw (← s .pre .0) (measure-length _ (omega arith)), (river-unit (y .for-areas) (s .pre .1 .1 .0) (s .args .j) (s .pre .1 .0), (y, s .pre .1 .1 .1 .1)))
+    let y = s .pre .1 .1 .1 .0 in (
+      rw (← s .pre .0) (measure-length _ (omega arith)),
+      (
+        river-unit (y .for-areas) (s .pre .1 .1 .0) (s .args .j) (s .pre .1 .0),
+        (y, s .pre .1 .1 .1 .1),
+      ),
+    )
 
 river-same-length : (t : ℕ) → label-river-lts.Need-same-length (river-calls t) (label-river-at t) label-river.Post
 river-same-length t c = c .before .before .label-run .kept .1 .1 .1 .1 .1 .1 .1 .1 .1 .0
@@ -95,50 +109,65 @@ river-returns : (t : ℕ) → label-river-lts.Need-returns (river-calls t) (labe
 unfolding river-unit
 river-returns t c =
     let s = (river-start t (c .before .before)) in
-    λ n p. c .before .before .label-run .ensures (river-unit (s .pre .1 .1 .1 .0 .for-areas) n (s .args .j) (s .pre .1 .0)) p
+    λ n p. c .before .before .label-run .ensures
+    (river-unit (s .pre .1 .1 .1 .0 .for-areas) n (s .args .j) (s .pre .1 .0)) p
 
 abbrev Inv : label-run-lts.InvT-loop
 Inv lo hi end digits prefix rule cell size area labels₀ key left digit₀ start₀ j₀ labels digit start j =
     (length labels ≡ length labels₀)
     × ((u : UnitAt cell size area (rule .split) (rule .least) end lo hi) (p : Prefix prefix digits)
-    → Progress (u .of .network) (u .run) cell size end hi left (p .gathered) (unitLabelled (u .of .network) (u .run) digits (p .gathered) labels₀) labels digit start j)
+    → Progress (u .of .network) (u .run) cell size end hi left (p .gathered)
+    (unitLabelled (u .of .network) (u .run) digits (p .gathered) labels₀) labels digit start j)
 
 abbrev μ : label-run-lts.MeasureT-loop
 μ lo hi end digits prefix rule cell size area labels₀ key left digit₀ start₀ j₀ labels digit start j = hi - j
 
 -- Points of the function, each from a later one.
-abbrev run-start-of-then1 : (t : ℕ) → label-run-lts.Then1 (run-calls t) (label-run-at t) label-run.Post Inv μ → label-run-lts.Start (run-calls t) (label-run-at t) label-run.Post Inv μ
+abbrev run-start-of-then1 : (t : ℕ) → label-run-lts.Then1 (run-calls t) (label-run-at t) label-run.Post Inv μ
+    → label-run-lts.Start (run-calls t) (label-run-at t) label-run.Post Inv μ
 run-start-of-then1 t c = c .before .before .before .before .before
 
-abbrev run-start-of-else1 : (t : ℕ) → label-run-lts.Else1 (run-calls t) (label-run-at t) label-run.Post Inv μ → label-run-lts.Start (run-calls t) (label-run-at t) label-run.Post Inv μ
+abbrev run-start-of-else1 : (t : ℕ) → label-run-lts.Else1 (run-calls t) (label-run-at t) label-run.Post Inv μ
+    → label-run-lts.Start (run-calls t) (label-run-at t) label-run.Post Inv μ
 run-start-of-else1 t c = c .before .before .before .before .before
 
-abbrev run-else1 : (t : ℕ) → label-run-lts.At-loop (run-calls t) (label-run-at t) label-run.Post Inv μ → label-run-lts.Else1 (run-calls t) (label-run-at t) label-run.Post Inv μ
+abbrev run-else1 : (t : ℕ) → label-run-lts.At-loop (run-calls t) (label-run-at t) label-run.Post Inv μ
+    → label-run-lts.Else1 (run-calls t) (label-run-at t) label-run.Post Inv μ
 run-else1 t c = c .before .before .before
 
-abbrev run-at-loop : (t : ℕ) → label-run-lts.In-loop (run-calls t) (label-run-at t) label-run.Post Inv μ → label-run-lts.At-loop (run-calls t) (label-run-at t) label-run.Post Inv μ
+abbrev run-at-loop : (t : ℕ) → label-run-lts.In-loop (run-calls t) (label-run-at t) label-run.Post Inv μ
+    → label-run-lts.At-loop (run-calls t) (label-run-at t) label-run.Post Inv μ
 run-at-loop t c = c .before
 
-abbrev run-in-loop : (t : ℕ) → label-run-lts.Else4 (run-calls t) (label-run-at t) label-run.Post Inv μ → label-run-lts.In-loop (run-calls t) (label-run-at t) label-run.Post Inv μ
+abbrev run-in-loop : (t : ℕ) → label-run-lts.Else4 (run-calls t) (label-run-at t) label-run.Post Inv μ
+    → label-run-lts.In-loop (run-calls t) (label-run-at t) label-run.Post Inv μ
 run-in-loop t c = c .before .before .before .before
 
-abbrev run-else4 : (t : ℕ) → label-run-lts.After-with-digit (run-calls t) (label-run-at t) label-run.Post Inv μ → label-run-lts.Else4 (run-calls t) (label-run-at t) label-run.Post Inv μ
+abbrev run-else4 : (t : ℕ) → label-run-lts.After-with-digit (run-calls t) (label-run-at t) label-run.Post Inv μ
+    → label-run-lts.Else4 (run-calls t) (label-run-at t) label-run.Post Inv μ
 run-else4 t c = c .before
 
-abbrev run-after-with-digit : (t : ℕ) → label-run-lts.After-label-run (run-calls t) (label-run-at t) label-run.Post Inv μ → label-run-lts.After-with-digit (run-calls t) (label-run-at t) label-run.Post Inv μ
+abbrev run-after-with-digit : (t : ℕ)
+    → label-run-lts.After-label-run (run-calls t)
+    (label-run-at t) label-run.Post Inv μ → label-run-lts.After-with-digit (run-calls t)
+    (label-run-at t) label-run.Post Inv μ
 run-after-with-digit t c = c .before .before
 
 run-fill-requires : (t : ℕ) → label-run-lts.Need-fill-requires (run-calls t) (label-run-at t) label-run.Post Inv μ
 run-fill-requires t c κs =
-    let s = c .before .before .before .before .before .before in (omega (arith, s .pre .1 .0 .before-end, s .pre .1 .0 .end-within), s .pre .1 .1 .0 .for-labels .on)
+    let s = c .before .before .before .before .before .before in
+    (omega (arith, s .pre .1 .0 .before-end, s .pre .1 .0 .end-within), s .pre .1 .1 .0 .for-labels .on)
 
 run-same-length : (t : ℕ) → label-run-lts.Need-same-length (run-calls t) (label-run-at t) label-run.Post Inv μ
 run-same-length t c = c .before .before .fill .kept .1 .1 .1 .1 .0
 
 run-returns : (t : ℕ) → label-run-lts.Need-returns (run-calls t) (label-run-at t) label-run.Post Inv μ
-run-returns t c = λ u p. filled-zero ((run-start-of-then1 t (c .before .before .before .before)) .pre .1 .1 .0 .for-labels) u p _ (c .before .before .fill .ensures) (c .before .before .before .before .if1 .taken)
+run-returns t c =
+    λ u p. filled-zero ((run-start-of-then1 t (c .before .before .before .before)) .pre .1 .1 .0 .for-labels) u p _
+    (c .before .before .fill .ensures) (c .before .before .before .before .if1 .taken)
 
-run-heaviest-requires : (t : ℕ) → label-run-lts.Need-heaviest-requires (run-calls t) (label-run-at t) label-run.Post Inv μ
+run-heaviest-requires : (t : ℕ)
+    → label-run-lts.Need-heaviest-requires (run-calls t) (label-run-at t) label-run.Post Inv μ
 run-heaviest-requires t c κs =
     let s = c .before .before .before .before .before in
     let y = s .pre .1 .1 .0 in
@@ -146,34 +175,59 @@ run-heaviest-requires t c κs =
 
 run-fill-requires-2 : (t : ℕ) → label-run-lts.Need-fill-requires-2 (run-calls t) (label-run-at t) label-run.Post Inv μ
 run-fill-requires-2 t c κs =
-    let s = (run-start-of-else1 t (c .before .before .before)) in (omega (arith, s .pre .1 .0 .before-end, s .pre .1 .0 .end-within), s .pre .1 .1 .0 .for-labels .on)
+    let s = (run-start-of-else1 t (c .before .before .before)) in
+    (omega (arith, s .pre .1 .0 .before-end, s .pre .1 .0 .end-within), s .pre .1 .1 .0 .for-labels .on)
 
 run-same-length-2 : (t : ℕ) → label-run-lts.Need-same-length-2 (run-calls t) (label-run-at t) label-run.Post Inv μ
 run-same-length-2 t c = c .before .before .fill2 .kept .1 .1 .1 .1 .0
 
 run-returns-2 : (t : ℕ) → label-run-lts.Need-returns-2 (run-calls t) (label-run-at t) label-run.Post Inv μ
 run-returns-2 t c =
-    λ u p. filled-finished ((run-start-of-else1 t (c .before .before .before .before .before .before)) .pre .1 .1 .0 .for-labels) u p _ (c .before .before .fill2 .ensures) (c .before .before .before .before .before .heaviest .ensures u .finishes ∙ c .before .before .before .before .if2 .taken)
+    λ u p. filled-finished
+    ((run-start-of-else1 t (c .before .before .before .before .before .before)) .pre .1 .1 .0 .for-labels) u p _
+    (c .before .before .fill2 .ensures)
+    (c .before .before .before .before .before .heaviest .ensures u .finishes ∙ c .before .before .before .before .if2 .taken)
 
 run-sub-left : (t : ℕ) → label-run-lts.Need-sub-left (run-calls t) (label-run-at t) label-run.Post Inv μ
 run-sub-left t c = omega (arith, c .before .before .if1 .left)
 
 run-loop-holds : (t : ℕ) → label-run-lts.Need-loop-holds (run-calls t) (label-run-at t) label-run.Post Inv μ
-run-loop-holds t c =
-    (refl, λ u p. progress-none (c .before .before .before .before .before .before .before .pre .1 .1 .0 .for-areas) u (c .before .before .if1 .left) (c .before .heaviest .ensures u .finishes ∙ c .if2 .left) (c .before .before .before .before .before .before .before .pre .1 .1 .0 .split-most))
+run-loop-holds t c = (
+  refl,
+  λ u p. progress-none (c .before .before .before .before .before .before .before .pre .1 .1 .0 .for-areas) u
+      (c .before .before .if1 .left) (c .before .heaviest .ensures u .finishes ∙ c .if2 .left)
+      (c .before .before .before .before .before .before .before .pre .1 .1 .0 .split-most),
+)
 
 -- the position is within the layout, and so is its subtree
-on : (t : ℕ) (c : label-run-lts.In-loop (run-calls t) (label-run-at t) label-run.Post Inv μ) → c .before .loop .j < length ((run-start-of-else1 t (run-else1 t (run-at-loop t c))) .args .cell .now)
-on t c = omega (arith, (run-start-of-else1 t (run-else1 t (run-at-loop t c))) .pre .1 .0 .before-end, (run-start-of-else1 t (run-else1 t (run-at-loop t c))) .pre .1 .0 .end-within, c .loop-test .taken)
+on : (t : ℕ) (c : label-run-lts.In-loop (run-calls t) (label-run-at t) label-run.Post Inv μ)
+    → c .before .loop .j < length ((run-start-of-else1 t (run-else1 t (run-at-loop t c))) .args .cell .now)
+on t c =
+    omega (
+      arith,
+      (run-start-of-else1 t (run-else1 t (run-at-loop t c))) .pre .1 .0 .before-end,
+      (run-start-of-else1 t (run-else1 t (run-at-loop t c))) .pre .1 .0 .end-within,
+      c .loop-test .taken,
+    )
 
-within : (t : ℕ) (c : label-run-lts.In-loop (run-calls t) (label-run-at t) label-run.Post Inv μ) → c .before .loop .j + getD ((run-start-of-else1 t (run-else1 t (run-at-loop t c))) .args .size .now) (c .before .loop .j) 0 ≤ length ((run-start-of-else1 t (run-else1 t (run-at-loop t c))) .args .cell .now)
-within t c = (run-start-of-else1 t (run-else1 t (run-at-loop t c))) .pre .1 .1 .0 .for-areas .within (c .before .loop .j) (on t c)
+within : (t : ℕ) (c : label-run-lts.In-loop (run-calls t) (label-run-at t) label-run.Post Inv μ)
+    → c .before .loop .j + getD ((run-start-of-else1 t (run-else1 t (run-at-loop t c))) .args .size .now)
+    (c .before .loop .j) 0 ≤ length ((run-start-of-else1 t (run-else1 t (run-at-loop t c))) .args .cell .now)
+within t c =
+    (run-start-of-else1 t (run-else1 t (run-at-loop t c))) .pre .1 .1 .0 .for-areas .within (c .before .loop .j)
+    (on t c)
 
 run-mul-s : (t : ℕ) → label-run-lts.Need-mul-s (run-calls t) (label-run-at t) label-run.Post Inv μ
 run-mul-s t c = omega (arith, on t c)
 
-run-shared-slice-read-s : (t : ℕ) → label-run-lts.Need-shared-slice-read-s (run-calls t) (label-run-at t) label-run.Post Inv μ
-run-shared-slice-read-s t c = omega (arith, on t (c .before), (run-start-of-else1 t (run-else1 t (run-at-loop t (c .before)))) .pre .1 .1 .0 .for-areas .sized)
+run-shared-slice-read-s : (t : ℕ)
+    → label-run-lts.Need-shared-slice-read-s (run-calls t) (label-run-at t) label-run.Post Inv μ
+run-shared-slice-read-s t c =
+    omega (
+      arith,
+      on t (c .before),
+      (run-start-of-else1 t (run-else1 t (run-at-loop t (c .before)))) .pre .1 .1 .0 .for-areas .sized,
+    )
 
 run-cast-s : (t : ℕ) → label-run-lts.Need-cast-s (run-calls t) (label-run-at t) label-run.Post Inv μ
 run-cast-s t c = omega (arith, c .shared-slice-known4 .given (c .before .before .loop .j))
@@ -188,55 +242,103 @@ run-loop-less : (t : ℕ) → label-run-lts.Need-loop-less (run-calls t) (label-
 run-loop-less t c = omega (arith, c .before .before .loop-test .taken)
 
 run-loop-again : (t : ℕ) → label-run-lts.Need-loop-again (run-calls t) (label-run-at t) label-run.Post Inv μ
-run-loop-again t c =
-    (c .before .before .before .loop .inv .0, λ u p. progress-stem ((run-start-of-else1 t (run-else1 t (run-at-loop t (c .before .before)))) .pre .1 .1 .0 .for-areas) u (c .before .before .loop-test .taken) (c .if3 .taken) (c .before .before .before .loop .inv .1 u p))
+run-loop-again t c = (
+  c .before .before .before .loop .inv .0,
+  λ u p. progress-stem
+      ((run-start-of-else1 t (run-else1 t (run-at-loop t (c .before .before)))) .pre .1 .1 .0 .for-areas) u
+      (c .before .before .loop-test .taken) (c .if3 .taken) (c .before .before .before .loop .inv .1 u p),
+)
 
 run-key-at-requires : (t : ℕ) → label-run-lts.Need-key-at-requires (run-calls t) (label-run-at t) label-run.Post Inv μ
-run-key-at-requires t c κs = (on t (c .before .before), (run-start-of-else1 t (run-else1 t (run-at-loop t (c .before .before)))) .pre .1 .1 .0 .for-areas .on (c .before .before .before .loop .j) (on t (c .before .before)))
+run-key-at-requires t c κs = (
+  on t (c .before .before),
+  (run-start-of-else1 t (run-else1 t (run-at-loop t (c .before .before)))) .pre .1 .1 .0 .for-areas .on
+      (c .before .before .before .loop .j) (on t (c .before .before)),
+)
 
 run-add-j-2 : (t : ℕ) → label-run-lts.Need-add-j-2 (run-calls t) (label-run-at t) label-run.Post Inv μ
 run-add-j-2 t c = omega (arith, within t (c .before .before .before .before))
 
 run-loop-less-2 : (t : ℕ) → label-run-lts.Need-loop-less-2 (run-calls t) (label-run-at t) label-run.Post Inv μ
-run-loop-less-2 t c = omega (arith, c .before .before .before .before .loop-test .taken, (run-start-of-else1 t (run-else1 t (run-at-loop t (c .before .before .before .before)))) .pre .1 .1 .0 .for-areas .some (c .before .before .before .before .before .loop .j) (on t (c .before .before .before .before)))
+run-loop-less-2 t c =
+    omega (
+      arith,
+      c .before .before .before .before .loop-test .taken,
+      (run-start-of-else1 t
+          (run-else1 t (run-at-loop t (c .before .before .before .before)))) .pre .1 .1 .0 .for-areas .some
+          (c .before .before .before .before .before .loop .j) (on t (c .before .before .before .before)),
+    )
 
 run-loop-again-2 : (t : ℕ) → label-run-lts.Need-loop-again-2 (run-calls t) (label-run-at t) label-run.Post Inv μ
 run-loop-again-2 t c = (
   c .before .before .before .before .before .loop .inv .0,
   λ u p.
-      progress-skip ((run-start-of-else1 t (run-else1 t (run-at-loop t (c .before .before .before .before)))) .pre .1 .1 .0 .for-areas) u (c .before .before .before .before .before .before .before .heaviest .ensures u) (c .before .before .before .before .loop-test .taken) (c .before .before .if3 .left) (c .before .key-at .ensures) (c .before .before .before .before .before .loop .inv .1 u p) (c .if4 .taken),
+      progress-skip
+      ((run-start-of-else1 t
+      (run-else1 t (run-at-loop t (c .before .before .before .before)))) .pre .1 .1 .0 .for-areas) u
+      (c .before .before .before .before .before .before .before .heaviest .ensures u)
+      (c .before .before .before .before .loop-test .taken) (c .before .before .if3 .left) (c .before .key-at .ensures) (c .before .before .before .before .before .loop .inv .1 u p) (c .if4 .taken),
 )
 
 -- at a mouth that is taken: the digits of the run before it and of its tributary, and that run
-taking-least : (t : ℕ) (c : label-run-lts.Else4 (run-calls t) (label-run-at t) label-run.Post Inv μ) → 1 ≤ c .before .before .before .before .before .loop .digit
-taking-least t c = let s = (run-start-of-else1 t (run-else1 t (run-at-loop t (run-in-loop t c)))) .pre .1 in omega (arith, c .before .before .before .before .before .loop .inv .1 (s .0) (s .1 .1) .digit-is)
+taking-least : (t : ℕ) (c : label-run-lts.Else4 (run-calls t) (label-run-at t) label-run.Post Inv μ)
+    → 1 ≤ c .before .before .before .before .before .loop .digit
+taking-least t c =
+    let s = (run-start-of-else1 t (run-else1 t (run-at-loop t (run-in-loop t c)))) .pre .1 in
+    omega (arith, c .before .before .before .before .before .loop .inv .1 (s .0) (s .1 .1) .digit-is)
 
-taking-most : (t : ℕ) (c : label-run-lts.Else4 (run-calls t) (label-run-at t) label-run.Post Inv μ) → c .before .before .before .before .before .loop .digit + 2 ≤ 9
+taking-most : (t : ℕ) (c : label-run-lts.Else4 (run-calls t) (label-run-at t) label-run.Post Inv μ)
+    → c .before .before .before .before .before .loop .digit + 2 ≤ 9
 taking-most t c =
     let s = (run-start-of-else1 t (run-else1 t (run-at-loop t (run-in-loop t c)))) .pre .1 in
-    progress-room (s .1 .0 .for-areas) (s .0) (c .before .before .before .before .before .before .before .heaviest .ensures (s .0)) (c .before .before .before .before .loop-test .taken) (c .before .before .if3 .left) (c .before .key-at .ensures) (c .before .before .before .before .before .loop .inv .1 (s .0) (s .1 .1)) (c .if4 .left)
+    progress-room (s .1 .0 .for-areas) (s .0)
+    (c .before .before .before .before .before .before .before .heaviest .ensures (s .0))
+    (c .before .before .before .before .loop-test .taken) (c .before .before .if3 .left) (c .before .key-at .ensures)
+    (c .before .before .before .before .before .loop .inv .1 (s .0) (s .1 .1)) (c .if4 .left)
 
 taking-unit : (t : ℕ) (c : label-run-lts.Else4 (run-calls t) (label-run-at t) label-run.Post Inv μ)
-    → UnitAt ((run-start-of-else1 t (run-else1 t (run-at-loop t (run-in-loop t c)))) .args .cell .now) ((run-start-of-else1 t (run-else1 t (run-at-loop t (run-in-loop t c)))) .args .size .now) ((run-start-of-else1 t (run-else1 t (run-at-loop t (run-in-loop t c)))) .args .area .now) ((run-start-of-else1 t (run-else1 t (run-at-loop t (run-in-loop t c)))) .args .rule .split) ((run-start-of-else1 t (run-else1 t (run-at-loop t (run-in-loop t c)))) .args .rule .least) ((run-start-of-else1 t (run-else1 t (run-at-loop t (run-in-loop t c)))) .args .end) (c .before .before .before .before .before .loop .start) (c .before .before .before .before .before .loop .j)
+    → UnitAt ((run-start-of-else1 t (run-else1 t (run-at-loop t (run-in-loop t c)))) .args .cell .now)
+    ((run-start-of-else1 t (run-else1 t (run-at-loop t (run-in-loop t c)))) .args .size .now)
+    ((run-start-of-else1 t (run-else1 t (run-at-loop t (run-in-loop t c)))) .args .area .now)
+    ((run-start-of-else1 t (run-else1 t (run-at-loop t (run-in-loop t c)))) .args .rule .split)
+    ((run-start-of-else1 t (run-else1 t (run-at-loop t (run-in-loop t c)))) .args .rule .least)
+    ((run-start-of-else1 t (run-else1 t (run-at-loop t (run-in-loop t c)))) .args .end)
+    (c .before .before .before .before .before .loop .start) (c .before .before .before .before .before .loop .j)
 taking-unit t c =
     let s = (run-start-of-else1 t (run-else1 t (run-at-loop t (run-in-loop t c)))) .pre .1 in
-    progress-unit (s .1 .0 .for-areas) (s .0) (c .before .before .before .before .before .before .before .heaviest .ensures (s .0)) (c .before .before .before .before .loop-test .taken) (c .before .before .if3 .left) (c .before .key-at .ensures) (c .before .before .before .before .before .loop .inv .1 (s .0) (s .1 .1)) (c .if4 .left)
+    progress-unit (s .1 .0 .for-areas) (s .0)
+    (c .before .before .before .before .before .before .before .heaviest .ensures (s .0))
+    (c .before .before .before .before .loop-test .taken) (c .before .before .if3 .left) (c .before .key-at .ensures)
+    (c .before .before .before .before .before .loop .inv .1 (s .0) (s .1 .1)) (c .if4 .left)
 
-run-with-digit-requires : (t : ℕ) → label-run-lts.Need-with-digit-requires (run-calls t) (label-run-at t) label-run.Post Inv μ
-run-with-digit-requires t c κs = (prefix-one ((run-start-of-else1 t (run-else1 t (run-at-loop t (run-in-loop t c)))) .pre .1 .1 .1) ((run-else1 t (run-at-loop t (run-in-loop t c))) .if1 .left), (taking-least t c, omega (arith, taking-most t c)))
+run-with-digit-requires : (t : ℕ)
+    → label-run-lts.Need-with-digit-requires (run-calls t) (label-run-at t) label-run.Post Inv μ
+run-with-digit-requires t c κs = (
+  prefix-one ((run-start-of-else1 t (run-else1 t (run-at-loop t (run-in-loop t c)))) .pre .1 .1 .1)
+      ((run-else1 t (run-at-loop t (run-in-loop t c))) .if1 .left),
+  (
+    taking-least t c,
+    omega (arith, taking-most t c),
+  ),
+)
 
-run-label-run-requires : (t : ℕ) → label-run-lts.Need-label-run-requires (run-calls t) (label-run-at t) label-run.Post Inv μ
+run-label-run-requires : (t : ℕ)
+    → label-run-lts.Need-label-run-requires (run-calls t) (label-run-at t) label-run.Post Inv μ
 run-label-run-requires t c κs =
     let s = (run-start-of-else1 t (run-else1 t (run-at-loop t (run-in-loop t (run-else4 t (c .before)))))) in
     let p = s .pre .1 .1 .1 in
     let d = (run-else1 t (run-at-loop t (run-in-loop t (run-else4 t (c .before))))) .if1 .left in
     let e = c .before .before in (
-      rw (← s .pre .0) (measure-digit _ _ _ _ (omega (arith, d)) (omega (arith, on t (c .before .before .before .before .before .before)))),
+      rw (← s .pre .0) (measure-digit _ _ _ _ (omega (arith, d)) (omega (
+        arith,
+        on t (c .before .before .before .before .before .before),
+      ))),
       (
         taking-unit t e,
         (
           places-at (c .before .before .before .before .before .before .before .loop .inv .0) (s .pre .1 .1 .0),
-          prefix-more p (omega (arith, d)) (taking-least t e) (omega (arith, taking-most t e)) (c .before .with-digit .ensures (p .gathered) (p .held)),
+          prefix-more p (omega (arith, d)) (taking-least t e) (omega (arith, taking-most t e))
+              (c .before .with-digit .ensures (p .gathered) (p .held)),
         ),
       ),
     )
@@ -244,77 +346,148 @@ run-label-run-requires t c κs =
 run-add-with-digit : (t : ℕ) → label-run-lts.Need-add-with-digit (run-calls t) (label-run-at t) label-run.Post Inv μ
 run-add-with-digit t c = omega (arith, taking-most t (c .before .before .before .before .before))
 
-run-with-digit-requires-2 : (t : ℕ) → label-run-lts.Need-with-digit-requires-2 (run-calls t) (label-run-at t) label-run.Post Inv μ
-run-with-digit-requires-2 t c κs =
-    (prefix-one ((run-start-of-else1 t (run-else1 t (run-at-loop t (run-in-loop t (run-else4 t (run-after-with-digit t (c .before .before))))))) .pre .1 .1 .1) ((run-else1 t (run-at-loop t (run-in-loop t (run-else4 t (run-after-with-digit t (c .before .before)))))) .if1 .left), (omega (arith, taking-least t (c .before .before .before .before .before)), omega (arith, taking-most t (c .before .before .before .before .before))))
+run-with-digit-requires-2 : (t : ℕ)
+    → label-run-lts.Need-with-digit-requires-2 (run-calls t) (label-run-at t) label-run.Post Inv μ
+run-with-digit-requires-2 t c κs = (
+  prefix-one
+      ((run-start-of-else1 t
+      (run-else1 t (run-at-loop t (run-in-loop t (run-else4 t (run-after-with-digit t (c .before .before))))))) .pre .1 .1 .1) ((run-else1 t (run-at-loop t (run-in-loop t (run-else4 t (run-after-with-digit t (c .before .before)))))) .if1 .left),
+  (
+    omega (arith, taking-least t (c .before .before .before .before .before)),
+    omega (arith, taking-most t (c .before .before .before .before .before)),
+  ),
+)
 
-run-label-river-requires : (t : ℕ) → label-run-lts.Need-label-river-requires (run-calls t) (label-run-at t) label-run.Post Inv μ
+run-label-river-requires : (t : ℕ)
+    → label-run-lts.Need-label-river-requires (run-calls t) (label-run-at t) label-run.Post Inv μ
 run-label-river-requires t c κs =
-    let s = (run-start-of-else1 t (run-else1 t (run-at-loop t (run-in-loop t (run-else4 t (run-after-with-digit t (c .before .before .before .before))))))) in
+    let s = (run-start-of-else1 t
+    (run-else1 t
+    (run-at-loop t (run-in-loop t (run-else4 t (run-after-with-digit t (c .before .before .before .before))))))) in
     let p = s .pre .1 .1 .1 in
-    let d = (run-else1 t (run-at-loop t (run-in-loop t (run-else4 t (run-after-with-digit t (c .before .before .before .before)))))) .if1 .left in
+    let d = (run-else1 t
+    (run-at-loop t
+    (run-in-loop t (run-else4 t (run-after-with-digit t (c .before .before .before .before)))))) .if1 .left in
     let e = c .before .before .before .before .before .before .before in (
-      rw (← s .pre .0) (measure-digit _ _ _ _ (omega (arith, d)) (omega (arith, within t ((run-in-loop t (run-else4 t (run-after-with-digit t (c .before .before .before .before)))))))),
+      rw (← s .pre .0) (measure-digit _ _ _ _ (omega (arith, d)) (omega (
+        arith,
+        within t ((run-in-loop t (run-else4 t (run-after-with-digit t (c .before .before .before .before))))),
+      ))),
       (
         on t ((run-in-loop t (run-else4 t (run-after-with-digit t (c .before .before .before .before))))),
         (
           s .pre .1 .0 .of,
           (
-            places-at (c .before .before .before .before .label-run .kept .1 .1 .1 .1 .1 .1 .1 .1 .1 .0 ∙ (run-at-loop t (run-in-loop t (run-else4 t (run-after-with-digit t (c .before .before .before .before))))) .loop .inv .0) (s .pre .1 .1 .0),
-            prefix-more p (omega (arith, d)) (omega (arith, taking-least t e)) (omega (arith, taking-most t e)) (c .before .with-digit2 .ensures (p .gathered) (p .held)),
+            places-at
+                (c .before .before .before .before .label-run .kept .1 .1 .1 .1 .1 .1 .1 .1 .1 .0 ∙
+                (run-at-loop t
+                (run-in-loop t (run-else4 t (run-after-with-digit t (c .before .before .before .before))))) .loop .inv .0) (s .pre .1 .1 .0),
+            prefix-more p (omega (arith, d)) (omega (arith, taking-least t e)) (omega (arith, taking-most t e))
+                (c .before .with-digit2 .ensures (p .gathered) (p .held)),
           ),
         ),
       ),
     )
 
 run-add-digit : (t : ℕ) → label-run-lts.Need-add-digit (run-calls t) (label-run-at t) label-run.Post Inv μ
-run-add-digit t c = omega (arith, taking-most t ((run-else4 t (run-after-with-digit t (c .before .before .before .before .before .before .before)))))
+run-add-digit t c =
+    omega (
+      arith,
+      taking-most t
+          ((run-else4 t (run-after-with-digit t (c .before .before .before .before .before .before .before)))),
+    )
 
 run-add-j-3 : (t : ℕ) → label-run-lts.Need-add-j-3 (run-calls t) (label-run-at t) label-run.Post Inv μ
-run-add-j-3 t c = omega (arith, within t ((run-in-loop t (run-else4 t (run-after-with-digit t (c .before .before .before .before .before .before .before))))), (run-start-of-else1 t (run-else1 t (run-at-loop t (run-in-loop t (run-else4 t (run-after-with-digit t (c .before .before .before .before .before .before .before))))))) .good .1 .1 .1 .1 .1 .1 .0)
+run-add-j-3 t c =
+    omega (
+      arith,
+      within t
+          ((run-in-loop t
+          (run-else4 t (run-after-with-digit t (c .before .before .before .before .before .before .before))))),
+      (run-start-of-else1 t
+          (run-else1 t
+          (run-at-loop t (run-in-loop t (run-else4 t (run-after-with-digit t (c .before .before .before .before .before .before .before))))))) .good .1 .1 .1 .1 .1 .1 .0,
+    )
 
 run-loop-less-3 : (t : ℕ) → label-run-lts.Need-loop-less-3 (run-calls t) (label-run-at t) label-run.Post Inv μ
-run-loop-less-3 t c = omega (arith, (run-in-loop t (run-else4 t (run-after-with-digit t (c .before .before .before .before .before .before .before)))) .loop-test .taken, (run-start-of-else1 t (run-else1 t (run-at-loop t (run-in-loop t (run-else4 t (run-after-with-digit t (c .before .before .before .before .before .before .before))))))) .pre .1 .1 .0 .for-areas .some ((run-at-loop t (run-in-loop t (run-else4 t (run-after-with-digit t (c .before .before .before .before .before .before .before))))) .loop .j) (on t ((run-in-loop t (run-else4 t (run-after-with-digit t (c .before .before .before .before .before .before .before)))))))
+run-loop-less-3 t c =
+    omega (
+      arith,
+      (run-in-loop t
+          (run-else4 t
+          (run-after-with-digit t (c .before .before .before .before .before .before .before)))) .loop-test .taken,
+      (run-start-of-else1 t
+          (run-else1 t
+          (run-at-loop t (run-in-loop t (run-else4 t (run-after-with-digit t (c .before .before .before .before .before .before .before))))))) .pre .1 .1 .0 .for-areas .some ((run-at-loop t (run-in-loop t (run-else4 t (run-after-with-digit t (c .before .before .before .before .before .before .before))))) .loop .j) (on t ((run-in-loop t (run-else4 t (run-after-with-digit t (c .before .before .before .before .before .before .before)))))),
+    )
 
 run-loop-again-3 : (t : ℕ) → label-run-lts.Need-loop-again-3 (run-calls t) (label-run-at t) label-run.Post Inv μ
 unfolding prefix-more
 run-loop-again-3 t c =
     let e = (run-else4 t (run-after-with-digit t (c .before .before .before .before .before .before .before))) in
     let d = (run-else1 t (run-at-loop t (run-in-loop t (run-else4 t (run-after-with-digit t (c .before .before .before .before .before .before .before)))))) .if1 .left in (
-      c .before .before .label-river .kept .1 .1 .1 .1 .1 .1 .1 .0 ∙ c .before .before .before .before .before .before .before .label-run .kept .1 .1 .1 .1 .1 .1 .1 .1 .1 .0 ∙ (run-at-loop t (run-in-loop t (run-else4 t (run-after-with-digit t (c .before .before .before .before .before .before .before))))) .loop .inv .0,
+      c .before .before .label-river .kept .1 .1 .1 .1 .1 .1 .1 .0
+          ∙ c .before .before .before .before .before .before .before .label-run .kept .1 .1 .1 .1 .1 .1 .1 .1 .1 .0
+          ∙ (run-at-loop t
+          (run-in-loop t
+          (run-else4 t (run-after-with-digit t (c .before .before .before .before .before .before .before))))) .loop .inv .0,
       λ u p.
-          progress-take ((run-start-of-else1 t (run-else1 t (run-at-loop t (run-in-loop t e)))) .pre .1 .1 .0 .for-areas) u (e .before .before .before .before .before .before .before .heaviest .ensures u) (e .before .before .before .before .loop-test .taken) (e .before .before .if3 .left) (e .before .key-at .ensures) (e .before .before .before .before .before .loop .inv .1 u p) (e .if4 .left)
-          (λ w. c .before .before .before .before .before .before .before .label-run .ensures w (prefix-more p (omega (arith, d)) (taking-least t e) (omega (arith, taking-most t e)) ((run-after-with-digit t (c .before .before .before .before .before .before .before)) .with-digit .ensures (p .gathered) (p .held))))
-          (λ n. c .before .before .label-river .ensures n (prefix-more p (omega (arith, d)) (omega (arith, taking-least t e)) (omega (arith, taking-most t e)) (c .before .before .before .before .with-digit2 .ensures (p .gathered) (p .held)))),
+          progress-take
+          ((run-start-of-else1 t (run-else1 t (run-at-loop t (run-in-loop t e)))) .pre .1 .1 .0 .for-areas) u
+          (e .before .before .before .before .before .before .before .heaviest .ensures u)
+          (e .before .before .before .before .loop-test .taken) (e .before .before .if3 .left)
+          (e .before .key-at .ensures) (e .before .before .before .before .before .loop .inv .1 u p) (e .if4 .left)
+          (λ w. c .before .before .before .before .before .before .before .label-run .ensures w
+          (prefix-more p (omega (arith, d)) (taking-least t e) (omega (arith, taking-most t e))
+          ((run-after-with-digit t (c .before .before .before .before .before .before .before)) .with-digit .ensures (p .gathered) (p .held))))
+          (λ n. c .before .before .label-river .ensures n
+          (prefix-more p (omega (arith, d)) (omega (arith, taking-least t e)) (omega (arith, taking-most t e))
+          (c .before .before .before .before .with-digit2 .ensures (p .gathered) (p .held)))),
     )
 
 -- after the last mouth that is taken
-last-least : (t : ℕ) (c : label-run-lts.After-loop (run-calls t) (label-run-at t) label-run.Post Inv μ) → 1 ≤ c .before .loop .digit
-last-least t c = let s = (run-start-of-else1 t (run-else1 t (c .before))) .pre .1 in omega (arith, c .before .loop .inv .1 (s .0) (s .1 .1) .digit-is)
+last-least : (t : ℕ) (c : label-run-lts.After-loop (run-calls t) (label-run-at t) label-run.Post Inv μ)
+    → 1 ≤ c .before .loop .digit
+last-least t c =
+    let s = (run-start-of-else1 t (run-else1 t (c .before))) .pre .1 in
+    omega (arith, c .before .loop .inv .1 (s .0) (s .1 .1) .digit-is)
 
-last-most : (t : ℕ) (c : label-run-lts.After-loop (run-calls t) (label-run-at t) label-run.Post Inv μ) → c .before .loop .digit ≤ 9
-last-most t c = let s = (run-start-of-else1 t (run-else1 t (c .before))) .pre .1 in progress-last-room (s .1 .0 .for-areas) (s .0) (c .loop-test .left) (c .before .loop .inv .1 (s .0) (s .1 .1))
+last-most : (t : ℕ) (c : label-run-lts.After-loop (run-calls t) (label-run-at t) label-run.Post Inv μ)
+    → c .before .loop .digit ≤ 9
+last-most t c =
+    let s = (run-start-of-else1 t (run-else1 t (c .before))) .pre .1 in
+    progress-last-room (s .1 .0 .for-areas) (s .0) (c .loop-test .left) (c .before .loop .inv .1 (s .0) (s .1 .1))
 
-run-with-digit-requires-3 : (t : ℕ) → label-run-lts.Need-with-digit-requires-3 (run-calls t) (label-run-at t) label-run.Post Inv μ
-run-with-digit-requires-3 t c κs = (prefix-one ((run-start-of-else1 t (run-else1 t (c .before))) .pre .1 .1 .1) (c .before .before .before .before .if1 .left), (last-least t c, last-most t c))
+run-with-digit-requires-3 : (t : ℕ)
+    → label-run-lts.Need-with-digit-requires-3 (run-calls t) (label-run-at t) label-run.Post Inv μ
+run-with-digit-requires-3 t c κs = (
+  prefix-one ((run-start-of-else1 t (run-else1 t (c .before))) .pre .1 .1 .1)
+      (c .before .before .before .before .if1 .left),
+  (last-least t c, last-most t c),
+)
 
-run-label-run-requires-2 : (t : ℕ) → label-run-lts.Need-label-run-requires-2 (run-calls t) (label-run-at t) label-run.Post Inv μ
+run-label-run-requires-2 : (t : ℕ)
+    → label-run-lts.Need-label-run-requires-2 (run-calls t) (label-run-at t) label-run.Post Inv μ
 run-label-run-requires-2 t c κs =
     let s = (run-start-of-else1 t (run-else1 t (c .before .before .before))) in
     let p = s .pre .1 .1 .1 in
     let d = c .before .before .before .before .before .before .if1 .left in (
       rw (← s .pre .0) (measure-digit _ _ _ _ (omega (arith, d)) (omega arith)),
       (
-        progress-last-unit (s .pre .1 .1 .0 .for-areas) (s .pre .1 .0) (c .before .before .loop-test .left) (c .before .before .before .loop .inv .1 (s .pre .1 .0) p),
+        progress-last-unit (s .pre .1 .1 .0 .for-areas) (s .pre .1 .0) (c .before .before .loop-test .left)
+            (c .before .before .before .loop .inv .1 (s .pre .1 .0) p),
         (
           places-at (c .before .before .before .loop .inv .0) (s .pre .1 .1 .0),
-          prefix-more p (omega (arith, d)) (last-least t (c .before .before)) (last-most t (c .before .before)) (c .before .with-digit3 .ensures (p .gathered) (p .held)),
+          prefix-more p (omega (arith, d)) (last-least t (c .before .before)) (last-most t (c .before .before))
+              (c .before .with-digit3 .ensures (p .gathered) (p .held)),
         ),
       ),
     )
 
 run-same-length-3 : (t : ℕ) → label-run-lts.Need-same-length-3 (run-calls t) (label-run-at t) label-run.Post Inv μ
-run-same-length-3 t c = c .before .before .label-run2 .kept .1 .1 .1 .1 .1 .1 .1 .1 .1 .0 ∙ c .before .before .before .before .before .before .loop .inv .0
+run-same-length-3 t c =
+    c .before .before .label-run2 .kept .1 .1 .1 .1 .1 .1 .1 .1 .1 .0
+    ∙ c .before .before .before .before .before .before .loop .inv .0
 
 run-returns-3 : (t : ℕ) → label-run-lts.Need-returns-3 (run-calls t) (label-run-at t) label-run.Post Inv μ
 unfolding prefix-more
@@ -322,8 +495,13 @@ run-returns-3 t c =
     let e = c .before .before .before .before .before in
     let d = (run-else1 t (c .before .before .before .before .before .before)) .if1 .left in
     λ u p.
-    progress-last ((run-start-of-else1 t (run-else1 t (c .before .before .before .before .before .before))) .pre .1 .1 .0 .for-areas) u (e .loop-test .left) (c .before .before .before .before .before .before .loop .inv .1 u p)
-    (λ w. c .before .before .label-run2 .ensures w (prefix-more p (omega (arith, d)) (last-least t e) (last-most t e) (c .before .before .before .before .with-digit3 .ensures (p .gathered) (p .held))))
+    progress-last
+    ((run-start-of-else1 t
+    (run-else1 t (c .before .before .before .before .before .before))) .pre .1 .1 .0 .for-areas) u (e .loop-test .left)
+    (c .before .before .before .before .before .before .loop .inv .1 u p)
+    (λ w. c .before .before .label-run2 .ensures w
+    (prefix-more p (omega (arith, d)) (last-least t e) (last-most t e)
+    (c .before .before .before .before .with-digit3 .ensures (p .gathered) (p .held))))
 
 pub +label-river+label-run-spec : {M : Type 1} → statement M
 +label-river+label-run-spec = close μ-label-river μ-label-run (λ t. label-river-lts.spec (river-calls t)

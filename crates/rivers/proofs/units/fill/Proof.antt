@@ -1,4 +1,5 @@
--- `rivers::units::fill` meets its contract. Invariant: what is still to be filled makes of the labels what the whole makes of those at entry.
+-- `rivers::units::fill` meets its contract. Invariant: what is still to be filled makes of the labels what the whole
+-- makes of those at entry.
 use mathlib.Core.Path.{_≡_, refl, sym, _∙_}
 use Prim.Native.Nat.{_-_, _<_}
 use native.Mathlib.Omega.{arith}
@@ -11,7 +12,8 @@ use Rattle.rivers.proofs.units.fill.Tie as tie
 abbrev Inv-loop : tie.InvT-loop
 Inv-loop lo hi prefix cell labels₀ j₀ labels j =
     (length labels ≡ length labels₀)
-    × (relabelled (stands cell j (hi - j)) (λ c. prefix) labels ≡ relabelled (stands cell lo (hi - lo)) (λ c. prefix) labels₀)
+    × (relabelled (stands cell j (hi - j)) (λ c. prefix) labels ≡ relabelled (stands cell lo (hi - lo))
+    (λ c. prefix) labels₀)
 
 abbrev μ-loop : tie.MeasureT-loop
 μ-loop lo hi prefix cell labels₀ j₀ labels j = hi - j
@@ -42,9 +44,12 @@ loop-less c = omega arith
 
 loop-again : tie.Need-loop-again Inv-loop μ-loop
 loop-again c =
-    let at : getD (c .before .before .before .args .cell .now) (c .before .before .loop .j) 0 < length (c .before .before .loop .labels) =
-    omega (arith, c .before .before .before .pre .1 (c .before .before .loop .j) (omega arith)) in
-    (simp length-set (omega arith), filled-more _ _ _ _ _ (c .before .loop-test .taken) at ∙ c .before .before .loop .inv .1)
+    let at : getD (c .before .before .before .args .cell .now) (c .before .before .loop .j) 0 < length
+    (c .before .before .loop .labels) =
+    omega (arith, c .before .before .before .pre .1 (c .before .before .loop .j) (omega arith)) in (
+      simp length-set (omega arith),
+      filled-more _ _ _ _ _ (c .before .loop-test .taken) at ∙ c .before .before .loop .inv .1,
+    )
 
 same-length : tie.Need-same-length Inv-loop μ-loop
 same-length c = omega arith

@@ -2,7 +2,8 @@
 use mathlib.Core.Path.{_≡_, sym, subst}
 use mathlib.Core.List.{List}
 use Prim.Native.Nat.{ℕ, suc, _+_, _*_, _^_, _≤_, _<_}
-use native.Mathlib.Nat.{mul-le-mul-right, suc-mul, le-refl, le-add-right, le-trans, lt-of-lt-of-le, add-lt-add-of-le-of-lt}
+use native.Mathlib.Nat.{mul-le-mul-right, suc-mul, le-refl, le-add-right, le-trans}
+use native.Mathlib.Nat.{lt-of-lt-of-le, add-lt-add-of-le-of-lt}
 use Rattle.rivers.specs.UnitAt.{Places}
 
 -- the measure: the digits left, and then the run's length

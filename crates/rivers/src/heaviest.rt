@@ -70,22 +70,23 @@ pub struct Cut {
     pub key: u64,
 }
 
-// The mouths that are taken of the unit at positions lo to hi of a river that ends at `end`.
-pub fn heaviest(
-    lo: usize,
-    hi: usize,
-    end: usize,
-    rule: Rule,
-    cell: &[u32],
-    size: &[u32],
-    area: &[u32],
-) -> Cut
-    requires { ⌜ hi ≤ length (now cell) ⌝ }
+// Where a unit stands: at positions `lo` to `hi`, without `hi`, of a river whose subtree ends at `end`.
+pub struct UnitSpan {
+    pub lo: usize,
+    pub hi: usize,
+    pub end: usize,
+}
+
+// The mouths that are taken of the unit at `span`.
+pub fn heaviest(span: UnitSpan, rule: Rule, cell: &[u32], size: &[u32], area: &[u32]) -> Cut
+    requires { ⌜ span .hi ≤ length (now cell) ⌝ }
     requires { ⌜ Layout (now cell) (now size) (length (now area)) ⌝ }
     requires { ⌜ (1 ≤ rule .split) × (rule .split ≤ 4) ⌝ }
     ensures { λ r. ⌜ ((u : UnitAt (now (cell .entry)) (now (size .entry)) (now (area .entry)) (rule .split)
-        (rule .least) end lo hi) → CutOf (u .of .network) (u .run) (r .finished) (r .key)) ⌝ }
+        (rule .least) (span .end) (span .lo) (span .hi)) → CutOf (u .of .network) (u .run) (r .finished) (r .key)) ⌝ }
 {
+    let hi = span.hi;
+    let end = span.end;
     let floor = (rule.least as u64) * 65536;
     let mut top = Top {
         finished: true,
@@ -94,7 +95,7 @@ pub fn heaviest(
         c: floor,
         d: floor,
     };
-    let mut j = lo;
+    let mut j = span.lo;
     while j < hi {
         let s = size[j] as usize;
         if j + s == end {

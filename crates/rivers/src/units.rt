@@ -8,6 +8,7 @@ ghost use Rattle.rivers.specs.Labelled.{relabelled, unitLabelled, stands
 ghost use Rattle.rivers.specs.Prefix.{Prefix};
 ghost use Rattle.rivers.specs.UnitAt.{NetworkOf, UnitAt, Places};
 use crate::heaviest::Rule;
+use crate::heaviest::UnitSpan;
 use crate::heaviest::heaviest;
 use crate::keys::key_at;
 use crate::prefix::with_digit;
@@ -25,12 +26,9 @@ fn fill(lo: usize, hi: usize, prefix: u64, cell: &[u32], labels: &mut [u64])
     }
 }
 
-// Labels the cells of the unit at positions lo to hi of a river that ends at `end`, with at most `digits` digits after
-// `prefix`.
+// Labels the cells of the unit at `span`, with at most `digits` digits after `prefix`.
 fn label_run(
-    lo: usize,
-    hi: usize,
-    end: usize,
+    span: UnitSpan,
     digits: usize,
     prefix: u64,
     rule: Rule,
@@ -39,26 +37,30 @@ fn label_run(
     area: &[u32],
     labels: &mut [u64],
 )
-    requires { ⌜ UnitAt (now cell) (now size) (now area) (rule .split) (rule .least) end lo hi ⌝ }
+    requires { ⌜ UnitAt (now cell) (now size) (now area) (rule .split) (rule .least)
+        (span .end) (span .lo) (span .hi) ⌝ }
     requires { ⌜ Places (now cell) (now size) (length (now area)) (length (now labels)) (rule .split) ⌝ }
     requires { ⌜ Prefix prefix digits ⌝ }
     ensures { λ _. ⌜ ((u : UnitAt (now (cell .entry)) (now (size .entry)) (now (area .entry)) (rule .split)
-        (rule .least) end lo hi) (p : Prefix prefix digits) → now (labels .exit)
+        (rule .least) (span .end) (span .lo) (span .hi)) (p : Prefix prefix digits) → now (labels .exit)
         ≡ unitLabelled (u .of .network) (u .run) digits (p .gathered) (now (labels .entry))) ⌝ }
 {
+    let hi = span.hi;
+    let end = span.end;
     if digits == 0 {
-        fill(lo, hi, prefix, cell, labels);
+        fill(span.lo, hi, prefix, cell, labels);
         return;
     }
-    let cut = heaviest(lo, hi, end, rule, cell, size, area);
+    let cut = heaviest(span, rule, cell, size, area);
     if cut.finished {
-        fill(lo, hi, prefix, cell, labels);
+        fill(span.lo, hi, prefix, cell, labels);
         return;
     }
     let key = cut.key;
     let left = digits - 1;
+    // The run under way begins at lo and gets digit.
     let mut digit = 1;
-    let mut start = lo;
+    let mut lo = span.lo;
     let mut j = lo;
     while j < hi {
         let s = size[j] as usize;
@@ -67,17 +69,19 @@ fn label_run(
         } else if key_at(j, cell, area) < key {
             j += s;
         } else {
+            let before = UnitSpan { lo, hi: j, end };
             let run = with_digit(prefix, digit);
-            label_run(start, j, end, left, run, rule, cell, size, area, labels);
+            label_run(before, left, run, rule, cell, size, area, labels);
             let tributary = with_digit(prefix, digit + 1);
             label_river(j, left, tributary, rule, cell, size, area, labels);
             digit += 2;
             j += s;
-            start = j;
+            lo = j;
         }
     }
+    let last = UnitSpan { lo, hi, end };
     let run = with_digit(prefix, digit);
-    label_run(start, hi, end, left, run, rule, cell, size, area, labels);
+    label_run(last, left, run, rule, cell, size, area, labels);
 }
 
 // Labels the cells of the river whose mouth stands at position j.
@@ -101,7 +105,12 @@ pub fn label_river(
         (now (labels .entry))) ⌝ }
 {
     let end = j + size[j] as usize;
-    label_run(j, end, end, digits, prefix, rule, cell, size, area, labels);
+    let span = UnitSpan {
+        lo: j,
+        hi: end,
+        end,
+    };
+    label_run(span, digits, prefix, rule, cell, size, area, labels);
 }
 
 // Labels the cells of the river whose mouth stands first in the layout, to the depth given.

@@ -9,12 +9,12 @@ use Rattle.rivers.proofs.heaviest.heaviest.Statement.{statement}
 use Rattle.rivers.proofs.heaviest.heaviest.Tie as tie
 
 abbrev Inv-loop : tie.InvT-loop
-Inv-loop lo hi end rule cell size area floor top₀ j₀ top j =
-    (u : UnitAt cell size area (rule .split) (rule .least) end lo hi)
+Inv-loop rule cell size area hi end floor top₀ j₀ top j =
+    (u : UnitAt cell size area (rule .split) (rule .least) end j₀ hi)
     → Passed u j (top .finished) (top .a) (top .b) (top .c) (top .d)
 
 abbrev μ-loop : tie.MeasureT-loop
-μ-loop lo hi end rule cell size area floor top₀ j₀ top j = hi - j
+μ-loop rule cell size area hi end floor top₀ j₀ top j = hi - j
 
 -- Points of the function, each from a later one.
 abbrev start : tie.At-loop Inv-loop μ-loop → tie.Start Inv-loop μ-loop

@@ -11,7 +11,9 @@ use Rattle.rivers.specs.Labelled.{unitLabelled}
 use Rattle.rivers.specs.Prefix.{Prefix}
 use Rattle.rivers.proofs.Prefixes.{prefix-one, prefix-more}
 use Rattle.rivers.proofs.Labelling.{filled-zero, filled-finished}
-use Rattle.rivers.proofs.Progress.{Progress, river-unit, progress-none, progress-stem, progress-skip, progress-take, progress-room, progress-unit, progress-last, progress-last-room, progress-last-unit}
+use Rattle.rivers.proofs.Progress.{Progress, river-unit, progress-none, progress-stem, progress-skip}
+use Rattle.rivers.proofs.Progress.{progress-take, progress-room, progress-unit}
+use Rattle.rivers.proofs.Progress.{progress-last, progress-last-room, progress-last-unit}
 use Rattle.rivers.proofs.Bounds.{measure, measure-digit, measure-length, places-at}
 use Rattle.rivers.proofs.heaviest.heaviest.Reads as heaviest-reads
 use Rattle.rivers.proofs.keys.key_at.Reads as key-at-reads
@@ -30,7 +32,7 @@ abbrev μ-label-river : Measures 4 label-river-kinds.ps ℕ
 μ-label-river κs a = measure (a .1 .0) (getD (a .1 .1 .1 .1 .1 .0 .now) (a .0) 0 + 1)
 
 abbrev μ-label-run : Measures 4 label-run-kinds.ps ℕ
-μ-label-run κs a = measure (a .1 .1 .1 .0) (a .1 .0 - a .0)
+μ-label-run κs a = measure (a .1 .0) (a .0 .hi - a .0 .lo)
 
 abbrev label-river-at : ℕ → In 4 label-river-kinds.ps
 label-river-at t =
@@ -103,7 +105,7 @@ river-label-run-requires t c κs =
     )
 
 river-same-length : (t : ℕ) → label-river-lts.Need-same-length (river-calls t) (label-river-at t) label-river.Post
-river-same-length t c = c .before .before .label-run .kept .1 .1 .1 .1 .1 .1 .1 .1 .1 .0
+river-same-length t c = c .before .before .label-run .kept .1 .1 .1 .1 .1 .1 .1 .0
 
 river-returns : (t : ℕ) → label-river-lts.Need-returns (river-calls t) (label-river-at t) label-river.Post
 unfolding river-unit
@@ -113,14 +115,14 @@ river-returns t c =
     (river-unit (s .pre .1 .1 .1 .0 .for-areas) n (s .args .j) (s .pre .1 .0)) p
 
 abbrev Inv : label-run-lts.InvT-loop
-Inv lo hi end digits prefix rule cell size area labels₀ key left digit₀ start₀ j₀ labels digit start j =
+Inv digits prefix rule cell size area labels₀ hi end key left digit₀ lo₀ j₀ labels digit lo j =
     (length labels ≡ length labels₀)
-    × ((u : UnitAt cell size area (rule .split) (rule .least) end lo hi) (p : Prefix prefix digits)
+    × ((u : UnitAt cell size area (rule .split) (rule .least) end lo₀ hi) (p : Prefix prefix digits)
     → Progress (u .of .network) (u .run) cell size end hi left (p .gathered)
-    (unitLabelled (u .of .network) (u .run) digits (p .gathered) labels₀) labels digit start j)
+    (unitLabelled (u .of .network) (u .run) digits (p .gathered) labels₀) labels digit lo j)
 
 abbrev μ : label-run-lts.MeasureT-loop
-μ lo hi end digits prefix rule cell size area labels₀ key left digit₀ start₀ j₀ labels digit start j = hi - j
+μ digits prefix rule cell size area labels₀ hi end key left digit₀ lo₀ j₀ labels digit lo j = hi - j
 
 -- Points of the function, each from a later one.
 abbrev run-start-of-then1 : (t : ℕ) → label-run-lts.Then1 (run-calls t) (label-run-at t) label-run.Post Inv μ
@@ -135,23 +137,30 @@ abbrev run-else1 : (t : ℕ) → label-run-lts.At-loop (run-calls t) (label-run-
     → label-run-lts.Else1 (run-calls t) (label-run-at t) label-run.Post Inv μ
 run-else1 t c = c .before .before .before
 
-abbrev run-at-loop : (t : ℕ) → label-run-lts.In-loop (run-calls t) (label-run-at t) label-run.Post Inv μ
-    → label-run-lts.At-loop (run-calls t) (label-run-at t) label-run.Post Inv μ
-run-at-loop t c = c .before
+abbrev run-start : (t : ℕ) → label-run-lts.In-loop (run-calls t) (label-run-at t) label-run.Post Inv μ
+    → label-run-lts.Start (run-calls t) (label-run-at t) label-run.Post Inv μ
+run-start t c = run-start-of-else1 t (run-else1 t (c .before))
 
 abbrev run-in-loop : (t : ℕ) → label-run-lts.Else4 (run-calls t) (label-run-at t) label-run.Post Inv μ
     → label-run-lts.In-loop (run-calls t) (label-run-at t) label-run.Post Inv μ
 run-in-loop t c = c .before .before .before .before
 
-abbrev run-else4 : (t : ℕ) → label-run-lts.After-with-digit (run-calls t) (label-run-at t) label-run.Post Inv μ
-    → label-run-lts.Else4 (run-calls t) (label-run-at t) label-run.Post Inv μ
-run-else4 t c = c .before
+abbrev run-at-loop : (t : ℕ) → label-run-lts.Else4 (run-calls t) (label-run-at t) label-run.Post Inv μ
+    → label-run-lts.At-loop (run-calls t) (label-run-at t) label-run.Post Inv μ
+run-at-loop t c = c .before .before .before .before .before
 
-abbrev run-after-with-digit : (t : ℕ)
-    → label-run-lts.After-label-run (run-calls t)
-    (label-run-at t) label-run.Post Inv μ → label-run-lts.After-with-digit (run-calls t)
-    (label-run-at t) label-run.Post Inv μ
-run-after-with-digit t c = c .before .before
+abbrev run-start-of-else4 : (t : ℕ) → label-run-lts.Else4 (run-calls t) (label-run-at t) label-run.Post Inv μ
+    → label-run-lts.Start (run-calls t) (label-run-at t) label-run.Post Inv μ
+run-start-of-else4 t c = run-start t (run-in-loop t c)
+
+abbrev run-else4 : (t : ℕ) → label-run-lts.After-label-run (run-calls t) (label-run-at t) label-run.Post Inv μ
+    → label-run-lts.Else4 (run-calls t) (label-run-at t) label-run.Post Inv μ
+run-else4 t c = c .before .before .before
+
+abbrev run-label-run : (t : ℕ)
+    → label-run-lts.After-slice-known5 (run-calls t) (label-run-at t) label-run.Post Inv μ
+    → label-run-lts.After-label-run (run-calls t) (label-run-at t) label-run.Post Inv μ
+run-label-run t c = c .before .before .before .before .before .before .before
 
 run-fill-requires : (t : ℕ) → label-run-lts.Need-fill-requires (run-calls t) (label-run-at t) label-run.Post Inv μ
 run-fill-requires t c κs =
@@ -186,7 +195,8 @@ run-returns-2 t c =
     λ u p. filled-finished
     ((run-start-of-else1 t (c .before .before .before .before .before .before)) .pre .1 .1 .0 .for-labels) u p _
     (c .before .before .fill2 .ensures)
-    (c .before .before .before .before .before .heaviest .ensures u .finishes ∙ c .before .before .before .before .if2 .taken)
+    (c .before .before .before .before .before .heaviest .ensures u .finishes
+    ∙ c .before .before .before .before .if2 .taken)
 
 run-sub-left : (t : ℕ) → label-run-lts.Need-sub-left (run-calls t) (label-run-at t) label-run.Post Inv μ
 run-sub-left t c = omega (arith, c .before .before .if1 .left)
@@ -201,21 +211,19 @@ run-loop-holds t c = (
 
 -- the position is within the layout, and so is its subtree
 on : (t : ℕ) (c : label-run-lts.In-loop (run-calls t) (label-run-at t) label-run.Post Inv μ)
-    → c .before .loop .j < length ((run-start-of-else1 t (run-else1 t (run-at-loop t c))) .args .cell .now)
+    → c .before .loop .j < length ((run-start t c) .args .cell .now)
 on t c =
     omega (
       arith,
-      (run-start-of-else1 t (run-else1 t (run-at-loop t c))) .pre .1 .0 .before-end,
-      (run-start-of-else1 t (run-else1 t (run-at-loop t c))) .pre .1 .0 .end-within,
+      (run-start t c) .pre .1 .0 .before-end,
+      (run-start t c) .pre .1 .0 .end-within,
       c .loop-test .taken,
     )
 
 within : (t : ℕ) (c : label-run-lts.In-loop (run-calls t) (label-run-at t) label-run.Post Inv μ)
-    → c .before .loop .j + getD ((run-start-of-else1 t (run-else1 t (run-at-loop t c))) .args .size .now)
-    (c .before .loop .j) 0 ≤ length ((run-start-of-else1 t (run-else1 t (run-at-loop t c))) .args .cell .now)
-within t c =
-    (run-start-of-else1 t (run-else1 t (run-at-loop t c))) .pre .1 .1 .0 .for-areas .within (c .before .loop .j)
-    (on t c)
+    → c .before .loop .j + getD ((run-start t c) .args .size .now) (c .before .loop .j) 0
+    ≤ length ((run-start t c) .args .cell .now)
+within t c = (run-start t c) .pre .1 .1 .0 .for-areas .within (c .before .loop .j) (on t c)
 
 run-mul-s : (t : ℕ) → label-run-lts.Need-mul-s (run-calls t) (label-run-at t) label-run.Post Inv μ
 run-mul-s t c = omega (arith, on t c)
@@ -223,11 +231,7 @@ run-mul-s t c = omega (arith, on t c)
 run-shared-slice-read-s : (t : ℕ)
     → label-run-lts.Need-shared-slice-read-s (run-calls t) (label-run-at t) label-run.Post Inv μ
 run-shared-slice-read-s t c =
-    omega (
-      arith,
-      on t (c .before),
-      (run-start-of-else1 t (run-else1 t (run-at-loop t (c .before)))) .pre .1 .1 .0 .for-areas .sized,
-    )
+    omega (arith, on t (c .before), (run-start t (c .before)) .pre .1 .1 .0 .for-areas .sized)
 
 run-cast-s : (t : ℕ) → label-run-lts.Need-cast-s (run-calls t) (label-run-at t) label-run.Post Inv μ
 run-cast-s t c = omega (arith, c .shared-slice-known4 .given (c .before .before .loop .j))
@@ -244,15 +248,14 @@ run-loop-less t c = omega (arith, c .before .before .loop-test .taken)
 run-loop-again : (t : ℕ) → label-run-lts.Need-loop-again (run-calls t) (label-run-at t) label-run.Post Inv μ
 run-loop-again t c = (
   c .before .before .before .loop .inv .0,
-  λ u p. progress-stem
-      ((run-start-of-else1 t (run-else1 t (run-at-loop t (c .before .before)))) .pre .1 .1 .0 .for-areas) u
+  λ u p. progress-stem ((run-start t (c .before .before)) .pre .1 .1 .0 .for-areas) u
       (c .before .before .loop-test .taken) (c .if3 .taken) (c .before .before .before .loop .inv .1 u p),
 )
 
 run-key-at-requires : (t : ℕ) → label-run-lts.Need-key-at-requires (run-calls t) (label-run-at t) label-run.Post Inv μ
 run-key-at-requires t c κs = (
   on t (c .before .before),
-  (run-start-of-else1 t (run-else1 t (run-at-loop t (c .before .before)))) .pre .1 .1 .0 .for-areas .on
+  (run-start t (c .before .before)) .pre .1 .1 .0 .for-areas .on
       (c .before .before .before .loop .j) (on t (c .before .before)),
 )
 
@@ -264,8 +267,7 @@ run-loop-less-2 t c =
     omega (
       arith,
       c .before .before .before .before .loop-test .taken,
-      (run-start-of-else1 t
-          (run-else1 t (run-at-loop t (c .before .before .before .before)))) .pre .1 .1 .0 .for-areas .some
+      (run-start t (c .before .before .before .before)) .pre .1 .1 .0 .for-areas .some
           (c .before .before .before .before .before .loop .j) (on t (c .before .before .before .before)),
     )
 
@@ -274,48 +276,44 @@ run-loop-again-2 t c = (
   c .before .before .before .before .before .loop .inv .0,
   λ u p.
       progress-skip
-      ((run-start-of-else1 t
-      (run-else1 t (run-at-loop t (c .before .before .before .before)))) .pre .1 .1 .0 .for-areas) u
+      ((run-start t (c .before .before .before .before)) .pre .1 .1 .0 .for-areas) u
       (c .before .before .before .before .before .before .before .heaviest .ensures u)
-      (c .before .before .before .before .loop-test .taken) (c .before .before .if3 .left) (c .before .key-at .ensures) (c .before .before .before .before .before .loop .inv .1 u p) (c .if4 .taken),
+      (c .before .before .before .before .loop-test .taken) (c .before .before .if3 .left) (c .before .key-at .ensures)
+      (c .before .before .before .before .before .loop .inv .1 u p) (c .if4 .taken),
 )
 
 -- at a mouth that is taken: the digits of the run before it and of its tributary, and that run
 taking-least : (t : ℕ) (c : label-run-lts.Else4 (run-calls t) (label-run-at t) label-run.Post Inv μ)
-    → 1 ≤ c .before .before .before .before .before .loop .digit
+    → 1 ≤ (run-at-loop t c) .loop .digit
 taking-least t c =
-    let s = (run-start-of-else1 t (run-else1 t (run-at-loop t (run-in-loop t c)))) .pre .1 in
-    omega (arith, c .before .before .before .before .before .loop .inv .1 (s .0) (s .1 .1) .digit-is)
+    let s = (run-start-of-else4 t c) .pre .1 in
+    omega (arith, (run-at-loop t c) .loop .inv .1 (s .0) (s .1 .1) .digit-is)
 
 taking-most : (t : ℕ) (c : label-run-lts.Else4 (run-calls t) (label-run-at t) label-run.Post Inv μ)
-    → c .before .before .before .before .before .loop .digit + 2 ≤ 9
+    → (run-at-loop t c) .loop .digit + 2 ≤ 9
 taking-most t c =
-    let s = (run-start-of-else1 t (run-else1 t (run-at-loop t (run-in-loop t c)))) .pre .1 in
+    let s = (run-start-of-else4 t c) .pre .1 in
     progress-room (s .1 .0 .for-areas) (s .0)
     (c .before .before .before .before .before .before .before .heaviest .ensures (s .0))
-    (c .before .before .before .before .loop-test .taken) (c .before .before .if3 .left) (c .before .key-at .ensures)
-    (c .before .before .before .before .before .loop .inv .1 (s .0) (s .1 .1)) (c .if4 .left)
+    ((run-in-loop t c) .loop-test .taken) (c .before .before .if3 .left) (c .before .key-at .ensures)
+    ((run-at-loop t c) .loop .inv .1 (s .0) (s .1 .1)) (c .if4 .left)
 
 taking-unit : (t : ℕ) (c : label-run-lts.Else4 (run-calls t) (label-run-at t) label-run.Post Inv μ)
-    → UnitAt ((run-start-of-else1 t (run-else1 t (run-at-loop t (run-in-loop t c)))) .args .cell .now)
-    ((run-start-of-else1 t (run-else1 t (run-at-loop t (run-in-loop t c)))) .args .size .now)
-    ((run-start-of-else1 t (run-else1 t (run-at-loop t (run-in-loop t c)))) .args .area .now)
-    ((run-start-of-else1 t (run-else1 t (run-at-loop t (run-in-loop t c)))) .args .rule .split)
-    ((run-start-of-else1 t (run-else1 t (run-at-loop t (run-in-loop t c)))) .args .rule .least)
-    ((run-start-of-else1 t (run-else1 t (run-at-loop t (run-in-loop t c)))) .args .end)
-    (c .before .before .before .before .before .loop .start) (c .before .before .before .before .before .loop .j)
+    → UnitAt ((run-start-of-else4 t c) .args .cell .now) ((run-start-of-else4 t c) .args .size .now)
+    ((run-start-of-else4 t c) .args .area .now) ((run-start-of-else4 t c) .args .rule .split)
+    ((run-start-of-else4 t c) .args .rule .least) ((run-start-of-else4 t c) .args .span .end)
+    ((run-at-loop t c) .loop .lo) ((run-at-loop t c) .loop .j)
 taking-unit t c =
-    let s = (run-start-of-else1 t (run-else1 t (run-at-loop t (run-in-loop t c)))) .pre .1 in
+    let s = (run-start-of-else4 t c) .pre .1 in
     progress-unit (s .1 .0 .for-areas) (s .0)
     (c .before .before .before .before .before .before .before .heaviest .ensures (s .0))
-    (c .before .before .before .before .loop-test .taken) (c .before .before .if3 .left) (c .before .key-at .ensures)
-    (c .before .before .before .before .before .loop .inv .1 (s .0) (s .1 .1)) (c .if4 .left)
+    ((run-in-loop t c) .loop-test .taken) (c .before .before .if3 .left) (c .before .key-at .ensures)
+    ((run-at-loop t c) .loop .inv .1 (s .0) (s .1 .1)) (c .if4 .left)
 
 run-with-digit-requires : (t : ℕ)
     → label-run-lts.Need-with-digit-requires (run-calls t) (label-run-at t) label-run.Post Inv μ
 run-with-digit-requires t c κs = (
-  prefix-one ((run-start-of-else1 t (run-else1 t (run-at-loop t (run-in-loop t c)))) .pre .1 .1 .1)
-      ((run-else1 t (run-at-loop t (run-in-loop t c))) .if1 .left),
+  prefix-one ((run-start-of-else4 t c) .pre .1 .1 .1) ((run-else1 t (run-at-loop t c)) .if1 .left),
   (
     taking-least t c,
     omega (arith, taking-most t c),
@@ -325,18 +323,16 @@ run-with-digit-requires t c κs = (
 run-label-run-requires : (t : ℕ)
     → label-run-lts.Need-label-run-requires (run-calls t) (label-run-at t) label-run.Post Inv μ
 run-label-run-requires t c κs =
-    let s = (run-start-of-else1 t (run-else1 t (run-at-loop t (run-in-loop t (run-else4 t (c .before)))))) in
+    let e = c .before .before in
+    let s = run-start-of-else4 t e in
     let p = s .pre .1 .1 .1 in
-    let d = (run-else1 t (run-at-loop t (run-in-loop t (run-else4 t (c .before))))) .if1 .left in
-    let e = c .before .before in (
-      rw (← s .pre .0) (measure-digit _ _ _ _ (omega (arith, d)) (omega (
-        arith,
-        on t (c .before .before .before .before .before .before),
-      ))),
+    let d = (run-else1 t (run-at-loop t e)) .if1 .left in (
+      rw (← s .pre .0)
+          (measure-digit _ _ _ _ (omega (arith, d)) (omega (arith, on t (run-in-loop t e)))),
       (
         taking-unit t e,
         (
-          places-at (c .before .before .before .before .before .before .before .loop .inv .0) (s .pre .1 .1 .0),
+          places-at ((run-at-loop t e) .loop .inv .0) (s .pre .1 .1 .0),
           prefix-more p (omega (arith, d)) (taking-least t e) (omega (arith, taking-most t e))
               (c .before .with-digit .ensures (p .gathered) (p .held)),
         ),
@@ -344,44 +340,36 @@ run-label-run-requires t c κs =
     )
 
 run-add-with-digit : (t : ℕ) → label-run-lts.Need-add-with-digit (run-calls t) (label-run-at t) label-run.Post Inv μ
-run-add-with-digit t c = omega (arith, taking-most t (c .before .before .before .before .before))
+run-add-with-digit t c = omega (arith, taking-most t (run-else4 t (c .before .before)))
 
 run-with-digit-requires-2 : (t : ℕ)
     → label-run-lts.Need-with-digit-requires-2 (run-calls t) (label-run-at t) label-run.Post Inv μ
-run-with-digit-requires-2 t c κs = (
-  prefix-one
-      ((run-start-of-else1 t
-      (run-else1 t (run-at-loop t (run-in-loop t (run-else4 t (run-after-with-digit t (c .before .before))))))) .pre .1 .1 .1) ((run-else1 t (run-at-loop t (run-in-loop t (run-else4 t (run-after-with-digit t (c .before .before)))))) .if1 .left),
-  (
-    omega (arith, taking-least t (c .before .before .before .before .before)),
-    omega (arith, taking-most t (c .before .before .before .before .before)),
-  ),
-)
+run-with-digit-requires-2 t c κs =
+    let e = run-else4 t (c .before .before) in (
+      prefix-one ((run-start-of-else4 t e) .pre .1 .1 .1) ((run-else1 t (run-at-loop t e)) .if1 .left),
+      (
+        omega (arith, taking-least t e),
+        omega (arith, taking-most t e),
+      ),
+    )
 
 run-label-river-requires : (t : ℕ)
     → label-run-lts.Need-label-river-requires (run-calls t) (label-run-at t) label-run.Post Inv μ
 run-label-river-requires t c κs =
-    let s = (run-start-of-else1 t
-    (run-else1 t
-    (run-at-loop t (run-in-loop t (run-else4 t (run-after-with-digit t (c .before .before .before .before))))))) in
+    let e = run-else4 t (c .before .before .before .before) in
+    let s = run-start-of-else4 t e in
     let p = s .pre .1 .1 .1 in
-    let d = (run-else1 t
-    (run-at-loop t
-    (run-in-loop t (run-else4 t (run-after-with-digit t (c .before .before .before .before)))))) .if1 .left in
-    let e = c .before .before .before .before .before .before .before in (
-      rw (← s .pre .0) (measure-digit _ _ _ _ (omega (arith, d)) (omega (
-        arith,
-        within t ((run-in-loop t (run-else4 t (run-after-with-digit t (c .before .before .before .before))))),
-      ))),
+    let d = (run-else1 t (run-at-loop t e)) .if1 .left in (
+      rw (← s .pre .0)
+          (measure-digit _ _ _ _ (omega (arith, d)) (omega (arith, within t (run-in-loop t e)))),
       (
-        on t ((run-in-loop t (run-else4 t (run-after-with-digit t (c .before .before .before .before))))),
+        on t (run-in-loop t e),
         (
           s .pre .1 .0 .of,
           (
             places-at
-                (c .before .before .before .before .label-run .kept .1 .1 .1 .1 .1 .1 .1 .1 .1 .0 ∙
-                (run-at-loop t
-                (run-in-loop t (run-else4 t (run-after-with-digit t (c .before .before .before .before))))) .loop .inv .0) (s .pre .1 .1 .0),
+                (c .before .before .before .before .label-run .kept .1 .1 .1 .1 .1 .1 .1 .0
+                ∙ (run-at-loop t e) .loop .inv .0) (s .pre .1 .1 .0),
             prefix-more p (omega (arith, d)) (omega (arith, taking-least t e)) (omega (arith, taking-most t e))
                 (c .before .with-digit2 .ensures (p .gathered) (p .held)),
           ),
@@ -390,56 +378,40 @@ run-label-river-requires t c κs =
     )
 
 run-add-digit : (t : ℕ) → label-run-lts.Need-add-digit (run-calls t) (label-run-at t) label-run.Post Inv μ
-run-add-digit t c =
-    omega (
-      arith,
-      taking-most t
-          ((run-else4 t (run-after-with-digit t (c .before .before .before .before .before .before .before)))),
-    )
+run-add-digit t c = omega (arith, taking-most t (run-else4 t (run-label-run t c)))
 
 run-add-j-3 : (t : ℕ) → label-run-lts.Need-add-j-3 (run-calls t) (label-run-at t) label-run.Post Inv μ
 run-add-j-3 t c =
-    omega (
-      arith,
-      within t
-          ((run-in-loop t
-          (run-else4 t (run-after-with-digit t (c .before .before .before .before .before .before .before))))),
-      (run-start-of-else1 t
-          (run-else1 t
-          (run-at-loop t (run-in-loop t (run-else4 t (run-after-with-digit t (c .before .before .before .before .before .before .before))))))) .good .1 .1 .1 .1 .1 .1 .0,
-    )
+    let e = run-else4 t (run-label-run t c) in
+    omega (arith, within t (run-in-loop t e), (run-start-of-else4 t e) .good .1 .1 .1 .1 .0)
 
 run-loop-less-3 : (t : ℕ) → label-run-lts.Need-loop-less-3 (run-calls t) (label-run-at t) label-run.Post Inv μ
 run-loop-less-3 t c =
+    let e = run-else4 t (run-label-run t c) in
     omega (
       arith,
-      (run-in-loop t
-          (run-else4 t
-          (run-after-with-digit t (c .before .before .before .before .before .before .before)))) .loop-test .taken,
-      (run-start-of-else1 t
-          (run-else1 t
-          (run-at-loop t (run-in-loop t (run-else4 t (run-after-with-digit t (c .before .before .before .before .before .before .before))))))) .pre .1 .1 .0 .for-areas .some ((run-at-loop t (run-in-loop t (run-else4 t (run-after-with-digit t (c .before .before .before .before .before .before .before))))) .loop .j) (on t ((run-in-loop t (run-else4 t (run-after-with-digit t (c .before .before .before .before .before .before .before)))))),
+      (run-in-loop t e) .loop-test .taken,
+      (run-start-of-else4 t e) .pre .1 .1 .0 .for-areas .some ((run-at-loop t e) .loop .j) (on t (run-in-loop t e)),
     )
 
 run-loop-again-3 : (t : ℕ) → label-run-lts.Need-loop-again-3 (run-calls t) (label-run-at t) label-run.Post Inv μ
 unfolding prefix-more
 run-loop-again-3 t c =
-    let e = (run-else4 t (run-after-with-digit t (c .before .before .before .before .before .before .before))) in
-    let d = (run-else1 t (run-at-loop t (run-in-loop t (run-else4 t (run-after-with-digit t (c .before .before .before .before .before .before .before)))))) .if1 .left in (
+    let r = run-label-run t c in
+    let e = run-else4 t r in
+    let d = (run-else1 t (run-at-loop t e)) .if1 .left in (
       c .before .before .label-river .kept .1 .1 .1 .1 .1 .1 .1 .0
-          ∙ c .before .before .before .before .before .before .before .label-run .kept .1 .1 .1 .1 .1 .1 .1 .1 .1 .0
-          ∙ (run-at-loop t
-          (run-in-loop t
-          (run-else4 t (run-after-with-digit t (c .before .before .before .before .before .before .before))))) .loop .inv .0,
+          ∙ r .label-run .kept .1 .1 .1 .1 .1 .1 .1 .0
+          ∙ (run-at-loop t e) .loop .inv .0,
       λ u p.
           progress-take
-          ((run-start-of-else1 t (run-else1 t (run-at-loop t (run-in-loop t e)))) .pre .1 .1 .0 .for-areas) u
+          ((run-start-of-else4 t e) .pre .1 .1 .0 .for-areas) u
           (e .before .before .before .before .before .before .before .heaviest .ensures u)
-          (e .before .before .before .before .loop-test .taken) (e .before .before .if3 .left)
-          (e .before .key-at .ensures) (e .before .before .before .before .before .loop .inv .1 u p) (e .if4 .left)
-          (λ w. c .before .before .before .before .before .before .before .label-run .ensures w
+          ((run-in-loop t e) .loop-test .taken) (e .before .before .if3 .left)
+          (e .before .key-at .ensures) ((run-at-loop t e) .loop .inv .1 u p) (e .if4 .left)
+          (λ w. r .label-run .ensures w
           (prefix-more p (omega (arith, d)) (taking-least t e) (omega (arith, taking-most t e))
-          ((run-after-with-digit t (c .before .before .before .before .before .before .before)) .with-digit .ensures (p .gathered) (p .held))))
+          (r .before .before .with-digit .ensures (p .gathered) (p .held))))
           (λ n. c .before .before .label-river .ensures n
           (prefix-more p (omega (arith, d)) (omega (arith, taking-least t e)) (omega (arith, taking-most t e))
           (c .before .before .before .before .with-digit2 .ensures (p .gathered) (p .held)))),
@@ -486,7 +458,7 @@ run-label-run-requires-2 t c κs =
 
 run-same-length-3 : (t : ℕ) → label-run-lts.Need-same-length-3 (run-calls t) (label-run-at t) label-run.Post Inv μ
 run-same-length-3 t c =
-    c .before .before .label-run2 .kept .1 .1 .1 .1 .1 .1 .1 .1 .1 .0
+    c .before .before .label-run2 .kept .1 .1 .1 .1 .1 .1 .1 .0
     ∙ c .before .before .before .before .before .before .loop .inv .0
 
 run-returns-3 : (t : ℕ) → label-run-lts.Need-returns-3 (run-calls t) (label-run-at t) label-run.Post Inv μ

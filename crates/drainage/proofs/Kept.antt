@@ -75,6 +75,8 @@ module _ {G : Grid} {work work′ : List ℕ} (s : SameSearch (cells G) work wor
   outlets-same o = record {
     reached = λ c i. rw (rank-same s c (outlet-lt G c i)) (o .reached c i);
     first = λ c i. rw (rank-same s c (outlet-lt G c i)) (o .first c i);
+    are-outlets = λ i l.
+        let m = count-le (cells G) (isOutlet G) in rw (place-same s i (omega arith)) (o .are-outlets i l);
     rising = λ i j l h.
         let m = count-le (cells G) (isOutlet G) in
         rw (place-same s i (omega arith), place-same s j (omega arith)) (o .rising i j l h);

@@ -3,14 +3,14 @@ use mathlib.Core.Path.{_≡_, refl, sym, _∙_, ap}
 use mathlib.Core.Bool.{Bool, true, false, not, true≢false}
 use mathlib.Core.List.{List}
 use mathlib.Core.Logic.{_≢_}
-use Prim.Native.Nat.{ℕ, _+_, _*_, _-_, _<_}
+use Prim.Native.Nat.{ℕ, suc, _+_, _*_, _-_, _<_}
 use native.Mathlib.Decide.{ℕ-discrete}
 use native.Mathlib.Numerals.{add-one}
 use native.Mathlib.Omega.{arith}
-use lib.Dec.{eqb, ltb}
+use lib.Dec.{eqb, ltb, leb}
 use lib.ListN.{getD, take, drop}
 use lib.Seq.{getD-take, getD-drop}
-use borrow.Author.Tests.{ltb-true, lt-ltb, le-ltb, le-leb, lt-leb, eq-eqb, ne-eqb, not-false}
+use borrow.Author.Tests.{eqb-true, leb-true, ltb-true, lt-ltb, le-ltb, le-leb, lt-leb, eq-eqb, ne-eqb, not-false}
 use Rattle.sheet.specs.declared.Found.{Found}
 use Rattle.sheet.specs.declared.Found.the-variants.{At, Nothing}
 use Rattle.sheet.specs.declared.Outcome.the-variants.{Accepted, Refused}
@@ -18,19 +18,20 @@ use Rattle.sheet.specs.Direction.{isCode}
 use Rattle.sheet.specs.Sheet.{Grid, cells, dirAt, inside, isOutlet, next, first}
 use Rattle.sheet.specs.Water.{reachesOutlet}
 use Rattle.sheet.specs.Label.{outlet, cellFound}
-use Rattle.sheet.specs.Refusal.{both, badCode, undrained, outletFrom, secondOutlet, refusedAt, outcomeOn}
+use Rattle.sheet.specs.Refusal.{both, badCode, undrained, outletFrom, firstAfter, secondOutlet, refusedAt, outcomeOn}
 use Rattle.sheet.proofs.Cells.{inside-lt, is-outlet}
 use Rattle.sheet.proofs.First.{first-same, none-first, at-first}
-use Rattle.claims.proofs.Counts.{not-true}
+use Rattle.sheet.proofs.Within.{both-true}
+use Rattle.claims.proofs.Counts.{not-true, count-less, count-mono}
 use Rattle.claims.proofs.Fuel.{reaches-ends, ends-at}
 use Rattle.checks.specs.declared.Target.the-variants.{Inside, Unreached, OutletFrom}
 use Rattle.checks.specs.Search.{isTarget}
 use Rattle.drainage.specs.declared.Inspection.{Inspection}
-use Rattle.upstream.specs.Work.{ranksPart, sizesPart, queuedAt, rankOf, KeptFrom}
+use Rattle.upstream.specs.Work.{ranksPart, sizesPart, queuedAt, rankOf, receiverOf, isReached, numbered, KeptFrom}
 use Rattle.upstream.specs.Search.{Searched, Coded, Drained, SingleOutlet, outletCount}
 use Rattle.drainage.specs.Inspect.{afterSearch, InspectionResult}
 use Rattle.claims.proofs.Sums.{sum-same, sum-one, count-sum}
-use Rattle.upstream.proofs.Upstream.{outlet-lt, way-inside}
+use Rattle.upstream.proofs.Upstream.{outlet-is, outlet-lt, way-inside}
 
 -- ---- what was looked for is what the definition looks for
 
@@ -185,6 +186,39 @@ module _ (G : Grid) where
           only = λ c o. only-one c o ∙ sym same;
           first = ap (queuedAt work) (sym e) ∙ s .upstream .queue .stands f (a .below) r .place ∙ sym same;
         }
+
+  -- two outlets: the second cell of a search's queue is one
+  second-is-outlet : {work : List ℕ} {queued f c : ℕ} → Searched G work queued → isOutlet G f ≡ true → isOutlet G c ≡ true
+      → f < c → (1 < queued) × (receiverOf (cells G) work (queuedAt work 1) ≡ 0)
+  second-is-outlet {work} {queued} {f} {c} s o p l =
+      let one = count-sum (cells G) (λ q. eqb q f) ∙ sum-one (cells G) f (λ q. 1) (outlet-lt G f o) in
+      let more = count-less (cells G) (isOutlet G) (λ q. eqb q f) (λ q e. ap (isOutlet G) (eqb-true q f e) ∙ o) c p
+      (ne-eqb c f (λ e. omega arith)) (outlet-lt G c p) in
+      let reach = count-mono (cells G) (isReached (cells G) work) (isOutlet G)
+      (λ q e. lt-ltb 0 _ (s .outlets .reached q e)) in
+      let two : 1 < queued = omega (arith, one, more, reach, s .upstream .queue .counted) in
+      let is = s .outlets .are-outlets 1 (omega (arith, one, more)) in
+      (two, s .upstream .receiver 1 two ∙ ap numbered (outlet-is G (queuedAt work 1) is .1))
+
+  pub no-second : {work : List ℕ} {queued : ℕ} → Searched G work queued
+      → (1 < queued → 0 < receiverOf (cells G) work (queuedAt work 1)) → secondOutlet G ≡ Nothing
+  unfolding secondOutlet outletFrom
+  no-second {work} {queued} s h = go (first (outletFrom G 0) (cells G)) refl
+    where
+      later : {f : ℕ} → first (outletFrom G 0) (cells G) ≡ At f → (y : Found)
+          → first (outletFrom G (suc f)) (cells G) ≡ y → y ≡ Nothing
+      later e Nothing q = refl
+      later {f} e (At c) q =
+          let a = at-first (outletFrom G 0) (cells G) f e .passes in
+          let b = at-first (outletFrom G (suc f)) (cells G) c q .passes in
+          let o = both-true (leb 0 f) (isOutlet G f) a .1 in
+          let p = both-true (leb (suc f) c) (isOutlet G c) b in
+          let t = second-is-outlet s o (p .1) (omega (arith, leb-true (suc f) c (p .0))) in
+          absurd (omega (arith, t .1, h (t .0)))
+
+      go : (y : Found) → first (outletFrom G 0) (cells G) ≡ y → firstAfter (outletFrom G) (cells G) y ≡ Nothing
+      go Nothing e = refl
+      go (At f) e = later e (first (outletFrom G (suc f)) (cells G)) refl
 
   -- an inside cell whose water comes to an outlet: there is an outlet
   pub outlet-some : (x : ℕ) → inside G x ≡ true → reachesOutlet (next G) (cells G) x ≡ true

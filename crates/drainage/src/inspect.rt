@@ -13,6 +13,7 @@ ghost use Rattle.directions.specs.Sizes.{Sized};
 ghost use Rattle.sheet.specs.Refusal.{refusedAt, secondOutlet};
 ghost use Rattle.drainage.specs.Inspect.{InspectionResult};
 ghost use Rattle.upstream.specs.Work.{Cleared};
+ghost use Rattle.upstream.specs.Search.{Searched};
 
 // The second outlet in reading order.
 fn second_outlet(dirs: &[u8], rows: usize, cols: usize, reached: &[u32]) -> Found
@@ -23,6 +24,22 @@ fn second_outlet(dirs: &[u8], rows: usize, cols: usize, reached: &[u32]) -> Foun
         Found::Nothing => Found::Nothing,
         Found::At(c) => checks::first_target(dirs, rows, cols, reached, Target::OutletFrom(c + 1)),
     }
+}
+
+// The same after a search. Outlets stand first in its queue, so that its second cell tells whether there are two.
+fn second_searched(dirs: &[u8], rows: usize, cols: usize, work: &[u32], queued: usize) -> Found
+    requires { ⌜ Sized rows cols (now dirs) × Searched (grid rows cols (now dirs)) (now work) queued ⌝ }
+    ensures { λ r. ⌜ r ≡ secondOutlet (grid rows cols (now (dirs .entry))) ⌝ }
+{
+    if queued < 2 {
+        return Found::Nothing;
+    }
+    let n = rows * cols;
+    let cell = work[1] as usize;
+    if 0 < work[parts::RECEIVERS * n + cell] {
+        return Found::Nothing;
+    }
+    second_outlet(dirs, rows, cols, &work[..n])
 }
 
 // The outcome of two checks, the earlier first: refused by number where one found a cell.
@@ -66,7 +83,7 @@ pub fn inspect(dirs: &[u8], rows: usize, cols: usize, work: &mut [u32]) -> Inspe
     };
     let queued = search(dirs, rows, cols, work);
     let unreached = checks::first_target(dirs, rows, cols, &work[ranks..end], Target::Unreached);
-    let second = second_outlet(dirs, rows, cols, &work[ranks..end]);
+    let second = second_searched(dirs, rows, cols, work, queued);
     Inspection {
         outcome: refused_by(6, unreached, 7, second),
         queued,

@@ -43,6 +43,7 @@ module _ (G : Grid) where
     };
     counted = refl;
     outlets = λ c l. absurd (omega arith);
+    are-outlets = λ i l. absurd (omega arith);
     before = λ i l. absurd (omega arith);
     rising = λ i j l k. absurd (omega arith);
   }
@@ -56,6 +57,7 @@ module _ (G : Grid) where
           λ c l o. elim
           (ℕ-discrete c cell)
           [ yes e ↦ absurd (true≢false (sym o ∙ ap (isOutlet G) e ∙ out)) | no d ↦ s .outlets c (omega arith) o ];
+      are-outlets = s .are-outlets;
       before = λ i l. omega (arith, s .before i l);
       rising = s .rising;
     }
@@ -100,6 +102,10 @@ module _ (G : Grid) where
         outlets = λ c l o. elim (ℕ-discrete c cell) [
           | yes e ↦ rw e (omega (arith, push-rank (cells G) work end cell 0 (s .upstream .queue .room) at-end on))
           | no d ↦ let h = s .outlets c (omega arith) o in omega (arith, seed-grown .ranks c (omega arith) h)
+        ];
+        are-outlets = λ i l. elim (ℕ-discrete i end) [
+          | yes e ↦ rw (e, new-place) is
+          | no d ↦ let l′ : i < end = omega arith in rw (seed-grown .places i l′) (s .are-outlets i l′)
         ];
         before = λ i l. elim (ℕ-discrete i end) [
           | yes e ↦ rw (e, new-place) (omega arith)

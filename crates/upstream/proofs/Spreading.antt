@@ -144,6 +144,7 @@ module _ {G : Grid} where
       first =
           λ c o. let l =
           outlet-lt G c o in omega (arith, s .counted, s .upstream .queue .stands c l (s .outlets c l o) .most);
+      are-outlets = λ i l. s .are-outlets i (omega (arith, s .counted));
       rising = λ i j l k. s .rising i j l (omega (arith, s .counted));
     };
     within = omega (arith, s .counted);
@@ -177,6 +178,7 @@ module _ {G : Grid} where
       first =
           λ c o. let h =
           s .outlets .reached c o in omega (arith, t .grown .ranks c (outlet-lt G c o) h, s .outlets .first c o);
+      are-outlets = λ m h. rw (t .grown .places m (omega (arith, s .within))) (s .outlets .are-outlets m h);
       rising = λ m k h h′.
           let p = t .grown .places m (omega (arith, s .within)) in
           let r = t .grown .places k (omega (arith, s .within)) in

@@ -26,6 +26,7 @@ pub record Seeded (G : Grid) (work : List ℕ) (end upto : ℕ) : Type 0 where
   pub upstream : Upstream G work end
   pub counted : end ≡ count upto (isOutlet G)
   pub outlets : (c : ℕ) → c < upto → isOutlet G c ≡ true → 0 < rankOf (cells G) work c
+  pub are-outlets : (i : ℕ) → i < end → isOutlet G (queuedAt work i) ≡ true
   pub before : (i : ℕ) → i < end → queuedAt work i < upto
   pub rising : (i j : ℕ) → i < j → j < end → queuedAt work i < queuedAt work j
 

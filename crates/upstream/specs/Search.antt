@@ -54,6 +54,7 @@ outletCount G = count (cells G) (isOutlet G)
 pub record OutletsFirst (G : Grid) (work : List ℕ) : Type 0 where
   pub reached : (c : ℕ) → isOutlet G c ≡ true → 0 < rankOf (cells G) work c
   pub first : (c : ℕ) → isOutlet G c ≡ true → rankOf (cells G) work c ≤ outletCount G
+  pub are-outlets : (i : ℕ) → i < outletCount G → isOutlet G (queuedAt work i) ≡ true
   pub rising : (i j : ℕ) → i < j → j < outletCount G → queuedAt work i < queuedAt work j
 
 -- a search is finished: the cells reached are those whose water comes to an outlet

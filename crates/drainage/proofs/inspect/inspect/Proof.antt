@@ -126,20 +126,8 @@ part-first-target-end-2 c = search needs
 first-target-requires-2 : tie.Need-first-target-requires-2
 first-target-requires-2 c κs = search needs
 
-mul-second-outlet : tie.Need-mul-second-outlet
-mul-second-outlet c = search needs
-
-sub-second-outlet : tie.Need-sub-second-outlet
-sub-second-outlet c = search needs
-
-part-second-outlet-start : tie.Need-part-second-outlet-start
-part-second-outlet-start c = search needs
-
-part-second-outlet-end : tie.Need-part-second-outlet-end
-part-second-outlet-end c = search needs
-
-second-outlet-requires : tie.Need-second-outlet-requires
-second-outlet-requires c κs = search needs
+second-searched-requires : tie.Need-second-searched-requires
+second-searched-requires c κs = search needs
 
 refused-by-requires : tie.Need-refused-by-requires
 refused-by-requires c κs = search needs
@@ -149,12 +137,12 @@ same-length-2 c = search needs
 
 returns-3 : tie.Need-returns-3
 returns-3 c =
-    let search = (after-search (c .before .before .before .before)) .search in
-    inspected (no-bad ((after-enum-told (after-enum-told2 (after-search (c .before .before .before .before))))))
-    (some ((after-enum-told2 (after-search (c .before .before .before .before))))) (search .ensures .0)
+    let search = (after-search (c .before .before .before)) .search in
+    inspected (no-bad ((after-enum-told (after-enum-told2 (after-search (c .before .before .before))))))
+    (some ((after-enum-told2 (after-search (c .before .before .before))))) (search .ensures .0)
     (rw (
-      unreached (c .before .before .before .before),
-      c .before .second-outlet .ensures,
+      unreached (c .before .before .before),
+      c .before .second-searched .ensures,
     ) at (c .refused-by .ensures)) (search .ensures .1)
 
 pub inspect-spec : {M : Type 1} → statement M
@@ -185,11 +173,7 @@ inspect-spec =
     part-first-target-start-2
     part-first-target-end-2
     first-target-requires-2
-    mul-second-outlet
-    sub-second-outlet
-    part-second-outlet-start
-    part-second-outlet-end
-    second-outlet-requires
+    second-searched-requires
     refused-by-requires
     same-length-2
     returns-3)

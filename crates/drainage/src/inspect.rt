@@ -12,7 +12,7 @@ ghost use Rattle.sheet.specs.Sheet.{grid};
 ghost use Rattle.directions.specs.Sizes.{Sized};
 ghost use Rattle.sheet.specs.Refusal.{refusedAt, secondOutlet};
 ghost use Rattle.drainage.specs.Inspect.{InspectionResult};
-ghost use Rattle.upstream.specs.Work.{Cleared};
+ghost use Rattle.upstream.specs.Work.{Unranked};
 ghost use Rattle.upstream.specs.Search.{Searched};
 
 // The second outlet in reading order.
@@ -68,7 +68,7 @@ fn refused(number: u8, cell: usize) -> Inspection
 // Looks for what a sheet is refused for: a byte that is no code, no inside cell, an inside cell that the search did not
 // reach, a second outlet.
 pub fn inspect(dirs: &[u8], rows: usize, cols: usize, work: &mut [u32]) -> Inspection
-    requires { ⌜ Sized rows cols (now dirs) × Cleared (rows * cols) (now work) ⌝ }
+    requires { ⌜ Sized rows cols (now dirs) × Unranked (rows * cols) (now work) ⌝ }
     ensures { λ r. ⌜ InspectionResult (grid rows cols (now (dirs .entry))) (now (work .entry)) (now (work .exit)) r ⌝ }
 {
     if let Found::At(c) = checks::codes::first_bad_code(dirs, rows, cols) {

@@ -1,12 +1,13 @@
 -- What each step of labelling hands to the next.
 use mathlib.Core.Path.{_≡_, refl, sym, ap, _∙_, subst, fun-ext}
 use mathlib.Core.Bool.{true}
-use mathlib.Core.List.{List}
+use mathlib.Core.List.{List, _++_}
 use Prim.Native.Nat.{ℕ, _+_, _*_, _-_, _<_, _≤_}
 use native.Mathlib.Decide.{decLt}
 use native.Mathlib.Omega.{arith}
-use lib.ListN.{length, getD, take, drop, replicate, length-take, length-replicate, getD-replicate, List·getD-eq-default}
-use lib.Seq.{getD-take}
+use lib.ListN.{length, getD, List·getD-append, take, drop, replicate, length-take, length-replicate, getD-replicate, List·getD-eq-default}
+use lib.Seq.{getD-take, getD-append-add, length-take-le}
+use borrow.Rule.Slice.PartMut.{putMid, midOf, postOf, mid-len, same-len-mid}
 use Rattle.sheet.specs.declared.Outcome.the-variants.{Accepted}
 use Rattle.sheet.specs.Sheet.{Grid, Sheet, cells, inside}
 use Rattle.directions.specs.Sizes.{Sized}
@@ -23,7 +24,7 @@ use Rattle.upstream.proofs.Queues.{queued-most as queue-most}
 use Rattle.drainage.specs.declared.Inspection.{Inspection}
 use Rattle.upstream.specs.Search.{Drained}
 use Rattle.drainage.specs.Inspect.{InspectionResult}
-use Rattle.upstream.specs.Work.{Cleared}
+use Rattle.upstream.specs.Work.{ranksPart, Unranked, rankOf}
 use Rattle.drainage.specs.Total.{sizesOf}
 use Rattle.drainage.proofs.Kept.{with-sizes-same, drained-same, single-same, size-written}
 use Rattle.rivers.specs.Layout.{Layout}
@@ -147,12 +148,33 @@ module _ (S : Sheet) {areas work : List ℕ} {queued : ℕ} (accepted : outcomeO
       f network-of ∙ (rw (r .outlet-first, e) (basin-labels S (the-basin S accepted) labels room))
 
 -- ---- the work places
-pub cleared : (n : ℕ) (old : List ℕ) {work : List ℕ} → length old ≡ 8 * n → work ≡ replicate (length old) 0
-    → Cleared n work
-cleared n old long e = rw (e, long) (record {
-  room = rw length-replicate (omega arith);
-  zero = λ j k. getD-replicate (8 * n) j 0 0 k;
-})
+-- 8n work places of which the part with the ranks is cleared
+module _ (n : ℕ) (old : List ℕ) (long : length old ≡ 8 * n) where
+  abbrev part : ℕ
+  part = ranksPart * n + n - ranksPart * n
+
+  module _ {ranks : List ℕ} (e : ranks ≡ replicate (length (midOf (ranksPart * n) part old)) 0) where
+    middle : length (midOf (ranksPart * n) part old) ≡ part
+    middle = mid-len (ranksPart * n) (ranksPart * n + n) old (omega (arith, long))
+
+    many : length ranks ≡ part
+    many = ap length e ∙ length-replicate _ 0 ∙ middle
+
+    pub cleared-long : length (putMid (ranksPart * n) part old ranks) ≡ length old
+    cleared-long = same-len-mid (ranksPart * n) part old ranks (many ∙ sym middle)
+
+    pub unranked : Unranked n (putMid (ranksPart * n) part old ranks)
+    unranked =
+        let front = length-take-le (ranksPart * n) old (omega (arith, long)) in
+        record {
+          room = rw cleared-long (omega (arith, long));
+          zero = λ c l.
+              ap (λ (k : ℕ). getD (putMid (ranksPart * n) part old ranks) (k + c) 0) (sym front)
+              ∙ getD-append-add (take (ranksPart * n) old) (ranks ++ postOf (ranksPart * n) part old) c 0
+              ∙ List·getD-append ranks (postOf (ranksPart * n) part old) 0 c (omega (arith, many))
+              ∙ ap (λ (r : List ℕ). getD r c 0) e
+              ∙ getD-replicate (length (midOf (ranksPart * n) part old)) c 0 0 (omega (arith, middle));
+        }
 
 pub other-work : {S : Sheet} {areas labels work work′ : List ℕ}
     → Fitting S (record { areas = areas; labels = labels; work = work }) → length work′ ≡ length work

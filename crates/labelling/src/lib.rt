@@ -124,7 +124,10 @@ fn label_in_order(
         (lent (now (areas .entry)) (now (labels .entry)) (now (work .entry)))
         (lent (now (areas .exit)) (now (labels .exit)) (now (work .exit))) r ⌝ }
 {
-    clear_places(work);
+    let n = rows * cols;
+    let ranks = parts::RANKS * n;
+    let end = ranks + n;
+    clear_places(&mut work[ranks..end]);
     let found = drainage::inspect::inspect(dirs, rows, cols, work);
     write_if_accepted(found, rows, cols, depth, dirs, areas, labels, work);
     found

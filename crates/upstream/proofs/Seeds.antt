@@ -9,10 +9,10 @@ use native.Mathlib.Omega.{arith}
 use Rattle.sheet.specs.Sheet.{Grid, cells, isOutlet}
 use Rattle.sheet.specs.Area.{count}
 use Rattle.sheet.proofs.Cells.{outlet-not-to}
-use Rattle.upstream.specs.Work.{ranksPart, queuedAt, rankOf, isReached, numbered, pushed}
+use Rattle.upstream.specs.Work.{queuedAt, rankOf, isReached, numbered, pushed}
 use Rattle.upstream.specs.Search.{Upstream}
 use Rattle.upstream.specs.Growth.{Grown, Seeded}
-use Rattle.upstream.specs.Work.{Cleared}
+use Rattle.upstream.specs.Work.{Unranked}
 use Rattle.claims.proofs.Sums.{count-none}
 use Rattle.upstream.proofs.Queues.{reached-no, end-on, grown-push, push-place, push-rank}
 use Rattle.upstream.proofs.Upstream.{outlet-is, upstream-push}
@@ -26,7 +26,7 @@ unfolding count
 count-yes n t e = rw (add-one n, e, add-one (count n t))
 
 module _ (G : Grid) where
-  pub seeded-start : {work : List ℕ} → Cleared (cells G) work → Seeded G work 0 0
+  pub seeded-start : {work : List ℕ} → Unranked (cells G) work → Seeded G work 0 0
   unfolding count
   seeded-start {work} f = record {
     upstream = record {
@@ -34,9 +34,9 @@ module _ (G : Grid) where
         room = omega (arith, f .room);
         counted =
             sym (count-none (cells G) (isReached (cells G) work)
-            (λ c l. reached-no (cells G) work c (f .zero (ranksPart * cells G + c) (omega arith))));
+            (λ c l. reached-no (cells G) work c (f .zero c l)));
         item = λ i l. absurd (omega arith);
-        stands = λ c l h. absurd (omega (arith, f .zero (ranksPart * cells G + c) (omega arith)));
+        stands = λ c l h. absurd (omega (arith, f .zero c l));
       };
       is-inside = λ i l. absurd (omega arith);
       receiver = λ i l. absurd (omega arith);

@@ -40,17 +40,17 @@ orderedSizesPart = 6
 
 -- ---- what they hold
 
--- 8n places, all 0
-pub record Cleared (n : ℕ) (work : List ℕ) : Type 0 where
-  pub room : 8 * n ≤ length work
-  pub zero : (j : ℕ) → j < 8 * n → getD work j 0 ≡ 0
-
 -- the cell at a place of the queue
 abbrev pub queuedAt : List ℕ → ℕ → ℕ
 queuedAt work i = getD work i 0
 
 abbrev pub rankOf : ℕ → List ℕ → ℕ → ℕ
 rankOf n work c = getD work (ranksPart * n + c) 0
+
+-- before a search: 8n places, and no cell has a rank
+pub record Unranked (n : ℕ) (work : List ℕ) : Type 0 where
+  pub room : 8 * n ≤ length work
+  pub zero : (c : ℕ) → c < n → rankOf n work c ≡ 0
 
 abbrev pub receiverOf : ℕ → List ℕ → ℕ → ℕ
 receiverOf n work c = getD work (receiversPart * n + c) 0

@@ -7,7 +7,7 @@ ghost use Prim.Native.Nat.{_+_, _*_, _/_, _%_, _<_, _≤_};
 ghost use lib.ListN.{length};
 ghost use Rattle.sheet.specs.Sheet.{grid, isOutlet};
 ghost use Rattle.directions.specs.Sizes.{mostCells, OnSheet, Sized};
-ghost use Rattle.upstream.specs.Work.{sizesPart, Cleared, KeptFrom, pushed};
+ghost use Rattle.upstream.specs.Work.{sizesPart, Unranked, KeptFrom, pushed};
 ghost use Rattle.upstream.specs.Search.{Coded, Searched};
 ghost use Rattle.upstream.specs.Growth.{Ready, DonorsPushed, AllPushed, Seeded, Spread};
 
@@ -67,7 +67,7 @@ fn seed_row(
 
 // Queues the outlets, in reading order.
 fn seed(dirs: &[u8], rows: usize, cols: usize, work: &mut [u32]) -> usize
-    requires { ⌜ Sized rows cols (now dirs) × Cleared (rows * cols) (now work) ⌝ }
+    requires { ⌜ Sized rows cols (now dirs) × Unranked (rows * cols) (now work) ⌝ }
     ensures { λ r. ⌜ Seeded (grid rows cols (now (dirs .entry))) (now (work .exit)) r (rows * cols)
         × KeptFrom (sizesPart * (rows * cols)) (now (work .entry)) (now (work .exit)) ⌝ }
 {
@@ -147,7 +147,7 @@ fn spread(dirs: &[u8], rows: usize, cols: usize, work: &mut [u32], outlets: usiz
 // Queues every inside cell whose water comes to an outlet, each after the cell that its water goes to. How many there
 // are.
 pub fn search(dirs: &[u8], rows: usize, cols: usize, work: &mut [u32]) -> usize
-    requires { ⌜ Sized rows cols (now dirs) × Coded (grid rows cols (now dirs)) × Cleared (rows * cols) (now work) ⌝ }
+    requires { ⌜ Sized rows cols (now dirs) × Coded (grid rows cols (now dirs)) × Unranked (rows * cols) (now work) ⌝ }
     ensures { λ r. ⌜ Searched (grid rows cols (now (dirs .entry))) (now (work .exit)) r
         × KeptFrom (sizesPart * (rows * cols)) (now (work .entry)) (now (work .exit)) ⌝ }
 {

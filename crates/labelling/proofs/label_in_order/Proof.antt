@@ -2,7 +2,7 @@
 use mathlib.Core.Path.{_∙_}
 use Prim.Native.Nat.{_*_}
 use borrow.Author.Needs.{needs}
-use Rattle.labelling.proofs.Steps.{cleared, other-work, inspected}
+use Rattle.labelling.proofs.Steps.{unranked, cleared-long, other-work, inspected}
 use Rattle.labelling.proofs.label_in_order.Statement.{statement}
 use Rattle.labelling.proofs.label_in_order.Tie as tie
 use Rattle.labelling.proofs.label_in_order.Reads as reads
@@ -21,6 +21,27 @@ after-clear-places c = c .before .before .before .before
 abbrev after-inspect : tie.After-write-if-accepted → tie.After-inspect
 after-inspect c = c .before .before .before .before .before .before
 
+mul-n : tie.Need-mul-n
+mul-n c = search needs
+
+mul-ranks : tie.Need-mul-ranks
+mul-ranks c = search needs
+
+add-end : tie.Need-add-end
+add-end c = search needs
+
+mul-clear-places : tie.Need-mul-clear-places
+mul-clear-places c = search needs
+
+sub-clear-places : tie.Need-sub-clear-places
+sub-clear-places c = search needs
+
+part-clear-places-start : tie.Need-part-clear-places-start
+part-clear-places-start c = search needs
+
+part-clear-places-end : tie.Need-part-clear-places-end
+part-clear-places-end c = search needs
+
 clear-places-requires : tie.Need-clear-places-requires
 clear-places-requires c κs = search needs
 
@@ -28,17 +49,20 @@ inspect-requires : tie.Need-inspect-requires
 inspect-requires c κs =
     let s = (start (c .before .before .before)) in (
       s .pre .sized,
-      cleared (s .args .rows * s .args .cols) (s .args .work .now) (s .pre .work)
+      unranked (s .args .rows * s .args .cols) (s .args .work .now) (s .pre .work)
           (c .before .before .before .clear-places .ensures),
     )
 
 write-if-accepted-requires : tie.Need-write-if-accepted-requires
-write-if-accepted-requires c κs = (
-  other-work ((start (after-clear-places (c .before .before .before .before .before))) .pre)
-      (c .before .before .before .before .before .inspect .kept .1 .1 .1 .0 ∙
-      (after-clear-places (c .before .before .before .before .before)) .clear-places .kept .0),
-  inspected (c .before .before .before .before .before .inspect .ensures),
-)
+write-if-accepted-requires c κs =
+    let i = c .before .before .before .before .before in
+    let a = after-clear-places i in
+    let s = start a in (
+      other-work (s .pre)
+          (i .inspect .kept .1 .1 .1 .0 ∙ cleared-long (s .args .rows * s .args .cols) (s .args .work .now) (s .pre .work)
+          (a .clear-places .ensures)),
+      inspected (i .inspect .ensures),
+    )
 
 same-length : tie.Need-same-length
 same-length c = search needs
@@ -64,6 +88,13 @@ pub label-in-order-spec : {M : Type 1} → statement M
 label-in-order-spec =
     tie.close
     (tie.spec
+    mul-n
+    mul-ranks
+    add-end
+    mul-clear-places
+    sub-clear-places
+    part-clear-places-start
+    part-clear-places-end
     clear-places-requires
     inspect-requires
     write-if-accepted-requires

@@ -2,21 +2,21 @@
 use mathlib.Core.Path.{_≡_, refl, sym, ap, _∙_}
 use mathlib.Core.Bool.{Bool, true, false, cond}
 use mathlib.Core.List.{List, _++_}
-use Prim.Native.Nat.{ℕ, _*_, _<_, _≤_}
+use Prim.Native.Nat.{ℕ, _*_, _≤_}
 use native.Mathlib.Omega.{arith}
 use lib.Dec.{leb}
 use lib.ListN.{length, take, drop, replicate, length-replicate}
 use lib.Seq.{length-take-le}
-use borrow.Author.Tests.{leb-true}
+use borrow.Author.Tests.{leb-true, le-leb}
 use Rattle.sheet.specs.declared.Outcome.{Outcome}
 use Rattle.sheet.specs.declared.Outcome.the-variants.{Accepted, Refused}
 use Rattle.sheet.specs.Sheet.{Sheet, cells}
-use Rattle.directions.specs.Sizes.{Sized}
 use Rattle.sheet.specs.Label.{areasOf, labelsOf}
-use Rattle.sheet.specs.Refusal.{Lent, both, written, sizesFit, depthFits, slicesFit, outcomeOn, outcome, outcomeValues, ifAccepted, lentAfter}
+use Rattle.sheet.specs.Refusal.{Lent, both, written, sizesFit, depthFits, slicesFit, outcomeOn, outcome}
+use Rattle.sheet.specs.Refusal.{outcomeValues, ifAccepted, lentAfter}
 use Rattle.sheet.proofs.Cells.{cells-most}
 use Rattle.sheet.proofs.Within.{both-true, rows-cols-most, cols-some, depth-most}
-use Rattle.labelling.specs.Labelling.{Fitting}
+use Rattle.labelling.specs.Labelling.{checkedFirst, firstChecks, Fitting}
 
 -- rows and columns, within their bounds
 pub record Bounded (rows cols : ℕ) : Type 0 where
@@ -66,42 +66,58 @@ module _ (S : Sheet) (L : Lent) where
           }
       go o e b f = rw (e, f)
 
-  outcome-by : (a b c : Bool) → sizesFit (S .grid .rows) (S .grid .cols) ≡ a → depthFits (S .depth) ≡ b
-      → slicesFit (S .grid) L ≡ c
-      → outcome S L ≡ cond a (cond b (cond c (outcomeOn (S .grid)) (Refused 3 0)) (Refused 2 0)) (Refused 1 0)
-  unfolding outcome
-  outcome-by a b c e f g =
-      go (sizesFit (S .grid .rows) (S .grid .cols)) e (depthFits (S .depth)) f (slicesFit (S .grid) L) g
+  -- checks 1 to 3, by what each test gives
+  record By (a b c : Bool) : Type 0 where
+    sizes : sizesFit (S .grid .rows) (S .grid .cols) ≡ a
+    depth : depthFits (S .depth) ≡ b
+    slices : slicesFit (S .grid) L ≡ c
+    first : firstChecks S L ≡ cond a (cond b (cond c Accepted (Refused 3 0)) (Refused 2 0)) (Refused 1 0)
+    whole : outcome S L ≡ cond a (cond b (cond c (outcomeOn (S .grid)) (Refused 3 0)) (Refused 2 0)) (Refused 1 0)
+    fit : fits ≡ both a (both b c)
+
+  by : {a b c : Bool} → sizesFit (S .grid .rows) (S .grid .cols) ≡ a → depthFits (S .depth) ≡ b
+      → slicesFit (S .grid) L ≡ c → By a b c
+  unfolding outcome checkedFirst slicesFit
+  by e f g = record {
+    sizes = e;
+    depth = f;
+    slices = g;
+    first = rw (e, f, g);
+    whole = rw (e, f, g);
+    fit = rw (e, f, g);
+  }
+
+  -- refused by one of them
+  pub refused : {number place : ℕ} → firstChecks S L ≡ Refused number place → Answered (Refused number place) L
+  refused {number} {place} r =
+      go (sizesFit (S .grid .rows) (S .grid .cols)) (depthFits (S .depth)) (slicesFit (S .grid) L) (by refl refl refl)
     where
-      go : (x : Bool) → x ≡ a → (y : Bool) → y ≡ b → (z : Bool) → z ≡ c
-          → cond x (cond y (cond z (outcomeOn (S .grid)) (Refused 3 0)) (Refused 2 0)) (Refused 1 0)
-          ≡ cond a (cond b (cond c (outcomeOn (S .grid)) (Refused 3 0)) (Refused 2 0)) (Refused 1 0)
-      go x p y q z r = rw (p, q, r)
+      same : {o : Outcome} → firstChecks S L ≡ o → outcome S L ≡ o → fits ≡ false → Answered (Refused number place) L
+      same e w f = let o = w ∙ sym e ∙ r in answered (sym o) (lent-kept number place o f)
 
-  fits-by : (a b c : Bool) → sizesFit (S .grid .rows) (S .grid .cols) ≡ a → depthFits (S .depth) ≡ b
-      → slicesFit (S .grid) L ≡ c → fits ≡ both a (both b c)
-  fits-by a b c e f g = rw (e, f, g)
+      go : (a b c : Bool) → By a b c → Answered (Refused number place) L
+      go false b c t = same (t .first) (t .whole) (t .fit)
+      go true false c t = same (t .first) (t .whole) (t .fit)
+      go true true false t = same (t .first) (t .whole) (t .fit)
+      go true true true t =
+          let a = t .first in
+          let z : _≡_ {A = ℕ} 0 1 = cc in absurd (omega arith)
 
-  pub refused-1 : sizesFit (S .grid .rows) (S .grid .cols) ≡ false → Answered (Refused 1 0) L
-  refused-1 e =
-      let o = outcome-by false (depthFits (S .depth)) (slicesFit (S .grid) L) e refl refl in
-      answered (sym o) (lent-kept 1 0 o (fits-by false (depthFits (S .depth)) (slicesFit (S .grid) L) e refl refl))
+  -- all are passed
+  passed : firstChecks S L ≡ Accepted → By true true true
+  passed r =
+      go (sizesFit (S .grid .rows) (S .grid .cols)) (depthFits (S .depth)) (slicesFit (S .grid) L) (by refl refl refl)
+    where
+      clash : {number place : ℕ} → firstChecks S L ≡ Refused number place → By true true true
+      clash e = let z : _≡_ {A = ℕ} 0 1 = cc in absurd (omega arith)
 
-  pub refused-2 : sizesFit (S .grid .rows) (S .grid .cols) ≡ true → depthFits (S .depth) ≡ false
-      → Answered (Refused 2 0) L
-  refused-2 e f =
-      let o = outcome-by true false (slicesFit (S .grid) L) e f refl in
-      answered (sym o) (lent-kept 2 0 o (fits-by true false (slicesFit (S .grid) L) e f refl))
+      go : (a b c : Bool) → By a b c → By true true true
+      go false b c t = clash (t .first)
+      go true false c t = clash (t .first)
+      go true true false t = clash (t .first)
+      go true true true t = t
 
-  pub refused-3 : sizesFit (S .grid .rows) (S .grid .cols) ≡ true → depthFits (S .depth) ≡ true
-      → slicesFit (S .grid) L ≡ false
-      → Answered (Refused 3 0) L
-  refused-3 e f g =
-      let o = outcome-by true true false e f g in
-      answered (sym o) (lent-kept 3 0 o (fits-by true true false e f g))
-
-  module _ (e : sizesFit (S .grid .rows) (S .grid .cols) ≡ true) (f : depthFits (S .depth) ≡ true)
-      (g : slicesFit (S .grid) L ≡ true) where
+  module _ (accepted : firstChecks S L ≡ Accepted) where
     -- enough places are lent
     long : Long
     unfolding slicesFit
@@ -110,7 +126,7 @@ module _ (S : Sheet) (L : Lent) where
         let b = leb (cells (S .grid)) (length (L .areas)) in
         let c = leb (cells (S .grid)) (length (L .labels)) in
         let d = leb (8 * cells (S .grid)) (length (L .work)) in
-        let p = both-true a (both b (both c d)) g in
+        let p = both-true a (both b (both c d)) (passed accepted .slices) in
         let q = both-true b (both c d) (p .1) in
         let r = both-true c d (q .1) in
         record {
@@ -123,23 +139,45 @@ module _ (S : Sheet) (L : Lent) where
     pub room : 8 * cells (S .grid) ≤ length (L .work)
     room = long .work
 
+    pub sizes-bounded : Bounded (S .grid .rows) (S .grid .cols)
+    sizes-bounded = bounded (S .grid .rows) (S .grid .cols) (passed accepted .sizes)
+
     -- checks 4 to 7 can begin
     pub fitting : Fitting S
         (record { areas = L .areas; labels = L .labels; work = take (8 * cells (S .grid)) (L .work) })
-    fitting =
-        let b = bounded (S .grid .rows) (S .grid .cols) e in
-        record {
-          sized = record {
-            rows-most = b .rows-most;
-            cols-most = b .cols-most;
-            cols-some = b .cols-some;
-            long = long .dirs;
-          };
-          depth-most = depth-most (S .depth) f;
-          areas = long .areas;
-          labels = long .labels;
-          work = length-take-le (8 * cells (S .grid)) (L .work) room;
-        }
+    fitting = record {
+      sized = record {
+        rows-most = sizes-bounded .rows-most;
+        cols-most = sizes-bounded .cols-most;
+        cols-some = sizes-bounded .cols-some;
+        long = long .dirs;
+      };
+      depth-most = depth-most (S .depth) (passed accepted .depth);
+      areas = long .areas;
+      labels = long .labels;
+      work = length-take-le (8 * cells (S .grid)) (L .work) room;
+    }
+
+    -- checks 1 to 3 are passed with exactly the work places that are needed, too
+    pub still-passed : firstChecks S
+        (record { areas = L .areas; labels = L .labels; work = take (8 * cells (S .grid)) (L .work) }) ≡ Accepted
+    unfolding checkedFirst
+    still-passed =
+        let n = cells (S .grid) in
+        let t = passed accepted in
+        rw (
+          t .sizes,
+          t .depth,
+          length-take-le (8 * n) (L .work) room,
+          le-leb n (length (S .grid .dirs)) (long .dirs),
+          le-leb n (length (L .areas)) (long .areas),
+          le-leb n (length (L .labels)) (long .labels),
+          le-leb (8 * n) (8 * n) (omega arith),
+        )
+
+    -- checks 4 to 7 decide
+    pub the-rest : outcome S L ≡ outcomeOn (S .grid)
+    the-rest = passed accepted .whole
 
     -- after checks 4 to 7
     pub labelled : {r : Outcome} {areas labels work : List ℕ} → r ≡ outcomeOn (S .grid)
@@ -149,8 +187,8 @@ module _ (S : Sheet) (L : Lent) where
         → Answered r (record { areas = areas; labels = labels; work = work })
     unfolding lentAfter
     labelled {r} {areas} {labels} {work} o a l w =
-        let same : r ≡ outcome S L = o ∙ sym (outcome-by true true true e f g) in
-        answered same (go (outcome S L) same fits (fits-by true true true e f g))
+        let same : r ≡ outcome S L = o ∙ sym the-rest in
+        answered same (go (outcome S L) same fits (passed accepted .fit))
       where
         go : (x : Outcome) → r ≡ x → (b : Bool) → b ≡ true
             → _≡_ {A = Lent} (record { areas = areas; labels = labels; work = work }) (record {

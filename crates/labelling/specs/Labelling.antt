@@ -1,14 +1,16 @@
 -- A direct call's sheet and lent slices, and what its steps ask and promise.
 use mathlib.Core.Path.{_≡_}
-use mathlib.Core.Bool.{true}
+use mathlib.Core.Bool.{cond}
 use mathlib.Core.List.{List}
 use Prim.Native.Nat.{ℕ, _*_, _≤_}
+use lib.Dec.{leb}
 use lib.ListN.{length}
 use Rattle.sheet.specs.Sheet.{Grid, Sheet, grid, cells}
 use Rattle.directions.specs.Sizes.{Sized}
 use Rattle.sheet.specs.Label.{areasOf, labelsOf}
-use Rattle.sheet.specs.Refusal.{Lent, outcomeOn, ifAccepted}
-use Rattle.sheet.specs.declared.Outcome.the-variants.{Accepted}
+use Rattle.sheet.specs.Refusal.{Lent, both, sizesFit, depthFits, outcomeOn, ifAccepted}
+use Rattle.sheet.specs.declared.Outcome.{Outcome}
+use Rattle.sheet.specs.declared.Outcome.the-variants.{Accepted, Refused}
 use Rattle.upstream.specs.Search.{Drained, SingleOutlet}
 use Rattle.drainage.specs.declared.Inspection.{Inspection}
 use Rattle.order.specs.Places.{Arranged}
@@ -18,6 +20,19 @@ sheet rows cols depth dirs = record { grid = grid rows cols dirs; depth = depth 
 
 abbrev pub lent : List ℕ → List ℕ → List ℕ → Lent
 lent areas labels work = record { areas = areas; labels = labels; work = work }
+
+-- checks 1, 2 and 3, in this order; of the slices only the lengths count
+unfoldable pub checkedFirst : ℕ → ℕ → ℕ → ℕ → ℕ → ℕ → ℕ → Outcome
+unfolding sizesFit depthFits
+checkedFirst rows cols depth dirs areas labels work =
+    let n = rows * cols in
+    let fit = both (leb n dirs) (both (leb n areas) (both (leb n labels) (leb (8 * n) work))) in
+    cond (sizesFit rows cols) (cond (depthFits depth) (cond fit Accepted (Refused 3 0)) (Refused 2 0)) (Refused 1 0)
+
+abbrev pub firstChecks : Sheet → Lent → Outcome
+firstChecks S L =
+    checkedFirst (S .grid .rows) (S .grid .cols) (S .depth) (length (S .grid .dirs)) (length (L .areas))
+    (length (L .labels)) (length (L .work))
 
 -- checks 1 to 3 are passed, and exactly the work places that are needed are lent
 pub record Fitting (S : Sheet) (L : Lent) : Type 0 where

@@ -12,7 +12,7 @@ ghost use Rattle.sheet.specs.Sheet.{grid, cells};
 ghost use Rattle.sheet.specs.Label.{areasOf, labelsOf};
 ghost use Rattle.sheet.specs.Refusal.{written, ifAccepted, both, outcomeOn, outcome, outcomeValues, lentAfter};
 ghost use Rattle.directions.specs.Sizes.{mostCells};
-ghost use Rattle.labelling.specs.Labelling.{sheet, lent, Fitting, Inspected, LabelledInOrder};
+ghost use Rattle.labelling.specs.Labelling.{sheet, lent, checkedFirst, Fitting, Inspected, LabelledInOrder};
 ghost use Rattle.order.specs.Places.{Arranged};
 
 // How many mouths of a unit are taken, and the least area of a mouth that counts.
@@ -21,7 +21,7 @@ const SPLIT: usize = 4;
 const LEAST_AREA: u32 = 1;
 
 // Sets all places to 0.
-fn clear_places(places: &mut [u32])
+pub fn clear_places(places: &mut [u32])
     ensures { λ _. ⌜ now (places .exit) ≡ replicate (length (now (places .entry))) 0 ⌝ }
 {
     for i in 0..places.len() {
@@ -110,7 +110,7 @@ fn write_if_accepted(
 
 // Labels a sheet that passed checks 1 to 3. Of an accepted sheet the order along rivers is left in the work places,
 // with the number of its cells.
-fn label_in_order(
+pub fn label_in_order(
     rows: usize,
     cols: usize,
     depth: usize,
@@ -173,6 +173,32 @@ fn slices_fit(n: usize, dirs: usize, areas: usize, labels: usize, work: usize) -
     8 * n <= work
 }
 
+// Checks 1, 2 and 3, in this order, of a sheet's sizes, its depth and the lengths of its slices.
+pub fn first_checks(
+    rows: usize,
+    cols: usize,
+    depth: usize,
+    dirs: usize,
+    areas: usize,
+    labels: usize,
+    work: usize,
+) -> Outcome
+    ensures { λ r. ⌜ r ≡ checkedFirst rows cols depth dirs areas labels work ⌝ }
+{
+    let sizes_fit = checks::sizes_fit(rows, cols);
+    let depth_fits = checks::depth_fits(depth);
+    if sizes_fit {
+        if depth_fits {
+            if slices_fit(rows * cols, dirs, areas, labels, work) {
+                return Outcome::Accepted;
+            }
+            return Outcome::Refused(3, 0);
+        }
+        return Outcome::Refused(2, 0);
+    }
+    Outcome::Refused(1, 0)
+}
+
 // Labels a sheet: refusals 1 to 7 in order, with document 01's number and place; accepted, the first rows × cols areas
 // and labels are written.
 pub fn label(
@@ -193,18 +219,19 @@ pub fn label(
         ≡ lentAfter (sheet rows cols depth (now (dirs .entry)))
         (lent (now (areas .entry)) (now (labels .entry)) (now (work .entry))) ⌝ }
 {
-    let sizes_fit = checks::sizes_fit(rows, cols);
-    let depth_fits = checks::depth_fits(depth);
-    if sizes_fit {
-        if depth_fits {
-            let n = rows * cols;
-            if slices_fit(n, dirs.len(), areas.len(), labels.len(), work.len()) {
-                let places = 8 * n;
-                return label_fitting(rows, cols, depth, dirs, areas, labels, &mut work[..places]);
-            }
-            return Outcome::Refused(3, 0);
+    match first_checks(
+        rows,
+        cols,
+        depth,
+        dirs.len(),
+        areas.len(),
+        labels.len(),
+        work.len(),
+    ) {
+        Outcome::Accepted => {
+            let places = 8 * (rows * cols);
+            label_fitting(rows, cols, depth, dirs, areas, labels, &mut work[..places])
         }
-        return Outcome::Refused(2, 0);
+        Outcome::Refused(number, place) => Outcome::Refused(number, place),
     }
-    Outcome::Refused(1, 0)
 }

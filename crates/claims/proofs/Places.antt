@@ -8,16 +8,16 @@ use Rattle.sheet.specs.declared.Found.the-variants.{At, Nothing}
 use Rattle.sheet.specs.declared.Outcome.{Outcome}
 use Rattle.sheet.specs.declared.Outcome.the-variants.{Accepted, Refused}
 use Rattle.sheet.specs.Sheet.{Grid, Sheet, cells, inside, first}
-use Rattle.sheet.specs.Refusal.{Lent, badCode, undrained, outletFrom, firstAfter, secondOutlet, refusedAt, refusedIfNone}
-use Rattle.sheet.specs.Refusal.{sizesFit, depthFits, slicesFit, outcomeOn, outcome}
+use Rattle.sheet.specs.Refusal.{Lent, badCode, undrained, outletFrom, firstAfter, secondOutlet, refusedAt}
+use Rattle.sheet.specs.Refusal.{refusedIfNone, sizesFit, depthFits, slicesFit, outcomeOn, outcome}
 use Rattle.sheet.proofs.First.{at-first}
 use Rattle.sheet.proofs.Cells.{cells-most}
 use Rattle.sheet.proofs.Within.{rows-cols-most}
 
--- a small number, and a place that is the number of a cell
+-- a small number that is not 0, and a place that is the number of a cell
 abbrev pub SmallRefusal : Outcome → Type 0
 SmallRefusal Accepted = Unit
-SmallRefusal (Refused number place) = (number ≤ 7) × (place < 65536)
+SmallRefusal (Refused number place) = (1 ≤ number) × (number ≤ 7) × (place < 65536)
 
 -- a cell that was found lies below a bound
 abbrev Below : ℕ → Found → Type 0
@@ -34,25 +34,26 @@ second-below G = go (first (outletFrom G 0) (cells G))
     go Nothing c e = let z : _≡_ {A = ℕ} 0 1 = cc in absurd (omega arith)
     go (At k) c e = first-below (cells G) (outletFrom G (suc k)) c e
 
-at-small : {n number : ℕ} (f : Found) (rest : Outcome) → n ≤ 65536 → number ≤ 7 → Below n f → SmallRefusal rest
+at-small : {n number : ℕ} (f : Found) (rest : Outcome) → n ≤ 65536 → 1 ≤ number → number ≤ 7 → Below n f
+    → SmallRefusal rest
     → SmallRefusal (refusedAt number f rest)
 unfolding refusedAt
-at-small (At c) rest m h b s = let l = b c refl in (h, omega arith)
-at-small Nothing rest m h b s = s
+at-small (At c) rest m g h b s = let l = b c refl in (g, h, omega arith)
+at-small Nothing rest m g h b s = s
 
-none-small : {number : ℕ} (f : Found) (rest : Outcome) → number ≤ 7 → SmallRefusal rest
+none-small : {number : ℕ} (f : Found) (rest : Outcome) → 1 ≤ number → number ≤ 7 → SmallRefusal rest
     → SmallRefusal (refusedIfNone number f rest)
 unfolding refusedIfNone
-none-small (At c) rest h s = s
-none-small Nothing rest h s = (h, omega arith)
+none-small (At c) rest g h s = s
+none-small Nothing rest g h s = (g, h, omega arith)
 
 on-small : (G : Grid) → cells G ≤ 65536 → SmallRefusal (outcomeOn G)
 unfolding outcomeOn
 on-small G m =
-    at-small (first (badCode G) (cells G)) _ m (omega arith) (first-below (cells G) (badCode G))
-    (none-small (first (inside G) (cells G)) _ (omega arith)
-    (at-small (first (undrained G) (cells G)) _ m (omega arith) (first-below (cells G) (undrained G))
-    (at-small (secondOutlet G) Accepted m (omega arith) (second-below G) tt)))
+    at-small (first (badCode G) (cells G)) _ m (omega arith) (omega arith) (first-below (cells G) (badCode G))
+    (none-small (first (inside G) (cells G)) _ (omega arith) (omega arith)
+    (at-small (first (undrained G) (cells G)) _ m (omega arith) (omega arith) (first-below (cells G) (undrained G))
+    (at-small (secondOutlet G) Accepted m (omega arith) (omega arith) (second-below G) tt)))
 
 pub refusal-small : (S : Sheet) (L : Lent) → SmallRefusal (outcome S L)
 unfolding outcome
@@ -63,6 +64,6 @@ refusal-small S L = go (sizesFit (S .grid .rows) (S .grid .cols)) refl (depthFit
     go true e true true =
         let most = rows-cols-most (S .grid .rows) (S .grid .cols) e in
         on-small (S .grid) (cells-most (most .0) (most .1))
-    go true e true false = (omega arith, omega arith)
-    go true e false c = (omega arith, omega arith)
-    go false e b c = (omega arith, omega arith)
+    go true e true false = (omega arith, omega arith, omega arith)
+    go true e false c = (omega arith, omega arith, omega arith)
+    go false e b c = (omega arith, omega arith, omega arith)

@@ -12,4 +12,4 @@ place-small S L = go (outcome S L) (refusal-small S L)
   where
     go : (o : Outcome) → SmallRefusal o → outcomeValues o .place < 65536
     go Accepted s = omega arith
-    go (Refused number place) s = s .1
+    go (Refused number place) s = s .2

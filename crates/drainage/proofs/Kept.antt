@@ -10,7 +10,8 @@ use Rattle.sheet.specs.Sheet.{Grid, cells, isOutlet}
 use Rattle.sheet.specs.Refusal.{written}
 use Rattle.sheet.proofs.Cells.{inside-lt}
 use Rattle.claims.proofs.Counts.{count-le}
-use Rattle.upstream.specs.Work.{ranksPart, receiversPart, sizesPart, positionsPart, queuedAt, rankOf, receiverOf, sizeAt, isReached, KeptFrom, withSizes}
+use Rattle.upstream.specs.Work.{ranksPart, receiversPart, sizesPart, positionsPart, queuedAt, rankOf, receiverOf}
+use Rattle.upstream.specs.Work.{sizeAt, isReached, KeptFrom, withSizes}
 use Rattle.upstream.specs.Search.{Before, Queue, Upstream, OutletsFirst, Searched, Drained, SingleOutlet}
 use Rattle.drainage.specs.Total.{size, sizesOf}
 use Rattle.claims.proofs.Sums.{sum-same, count-sum}

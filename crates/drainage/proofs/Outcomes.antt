@@ -188,8 +188,8 @@ module _ (G : Grid) where
         }
 
   -- two outlets: the second cell of a search's queue is one
-  second-is-outlet : {work : List ℕ} {queued f c : ℕ} → Searched G work queued → isOutlet G f ≡ true → isOutlet G c ≡ true
-      → f < c → (1 < queued) × (receiverOf (cells G) work (queuedAt work 1) ≡ 0)
+  second-is-outlet : {work : List ℕ} {queued f c : ℕ} → Searched G work queued → isOutlet G f ≡ true
+      → isOutlet G c ≡ true → f < c → (1 < queued) × (receiverOf (cells G) work (queuedAt work 1) ≡ 0)
   second-is-outlet {work} {queued} {f} {c} s o p l =
       let one = count-sum (cells G) (λ q. eqb q f) ∙ sum-one (cells G) f (λ q. 1) (outlet-lt G f o) in
       let more = count-less (cells G) (isOutlet G) (λ q. eqb q f) (λ q e. ap (isOutlet G) (eqb-true q f e) ∙ o) c p

@@ -59,7 +59,8 @@ write-if-accepted-requires c κs =
     let a = after-clear-places i in
     let s = start a in (
       other-work (s .pre)
-          (i .inspect .kept .1 .1 .1 .0 ∙ cleared-long (s .args .rows * s .args .cols) (s .args .work .now) (s .pre .work)
+          (i .inspect .kept .1 .1 .1 .0
+          ∙ cleared-long (s .args .rows * s .args .cols) (s .args .work .now) (s .pre .work)
           (a .clear-places .ensures)),
       inspected (i .inspect .ensures),
     )

@@ -5,7 +5,8 @@ use native.Mathlib.Omega.{arith}
 use Rattle.sheet.specs.declared.Found.the-variants.{At, Nothing}
 use Rattle.sheet.specs.Sheet.{Grid, grid, cells, inside, first}
 use Rattle.sheet.specs.Refusal.{badCode, undrained}
-use Rattle.drainage.proofs.Outcomes.{ranks-part, inside-is, undrained-is, coded-of, refused-4, refused-5, inspected-before, inspected}
+use Rattle.drainage.proofs.Outcomes.{ranks-part, inside-is, undrained-is, coded-of, refused-4, refused-5}
+use Rattle.drainage.proofs.Outcomes.{inspected-before, inspected}
 use borrow.Author.Needs.{needs}
 use Rattle.drainage.proofs.inspect.inspect.Statement.{statement}
 use Rattle.drainage.proofs.inspect.inspect.Tie as tie

@@ -21,7 +21,8 @@ use Rattle.claims.proofs.Rivers.{mouth-goes}
 use Rattle.claims.proofs.Parting.{parted-at, part-differs, both-ways, Parted, Rule}
 use Rattle.claims.proofs.DigitRule.{unitOutlet, outlet-rule, cell-rule}
 use Rattle.claims.proofs.Units.{drains-passes, one-outlet, digitsIn, begins-all, unit-outlet, named-outlet}
-use Rattle.claims.proofs.Heavier.{heavier-trans, heavier-irrefl, heavier-total, donors-only, donors-all, donors-rise}
+use Rattle.claims.proofs.Heavier.{heavier-trans, heavier-irrefl, heavier-total, donors-only, donors-all}
+use Rattle.claims.proofs.Heavier.{donors-rise}
 use Rattle.claims.proofs.Mouths.{taken-upward, finished-none}
 use Rattle.claims.proofs.Fuel.{steps, steps-short, steps-fall, ends-within}
 

@@ -15,9 +15,12 @@ use Rattle.sheet.specs.Label.{placeOf, label, Place}
 use Rattle.sheet.specs.River.{Run, river, Network, stem, mouth}
 use Rattle.claims.specs.Runs.{MouthOf, mouth-here, mouth-there, Headed, headed-none, headed-stem}
 use Rattle.claims.specs.Lawful.{Lawful}
-use Rattle.claims.proofs.Runs.{pass-trans, stem-in, mouth-in, in-none, In, StemOf, is-stem, is-under, at-head, in-tail, stem-here, stem-there}
+use Rattle.claims.proofs.Runs.{pass-trans, stem-in, mouth-in, in-none, In, StemOf, is-stem, is-under, at-head}
+use Rattle.claims.proofs.Runs.{in-tail, stem-here, stem-there}
 use Rattle.claims.proofs.Rivers.{river-headed, river-passes, river-covers}
-use Rattle.claims.proofs.Parts.{join, join-cut, odd-one, odd-two, place-spot, place-headed, place-holds, place-pair, Spot, Pair, spot-last, spot-in, spot-mouth, spot-later, pair-same, pair-odd, pair-even, pair-more}
+use Rattle.claims.proofs.Parts.{join, join-cut, odd-one, odd-two, place-spot, place-headed, place-holds}
+use Rattle.claims.proofs.Parts.{place-pair, Spot, Pair, spot-last, spot-in, spot-mouth, spot-later, pair-same}
+use Rattle.claims.proofs.Parts.{pair-odd, pair-even, pair-more}
 use Rattle.claims.proofs.Parting.{allOdd, judged, Parted, Rule, Verdict, alike, less, more, on}
 
 unfoldable pub firstStem : Run → ℕ → ℕ

@@ -17,7 +17,8 @@ use Rattle.claims.specs.Bounds.{sum, ComesToOutlet, NeverComes, FuelIsEn
 use Rattle.claims.proofs.Lawful.{passes-true}
 use Rattle.claims.proofs.Counts.{count-mono, not-true}
 use Rattle.claims.proofs.Sums.{sum-mono, sum-has, count-sum}
-use Rattle.claims.proofs.Fuel.{passes-self, ends-within, reaches-ends, ends-reaches, ends-at, at-ends, ends-end, passes-enough}
+use Rattle.claims.proofs.Fuel.{passes-self, ends-within, reaches-ends, ends-reaches, ends-at, at-ends, ends-end}
+use Rattle.claims.proofs.Fuel.{passes-enough}
 use Rattle.claims.proofs.Areas.{area-sum}
 use Rattle.claims.proofs.Basins.{lawful}
 use Rattle.claims.proofs.Sheets.{outlet-is, is-outlet}

@@ -18,7 +18,8 @@ use Rattle.claims.specs.Lawful.{Lawful}
 use Rattle.claims.proofs.Runs.{mouth-in, In, is-under}
 use Rattle.claims.proofs.Order.{Ordered, ordered-cons}
 use Rattle.claims.proofs.Rivers.{headed-ordered}
-use Rattle.claims.proofs.Parts.{spot-above, place-spot, place-headed, place-holds, Spot, spot-last, spot-in, spot-mouth, spot-later}
+use Rattle.claims.proofs.Parts.{spot-above, place-spot, place-headed, place-holds, Spot, spot-last, spot-in}
+use Rattle.claims.proofs.Parts.{spot-mouth, spot-later}
 use Rattle.claims.proofs.Counts.{not-true}
 use Rattle.claims.proofs.Heavier.{heavier-trans, heavier-irrefl, heavier-total}
 

@@ -10,7 +10,8 @@ use Rattle.sheet.specs.declared.Next.the-variants.{To}
 use Rattle.sheet.specs.Water.{Passes, here, there}
 use Rattle.sheet.specs.River.{Run, Entry, stem, mouth}
 use Rattle.claims.specs.Runs.{Above, Chain, chain-end, chain-stem, chain-mouth}
-use Rattle.claims.proofs.Runs.{pass-trans, in-left, in-right, pass-dist, pass-same, Has, In, StemOf, is-stem, is-under, at-head, in-tail, stem-here, stem-there}
+use Rattle.claims.proofs.Runs.{pass-trans, in-left, in-right, pass-dist, pass-same, Has, In, StemOf, is-stem}
+use Rattle.claims.proofs.Runs.{is-under, at-head, in-tail, stem-here, stem-there}
 
 -- a donor of s past `old` that c's water passes
 pub record Under (next : ℕ → Next) (heavier : ℕ → ℕ → Bool) (s : ℕ) (old : Option ℕ) (c : ℕ) : Type 0 where

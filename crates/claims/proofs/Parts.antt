@@ -14,9 +14,11 @@ use Rattle.sheet.specs.Flow.{isOdd}
 use Rattle.sheet.specs.Unit.{taken, prepend, cutAt, Parts, last, part}
 use Rattle.sheet.specs.Label.{placed, placeIn, placeOf, Place}
 use Rattle.sheet.specs.River.{Run, river, Network, Entry, stem, mouth}
-use Rattle.claims.specs.Runs.{MouthOf, mouth-here, mouth-there, Above, Chain, chain-end, chain-stem, chain-mouth, Headed, headed-none, headed-stem}
+use Rattle.claims.specs.Runs.{MouthOf, mouth-here, mouth-there, Above, Chain, chain-end, chain-stem, chain-mouth}
+use Rattle.claims.specs.Runs.{Headed, headed-none, headed-stem}
 use Rattle.claims.specs.Lawful.{Lawful}
-use Rattle.claims.proofs.Runs.{pass-trans, has-under, in-left, in-right, in-cons, in-append, In, StemOf, is-under, at-head, in-tail}
+use Rattle.claims.proofs.Runs.{pass-trans, has-under, in-left, in-right, in-cons, in-append, In, StemOf}
+use Rattle.claims.proofs.Runs.{is-under, at-head, in-tail}
 use Rattle.claims.proofs.Order.{ordered-right, not-back, stem-first, Ordered}
 use Rattle.claims.proofs.Lawful.{passes-test, in-test, Test, yes, no}
 use Rattle.claims.proofs.Rivers.{headed-ordered, river-headed, river-passes, river-covers}

@@ -2,7 +2,8 @@
 use mathlib.Core.Path.{_≡_, refl, ap}
 use mathlib.Core.Bool.{Bool}
 use mathlib.Core.Option.{Option, none, some}
-use mathlib.Core.List.{List, [], _∷_, List·Memᴰ, List·Memᴰ·head, List·Memᴰ·tail, List·Memᴰ·not-nil, List·Memᴰ·cases-cons}
+use mathlib.Core.List.{List, [], _∷_, List·Memᴰ, List·Memᴰ·head, List·Memᴰ·tail, List·Memᴰ·not-nil}
+use mathlib.Core.List.{List·Memᴰ·cases-cons}
 use mathlib.Core.Logic.{inl, inr}
 use Prim.Native.Nat.{ℕ, zero, suc, _+_, _≤_}
 use native.Mathlib.Omega.{arith}
@@ -11,7 +12,8 @@ use Rattle.sheet.specs.declared.Next.{Next}
 use Rattle.sheet.specs.declared.Next.the-variants.{To}
 use Rattle.sheet.specs.Water.{Passes, here}
 use Rattle.sheet.specs.River.{donors, Run, upstream, riverWithin, river, Network, stem, mouth}
-use Rattle.claims.specs.Runs.{MouthOf, mouth-here, mouth-there, Above, Chain, chain-end, chain-stem, chain-mouth, Headed, headed-none, headed-stem}
+use Rattle.claims.specs.Runs.{MouthOf, mouth-here, mouth-there, Above, Chain, chain-end, chain-stem, chain-mouth}
+use Rattle.claims.specs.Runs.{Headed, headed-none, headed-stem}
 use Rattle.claims.specs.Lawful.{Rising, rising-cons, Lawful}
 use Rattle.claims.proofs.Runs.{has-stem, in-none, in-cons, pass-last, In, is-stem, is-under, at-head, in-tail}
 use Rattle.claims.proofs.Order.{chain-passes, stem-ordered, Ordered, ordered-end}

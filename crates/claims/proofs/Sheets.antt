@@ -15,7 +15,8 @@ use Rattle.sheet.specs.declared.Outcome.the-variants.{Accepted, Refused}
 use Rattle.sheet.specs.Water.{reachesOutlet, Passes, here, there}
 use Rattle.sheet.specs.Label.{outlet}
 use Rattle.sheet.specs.River.{networkBy}
-use Rattle.sheet.specs.Refusal.{sizesFit, depthFits, slicesFit, badCode, undrained, outletFrom, firstAfter, secondOutlet, refusedAt, refusedIfNone, outcomeOn, outcome, Lent}
+use Rattle.sheet.specs.Refusal.{sizesFit, depthFits, slicesFit, badCode, undrained, outletFrom, firstAfter}
+use Rattle.sheet.specs.Refusal.{secondOutlet, refusedAt, refusedIfNone, outcomeOn, outcome, Lent}
 use Rattle.sheet.specs.Sheet.{cells, inside, next, goesNowhere, isOutlet, first, Grid, Sheet}
 use Rattle.sheet.proofs.First.{NoneBelow, none-first, at-first, first-same, FirstAt}
 use Rattle.sheet.proofs.Cells.{inside-lt, next-goes}

@@ -28,8 +28,10 @@ use Rattle.claims.proofs.DigitRule.{cell-rule}
 use Rattle.claims.proofs.Units.{drains-map, one-outlet}
 use Rattle.claims.proofs.Basins.{lawful, outlet-rule-holds, demand-three-holds, passes-rule}
 use Rattle.claims.proofs.GridLaws.{area-least, area-most, area-most-cells, area-adds}
-use Rattle.claims.proofs.Written.{the-basin, label-written, digits-written, label-from-outlet, digits-from-outlet, is-label, label-fits}
-use Rattle.claims.proofs.FlowMeaning.{the-answer, answer-at, Answered, answered-yes, answered-undecided, answered-no}
+use Rattle.claims.proofs.Written.{the-basin, label-written, digits-written, label-from-outlet}
+use Rattle.claims.proofs.Written.{digits-from-outlet, is-label, label-fits}
+use Rattle.claims.proofs.FlowMeaning.{the-answer, answer-at, Answered, answered-yes, answered-undecided}
+use Rattle.claims.proofs.FlowMeaning.{answered-no}
 
 module _ (next : ℕ → Next) {inside : ℕ → Type 0} {digits written : ℕ → List ℕ}
     (same : (c : ℕ) → inside c → written c ≡ digits c) where

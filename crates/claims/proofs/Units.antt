@@ -18,7 +18,8 @@ use Rattle.claims.specs.Runs.{Chain, chain-stem, chain-mouth, Headed, he
 use Rattle.claims.specs.Lawful.{Lawful}
 use Rattle.claims.proofs.Runs.{has-stem, in-none, in-cons, pass-both, In, is-stem, is-under, at-head, in-tail}
 use Rattle.claims.proofs.Rivers.{river-headed, river-passes, river-covers}
-use Rattle.claims.proofs.Parts.{join-cut, spot-part, place-spot, place-headed, place-holds, place-pair, Pair, pair-same, pair-odd, pair-even, pair-more}
+use Rattle.claims.proofs.Parts.{join-cut, spot-part, place-spot, place-headed, place-holds, place-pair, Pair}
+use Rattle.claims.proofs.Parts.{pair-same, pair-odd, pair-even, pair-more}
 use Rattle.claims.proofs.DigitRule.{firstStem, unitOutlet, label-on}
 
 module _ {next : ℕ → Next} where

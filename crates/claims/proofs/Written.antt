@@ -8,7 +8,8 @@ use native.Mathlib.Omega.{arith}
 use lib.ListN.{length, getD, drop, List·getD-append}
 use Rattle.sheet.specs.declared.Outcome.{Outcome}
 use Rattle.sheet.specs.declared.Outcome.the-variants.{Accepted}
-use Rattle.sheet.specs.Label.{number, digitsOf, label, outlet, outletOf, labelDigits, labelOf, listFrom, labelsOf, labelAt, Digits}
+use Rattle.sheet.specs.Label.{number, digitsOf, label, outlet, outletOf, labelDigits, labelOf, listFrom, labelsOf}
+use Rattle.sheet.specs.Label.{labelAt, Digits}
 use Rattle.sheet.specs.Area.{area}
 use Rattle.sheet.specs.River.{network, river, least, split}
 use Rattle.sheet.specs.Flow.{isLabel}

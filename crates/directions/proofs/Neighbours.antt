@@ -14,8 +14,10 @@ use Rattle.sheet.specs.declared.Next.the-variants.{To}
 use Rattle.sheet.specs.Direction.{stepOf, isCode, below, movedBy, stepEnd}
 use Rattle.sheet.specs.Sheet.{Grid, cells, dirAt, inside, endOf, next}
 use Rattle.directions.specs.Steps.{stepAt, withCode, neighbourAgainst}
-use Rattle.directions.proofs.Steps.{back, Opposite, back-opposite, opposite-back, table-step, code-found, code-positive, code-once}
-use Rattle.sheet.proofs.Cells.{off-not-at, cell-row, cell-col, row-lt, moved-lt, end-at, end-landed, end-lt, inside-yes, inside-code, next-to, next-goes, next-from-lt}
+use Rattle.directions.proofs.Steps.{back, Opposite, back-opposite, opposite-back, table-step, code-found}
+use Rattle.directions.proofs.Steps.{code-positive, code-once}
+use Rattle.sheet.proofs.Cells.{off-not-at, cell-row, cell-col, row-lt, moved-lt, end-at, end-landed, end-lt, inside-yes}
+use Rattle.sheet.proofs.Cells.{inside-code, next-to, next-goes, next-from-lt}
 
 -- ---- a step back
 

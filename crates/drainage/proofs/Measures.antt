@@ -22,7 +22,8 @@ use Rattle.claims.proofs.Counts.{not-true}
 use Rattle.claims.proofs.Lawful.{passes-true}
 use Rattle.upstream.specs.Work.{sizesPart, rankOf, numbered, nextOfNumber, withSizes}
 use Rattle.upstream.specs.Search.{Drained}
-use Rattle.drainage.specs.Total.{total, nextIn, valueAt, Gathers, totalsIn, ownValue, ownValues, ones, size, sizesOf}
+use Rattle.drainage.specs.Total.{total, nextIn, valueAt, Gathers, totalsIn, ownValue, ownValues, ones, size}
+use Rattle.drainage.specs.Total.{sizesOf}
 use Rattle.claims.proofs.Sums.{sum-alike, sum-zero, sum-ones, count-sum}
 use Rattle.upstream.proofs.Queues.{reached-yes, reached-no}
 use Rattle.upstream.proofs.Upstream.{receiver-of, way-inside}

@@ -26,7 +26,8 @@ fn second_outlet(dirs: &[u8], rows: usize, cols: usize, reached: &[u32]) -> Foun
     }
 }
 
-// The same after a search. Outlets stand first in its queue, so that its second cell tells whether there are two.
+// The second outlet in reading order, after a search. Outlets stand first in its queue, so that its second cell tells
+// whether there are two.
 fn second_searched(dirs: &[u8], rows: usize, cols: usize, work: &[u32], queued: usize) -> Found
     requires { ⌜ Sized rows cols (now dirs) × Searched (grid rows cols (now dirs)) (now work) queued ⌝ }
     ensures { λ r. ⌜ r ≡ secondOutlet (grid rows cols (now (dirs .entry))) ⌝ }

@@ -10,7 +10,8 @@ ghost use Rattle.sheet.specs.Label.{areasOf, listFrom};
 ghost use Rattle.sheet.specs.Refusal.{written};
 ghost use Rattle.upstream.specs.Work.{positionsPart, receiverOf, withSizes};
 ghost use Rattle.upstream.specs.Search.{Drained};
-ghost use Rattle.drainage.specs.Total.{Gathers, Adds, added, totalsIn, valueAt, ownValue, ownValues, ones, sizesOf};
+ghost use Rattle.drainage.specs.Total.{Gathers, Adds, added, totalsIn, valueAt, ownValue, ownValues, ones};
+ghost use Rattle.drainage.specs.Total.{sizesOf};
 
 // What a cell counts by itself.
 fn own_count(code: u8) -> u32

@@ -16,7 +16,8 @@ use Rattle.lines.proofs.ValuesLaws.{values-long}
 use Rattle.names.proofs.OtherBytes.{names-line-feed}
 use Rattle.lines.proofs.OtherBytes.{values-line-feed}
 use Rattle.intake.specs.declared.Stage.{Stage}
-use Rattle.intake.specs.declared.Stage.the-variants.{WaitingForSizeNames, WaitingForSizes, WaitingForCellNames, TakingCells, Ended}
+use Rattle.intake.specs.declared.Stage.the-variants.{WaitingForSizeNames, WaitingForSizes, WaitingForCellNames}
+use Rattle.intake.specs.declared.Stage.the-variants.{TakingCells, Ended}
 use Rattle.intake.specs.declared.Intake.{Intake}
 use Rattle.intake.specs.declared.TakenOutcome.the-variants.{Accepted}
 use Rattle.intake.specs.Intake.{After, refuse, unless, stateFault, lineIn, lineAfter}

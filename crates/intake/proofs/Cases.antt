@@ -9,7 +9,8 @@ use Rattle.lines.specs.declared.columns.Column.the-variants.{Rows, Cols, Depth,
 use Rattle.names.specs.Columns.{sizeColumns, cellColumns}
 use Rattle.intake.specs.declared.Sizes.{Sizes}
 use Rattle.intake.specs.declared.Stage.{Stage}
-use Rattle.intake.specs.declared.Stage.the-variants.{WaitingForSizeNames, WaitingForSizes, WaitingForCellNames, TakingCells, Ended}
+use Rattle.intake.specs.declared.Stage.the-variants.{WaitingForSizeNames, WaitingForSizes, WaitingForCellNames}
+use Rattle.intake.specs.declared.Stage.the-variants.{TakingCells, Ended}
 use Rattle.intake.specs.declared.Intake.{Intake}
 use Rattle.intake.specs.Intake.{After, accepted, refused, accept, refuse, lineAfter, endTaken, newIntake}
 

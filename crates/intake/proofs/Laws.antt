@@ -17,11 +17,14 @@ use Rattle.lines.specs.Values.{valuesLine}
 use Rattle.intake.specs.declared.Sizes.{Sizes}
 use Rattle.intake.specs.declared.Cell.{Cell}
 use Rattle.intake.specs.declared.Stage.{Stage}
-use Rattle.intake.specs.declared.Stage.the-variants.{WaitingForSizeNames, WaitingForSizes, WaitingForCellNames, TakingCells, Ended}
+use Rattle.intake.specs.declared.Stage.the-variants.{WaitingForSizeNames, WaitingForSizes, WaitingForCellNames}
+use Rattle.intake.specs.declared.Stage.the-variants.{TakingCells, Ended}
 use Rattle.intake.specs.declared.Intake.{Intake}
 use Rattle.intake.specs.declared.TakenOutcome.the-variants.{Accepted, Refused}
 use Rattle.intake.specs.Faults.{sizesIn, cellIn, cellCount, sizesFault, cellFault}
-use Rattle.intake.specs.Intake.{takenValues, After, accept, refuse, unless, sizesWritten, cellWritten, onSizeNames, onSizes, onCellNames, onCells, stateFault, lineIn, lineAfter, endIn, endTaken, newIntake}
+use Rattle.intake.specs.Intake.{takenValues, After, accept, refuse, unless, sizesWritten, cellWritten}
+use Rattle.intake.specs.Intake.{onSizeNames, onSizes, onCellNames, onCells, stateFault, lineIn, lineAfter, endIn}
+use Rattle.intake.specs.Intake.{endTaken, newIntake}
 use Rattle.intake.proofs.FaultLaws.{Fits, sizes-fit}
 use Rattle.intake.proofs.LineLaws.{unless-none, unless-some}
 

@@ -17,7 +17,8 @@ use Rattle.sheet.specs.Direction.{cellNumber}
 use Rattle.intake.specs.declared.Sizes.{Sizes}
 use Rattle.intake.specs.declared.Cell.{Cell}
 use Rattle.intake.specs.declared.Stage.{Stage}
-use Rattle.intake.specs.declared.Stage.the-variants.{WaitingForSizeNames, WaitingForSizes, WaitingForCellNames, TakingCells, Ended}
+use Rattle.intake.specs.declared.Stage.the-variants.{WaitingForSizeNames, WaitingForSizes, WaitingForCellNames}
+use Rattle.intake.specs.declared.Stage.the-variants.{TakingCells, Ended}
 use Rattle.intake.specs.declared.Intake.{Intake}
 use Rattle.intake.specs.declared.TakenOutcome.{TakenOutcome}
 use Rattle.intake.specs.declared.TakenOutcome.the-variants.{Accepted, Refused}

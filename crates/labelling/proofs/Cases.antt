@@ -5,7 +5,8 @@ use lib.ListN.{replicate}
 use Rattle.sheet.specs.declared.Outcome.the-variants.{Accepted, Refused}
 use Rattle.sheet.specs.Refusal.{Lent}
 use Rattle.intake.specs.declared.Sizes.{Sizes}
-use Rattle.intake.specs.declared.Stage.the-variants.{WaitingForSizeNames, WaitingForSizes, WaitingForCellNames, TakingCells, Ended}
+use Rattle.intake.specs.declared.Stage.the-variants.{WaitingForSizeNames, WaitingForSizes, WaitingForCellNames}
+use Rattle.intake.specs.declared.Stage.the-variants.{TakingCells, Ended}
 use Rattle.names.specs.Columns.{sizeColumns, cellColumns}
 use Rattle.labelling.specs.Labelling.{lent}
 use Rattle.labelling.specs.FromIntake.{intakeOutcome, intakeLent}

@@ -1,5 +1,5 @@
 -- What each step of labelling hands to the next.
-use mathlib.Core.Path.{_≡_, refl, sym, ap, _∙_, subst, fun-ext}
+use mathlib.Core.Path.{_≡_, sym, ap, _∙_, fun-ext}
 use mathlib.Core.Bool.{true}
 use mathlib.Core.List.{List, _++_}
 use Prim.Native.Nat.{ℕ, _+_, _*_, _-_, _<_, _≤_}
@@ -11,7 +11,6 @@ use lib.Seq.{getD-take, getD-append-add, length-take-le}
 use borrow.Rule.Slice.PartMut.{putMid, midOf, postOf, mid-len, same-len-mid}
 use Rattle.sheet.specs.declared.Outcome.the-variants.{Accepted}
 use Rattle.sheet.specs.Sheet.{Grid, Sheet, cells, inside}
-use Rattle.directions.specs.Sizes.{Sized}
 use Rattle.sheet.specs.Area.{area}
 use Rattle.sheet.specs.River.{network, networkBy, least, split, river}
 use Rattle.sheet.specs.Label.{areasOf, labelsOf, outlet, holds, label, number}
@@ -25,7 +24,7 @@ use Rattle.upstream.proofs.Queues.{queued-most as queue-most}
 use Rattle.drainage.specs.declared.Inspection.{Inspection}
 use Rattle.upstream.specs.Search.{Drained}
 use Rattle.drainage.specs.Inspect.{InspectionResult}
-use Rattle.upstream.specs.Work.{ranksPart, Unranked, rankOf}
+use Rattle.upstream.specs.Work.{ranksPart, Unranked}
 use Rattle.drainage.specs.Total.{sizesOf}
 use Rattle.drainage.proofs.Kept.{with-sizes-same, drained-same, single-same, size-written}
 use Rattle.rivers.specs.Layout.{Layout}

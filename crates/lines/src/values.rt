@@ -1,7 +1,8 @@
 // Value lines: a value for each column, parted by commas.
 ghost use mathlib.Core.Path.{_≡_};
 ghost use Rattle.lines.specs.Fields.{fields};
-ghost use Rattle.lines.specs.Values.{fieldValue, withValue, noValues, valuesFrom, valuesLine, lineValues, valueOf};
+ghost use Rattle.lines.specs.Values.{fieldValue, withValue, noValues, valuesFrom, valuesLine, lineValues};
+ghost use Rattle.lines.specs.Values.{valueOf};
 use super::columns::Column;
 use super::columns::Columns;
 use super::columns::same_column;

@@ -14,7 +14,8 @@ use Rattle.sheet.specs.Label.{labelAt}
 use Rattle.sheet.specs.Sheet.{Grid, cells, dirAt, inside}
 use Rattle.sheet.specs.Refusal.{written}
 use Rattle.sheet.proofs.Cells.{inside-no, inside-yes, inside-lt, row-lt, cells-most}
-use Rattle.listing.specs.Listing.{listingHeading, labelText, field, cellLine, lineOf, insideLine, linesBelow, listingText, refusalText}
+use Rattle.listing.specs.Listing.{listingHeading, labelText, field, cellLine, lineOf, insideLine, linesBelow}
+use Rattle.listing.specs.Listing.{listingText, refusalText}
 
 pub field-length : (text : List ℕ) (after : ℕ) → length (field text after) ≡ length text + 1
 unfolding field

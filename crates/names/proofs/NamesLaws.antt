@@ -13,7 +13,8 @@ use Rattle.names.specs.declared.NamesLine.{NamesLine}
 use Rattle.names.specs.declared.NamesLine.the-variants.{Columns as Named, Bad}
 use Rattle.lines.specs.Fields.{lineBytes, fitsLine, fields, fieldEnd}
 use Rattle.lines.specs.Columns.{columnCount, sameColumn}
-use Rattle.names.specs.Columns.{columnNamed, withColumn, noColumns, countColumn, asOften, sameColumns, sizeColumns, cellColumns}
+use Rattle.names.specs.Columns.{columnNamed, withColumn, noColumns, countColumn, asOften, sameColumns}
+use Rattle.names.specs.Columns.{sizeColumns, cellColumns}
 use Rattle.names.specs.Names.{namesFrom, ifExpected, namesLine}
 use Rattle.lines.proofs.FieldLaws.{fieldsFrom, fields-at, fields-past}
 

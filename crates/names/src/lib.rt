@@ -1,7 +1,8 @@
 // Names lines: the expected names in any order, each exactly once, parted by commas.
 ghost use mathlib.Core.Path.{_≡_};
 ghost use Rattle.lines.specs.Fields.{fields};
-ghost use Rattle.names.specs.Columns.{columnIf, columnNamed, withColumn, noColumns, countColumn, asOften, sameColumns, sizeColumns, cellColumns};
+ghost use Rattle.names.specs.Columns.{columnIf, columnNamed, withColumn, noColumns, countColumn, asOften};
+ghost use Rattle.names.specs.Columns.{sameColumns, sizeColumns, cellColumns};
 ghost use Rattle.names.specs.Names.{namesFrom, namesLine, namesValues};
 use lines::columns::Column;
 use lines::columns::Columns;

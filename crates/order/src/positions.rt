@@ -7,7 +7,8 @@ ghost use lib.ListN.{length, set};
 ghost use Rattle.sheet.specs.Sheet.{grid};
 ghost use Rattle.directions.specs.Sizes.{mostCells};
 ghost use Rattle.upstream.specs.Work.{positionsPart, queuedAt};
-ghost use Rattle.order.specs.Places.{positionAt, Measured, Surveyed, positioned, PositionsFit, Standing, DonorsPlaced, Placed, entered, Apart, Entered, Arranged, OtherPlaces};
+ghost use Rattle.order.specs.Places.{positionAt, Measured, Surveyed, positioned, PositionsFit, Standing};
+ghost use Rattle.order.specs.Places.{DonorsPlaced, Placed, entered, Apart, Entered, Arranged, OtherPlaces};
 
 // Gives the cells of keys positions one after the other from `first` on.
 fn place_donors(n: usize, first: u32, keys: &[u64], work: &mut [u32])

@@ -12,7 +12,8 @@ use Rattle.reading.proofs.Whole.{read-in-pieces}
 use Rattle.report.specs.declared.Verdict.{Verdict}
 use Rattle.report.specs.declared.Verdict.the-variants.{Refused, Labelled}
 use Rattle.report.specs.Report.{verdictOf, fileVerdict, fileLent, report, reportInto}
-use Rattle.report.specs.Conditions.{oneOf, lineNumbers, endNumbers, sheetNumbers, fileNumbers, Ending, line-refused, end-refused, sheet-refused, labelled}
+use Rattle.report.specs.Conditions.{oneOf, lineNumbers, endNumbers, sheetNumbers, fileNumbers, Ending}
+use Rattle.report.specs.Conditions.{line-refused, end-refused, sheet-refused, labelled}
 use Rattle.report.specs.Demand.{RefusedWith, FileRefusals, DemandOne}
 use Rattle.report.proofs.Numbers.{AllOf, one-of}
 use Rattle.report.proofs.Endings.{file-ending, listing-no-refusal}

@@ -10,7 +10,8 @@ use Rattle.sheet.specs.Sheet.{Grid}
 use Rattle.sheet.specs.Refusal.{Lent, outcome}
 use Rattle.intake.specs.declared.Sizes.{Sizes}
 use Rattle.intake.specs.declared.Stage.{Stage}
-use Rattle.intake.specs.declared.Stage.the-variants.{WaitingForSizeNames, WaitingForSizes, WaitingForCellNames, TakingCells, Ended as AtEnd}
+use Rattle.intake.specs.declared.Stage.the-variants.{WaitingForSizeNames, WaitingForSizes, WaitingForCellNames}
+use Rattle.intake.specs.declared.Stage.the-variants.{TakingCells, Ended as AtEnd}
 use Rattle.intake.specs.declared.Intake.{Intake}
 use Rattle.intake.specs.declared.TakenOutcome.{TakenOutcome}
 use Rattle.intake.specs.declared.TakenOutcome.the-variants.{Accepted, Refused as RefusedBy}
@@ -21,7 +22,8 @@ use Rattle.reading.specs.declared.Read.{Read}
 use Rattle.reading.specs.declared.Read.the-variants.{Refused, Ended}
 use Rattle.reading.specs.Lines.{linesOf, FileRead, endAfter, readFrom, readFile}
 use Rattle.report.specs.Report.{sheetVerdict, sizesVerdict, verdictOf, fileVerdict}
-use Rattle.report.specs.Conditions.{Takes, takes-none, takes-line, FileEnded, Ending, line-refused, end-refused, sheet-refused, labelled}
+use Rattle.report.specs.Conditions.{Takes, takes-none, takes-line, FileEnded, Ending, line-refused, end-refused}
+use Rattle.report.specs.Conditions.{sheet-refused, labelled}
 use Rattle.report.proofs.Numbers.{takes-on, line-number, end-number, file-number}
 
 -- ---- how the reading of lines ends

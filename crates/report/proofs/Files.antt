@@ -17,7 +17,8 @@ use Rattle.reading.specs.declared.Read.the-variants.{Refused as NotRead, Ended}
 use Rattle.reading.specs.Lines.{readFile}
 use Rattle.report.specs.declared.Verdict.{Verdict}
 use Rattle.report.specs.declared.Verdict.the-variants.{Refused, Labelled}
-use Rattle.report.specs.Report.{sheetVerdict, sizesVerdict, verdictOf, readLent, reportText, fileVerdict, fileLent, report}
+use Rattle.report.specs.Report.{sheetVerdict, sizesVerdict, verdictOf, readLent, reportText, fileVerdict}
+use Rattle.report.specs.Report.{fileLent, report}
 use Rattle.report.specs.Demand.{fileSheet, sheetListing}
 use Rattle.report.proofs.ReportLaws.{read-listed}
 

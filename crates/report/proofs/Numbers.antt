@@ -13,7 +13,8 @@ use Rattle.sheet.specs.declared.Outcome.{Outcome as LabelOutcome}
 use Rattle.sheet.specs.declared.Outcome.the-variants.{Accepted as Labelled, Refused as NotLabelled}
 use Rattle.sheet.specs.Direction.{isCode, cellNumber}
 use Rattle.sheet.specs.Sheet.{Grid, Sheet, cells, inside, first}
-use Rattle.sheet.specs.Refusal.{Lent, badCode, undrained, outletFrom, firstAfter, secondOutlet, refusedAt, refusedIfNone, sizesFit, depthFits, slicesFit, outcomeOn, outcome}
+use Rattle.sheet.specs.Refusal.{Lent, badCode, undrained, outletFrom, firstAfter, secondOutlet, refusedAt}
+use Rattle.sheet.specs.Refusal.{refusedIfNone, sizesFit, depthFits, slicesFit, outcomeOn, outcome}
 use Rattle.sheet.proofs.First.{at-first}
 use Rattle.sheet.proofs.Cells.{cells-most}
 use Rattle.names.specs.declared.NamesLine.{NamesLine}
@@ -27,17 +28,20 @@ use Rattle.lines.specs.Values.{valuesLine}
 use Rattle.intake.specs.declared.Sizes.{Sizes}
 use Rattle.intake.specs.declared.Cell.{Cell}
 use Rattle.intake.specs.declared.Stage.{Stage}
-use Rattle.intake.specs.declared.Stage.the-variants.{WaitingForSizeNames, WaitingForSizes, WaitingForCellNames, TakingCells, Ended}
+use Rattle.intake.specs.declared.Stage.the-variants.{WaitingForSizeNames, WaitingForSizes, WaitingForCellNames}
+use Rattle.intake.specs.declared.Stage.the-variants.{TakingCells, Ended}
 use Rattle.intake.specs.declared.Intake.{Intake}
 use Rattle.intake.specs.declared.Taken.{Taken}
 use Rattle.intake.specs.declared.TakenOutcome.{TakenOutcome}
 use Rattle.intake.specs.declared.TakenOutcome.the-variants.{Accepted, Refused}
 use Rattle.intake.specs.Faults.{sizesIn, cellIn, cellCount, onSheet, sizesFault, cellFault}
-use Rattle.intake.specs.Intake.{After, accept, refuse, unless, sizesWritten, cellWritten, onSizeNames, onSizes, onCellNames, onCells, stateFault, lineIn, lineAfter, endIn, endTaken}
+use Rattle.intake.specs.Intake.{After, accept, refuse, unless, sizesWritten, cellWritten, onSizeNames, onSizes}
+use Rattle.intake.specs.Intake.{onCellNames, onCells, stateFault, lineIn, lineAfter, endIn, endTaken}
 use Rattle.intake.proofs.FaultLaws.{Fits}
 use Rattle.intake.proofs.Laws.{Reached, at-start, by-line, by-end, Holds, ended, reached-sizes}
 use Rattle.labelling.specs.Labelling.{sheet}
-use Rattle.report.specs.Conditions.{oneOf, lineNumbers, endNumbers, sheetNumbers, Takes, takes-none, takes-line, FileEnded}
+use Rattle.report.specs.Conditions.{oneOf, lineNumbers, endNumbers, sheetNumbers, Takes, takes-none, takes-line}
+use Rattle.report.specs.Conditions.{FileEnded}
 
 -- ---- numbers of a list
 

@@ -29,7 +29,8 @@ use Rattle.reading.specs.declared.Read.{Read}
 use Rattle.reading.specs.declared.Read.the-variants.{Refused as NotRead, Ended}
 use Rattle.report.specs.declared.Verdict.{Verdict}
 use Rattle.report.specs.declared.Verdict.the-variants.{Refused, Labelled}
-use Rattle.report.specs.Report.{sheetVerdict, sizesVerdict, verdictOf, readLent, reportText, verdictInto, Reported, reportInto}
+use Rattle.report.specs.Report.{sheetVerdict, sizesVerdict, verdictOf, readLent, reportText, verdictInto}
+use Rattle.report.specs.Report.{Reported, reportInto}
 use Rattle.report.specs.Demand.{sheetListing}
 
 -- ---- an accepted sheet can be listed

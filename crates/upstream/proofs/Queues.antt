@@ -12,7 +12,8 @@ use lib.Seq.{getD-set-same, getD-set-other, drop-set-lt}
 use borrow.Author.Tests.{lt-ltb, le-ltb}
 use Rattle.claims.proofs.Counts.{count-le, count-less}
 use Rattle.claims.proofs.Sums.{count-more}
-use Rattle.upstream.specs.Work.{ranksPart, receiversPart, sizesPart, queuedAt, rankOf, receiverOf, isReached, pushed, KeptFrom}
+use Rattle.upstream.specs.Work.{ranksPart, receiversPart, sizesPart, queuedAt, rankOf, receiverOf, isReached}
+use Rattle.upstream.specs.Work.{pushed, KeptFrom}
 use Rattle.upstream.specs.Search.{Before, Item, Stands, Queue}
 use Rattle.upstream.specs.Growth.{Grown}
 

@@ -13,7 +13,8 @@ use Rattle.sheet.specs.Water.{Passes, here, there}
 use Rattle.sheet.proofs.Cells.{inside-lt, next-goes, next-to-lt}
 use Rattle.upstream.specs.Work.{queuedAt, rankOf, receiverOf, numbered, pushed}
 use Rattle.upstream.specs.Search.{Before, Upstream}
-use Rattle.upstream.proofs.Queues.{place-on, end-on, grown-push, queue-push, push-place, push-receiver, push-receiver-other}
+use Rattle.upstream.proofs.Queues.{place-on, end-on, grown-push, queue-push, push-place, push-receiver}
+use Rattle.upstream.proofs.Queues.{push-receiver-other}
 
 -- ---- receivers as numbers
 

@@ -10,7 +10,9 @@ use lib.ListN.{length, drop, getD}
 use lib.Dec.{lit<}
 use Rattle.decimal.specs.Ascii.{digitZero}
 use Rattle.decimal.specs.Value.{isDigit, digitRun, mostDigits}
-use Rattle.decimal.proofs.ValueLaws.{Gathered, gathered-none, gathered-all, gathered-over, gathered-digit, gathered-fits, digit-low, digit-high, run-at-end, run-at-other, run-at-digit}
+use Rattle.decimal.proofs.ValueLaws.{Gathered, gathered-none, gathered-all, gathered-over, gathered-digit}
+use Rattle.decimal.proofs.ValueLaws.{gathered-fits, digit-low, digit-high, run-at-end, run-at-other}
+use Rattle.decimal.proofs.ValueLaws.{run-at-digit}
 use Rattle.decimal.proofs.read_digits.Statement.{statement}
 use Rattle.decimal.proofs.read_digits.Tie as tie
 

@@ -5,7 +5,8 @@ use borrow.Author.Needs.{needs}
 use Rattle.decimal.specs.Ascii.{digitZero}
 use Rattle.decimal.specs.Value.{isDigit, foundValues}
 use Rattle.decimal.proofs.Answers.{with-values}
-use Rattle.decimal.proofs.ValueLaws.{run-at-end, run-at-other, run-at-digit, value-over, value-none, value-zero, value-more}
+use Rattle.decimal.proofs.ValueLaws.{run-at-end, run-at-other, run-at-digit, value-over, value-none, value-zero}
+use Rattle.decimal.proofs.ValueLaws.{value-more}
 use Rattle.decimal.proofs.read_value.Statement.{statement}
 use Rattle.decimal.proofs.read_value.Tie as tie
 

@@ -7,7 +7,8 @@ use borrow.Author.Needs.{needs}
 use lib.ListN.{length, length-set}
 use Rattle.decimal.specs.Text.{decimalText, overwrite, WrittenValues, writtenValues, Writing}
 use Rattle.decimal.proofs.Answers.{with-values}
-use Rattle.decimal.proofs.TextLaws.{text-longer, text-some, write-last-digit, write-first-digit, written, not-written}
+use Rattle.decimal.proofs.TextLaws.{text-longer, text-some, write-last-digit, write-first-digit, written}
+use Rattle.decimal.proofs.TextLaws.{not-written}
 use Rattle.decimal.proofs.write_decimal.Statement.{statement}
 use Rattle.decimal.proofs.write_decimal.Tie as tie
 

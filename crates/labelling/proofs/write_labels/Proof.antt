@@ -7,7 +7,8 @@ use Rattle.sheet.specs.River.{least, split}
 use Rattle.sheet.proofs.Cells.{cells-most}
 use Rattle.upstream.specs.Work.{cellsPart, orderedSizesPart}
 use Rattle.labelling.specs.Labelling.{sheet}
-use Rattle.labelling.proofs.Steps.{queued-most, surveyed, part-is, network-in, network-of, places, some-cell, labels-written}
+use Rattle.labelling.proofs.Steps.{queued-most, surveyed, part-is, network-in, network-of, places, some-cell}
+use Rattle.labelling.proofs.Steps.{labels-written}
 use Rattle.labelling.proofs.write_labels.Statement.{statement}
 use Rattle.labelling.proofs.write_labels.Tie as tie
 use Rattle.labelling.proofs.write_labels.Reads as reads

@@ -16,7 +16,8 @@ use Rattle.listing.specs.Steps.{Listable, Put}
 use Rattle.listing.proofs.Lengths.{listing-length, lines-fit}
 use Rattle.listing.proofs.Putting.{put-room, put-then, put-whole, put-none, promises}
 use Rattle.sheet.proofs.Within.{rows-cols-most}
-use Rattle.listing.proofs.Answers.{refused-sizes, refused-dirs, refused-areas, refused-labels, listable, listing-into}
+use Rattle.listing.proofs.Answers.{refused-sizes, refused-dirs, refused-areas, refused-labels, listable}
+use Rattle.listing.proofs.Answers.{listing-into}
 use Rattle.listing.proofs.write_listing.Statement.{statement}
 use Rattle.listing.proofs.write_listing.Tie as tie
 

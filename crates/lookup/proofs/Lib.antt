@@ -1,0 +1,9 @@
+pub mod Begins
+pub mod Rising
+pub mod Counted
+pub mod Exactly
+pub mod PaddedOrder
+pub mod Limits
+pub mod Zeros
+pub mod Answers
+pub mod Cases

@@ -1,0 +1,3 @@
+pub mod Lookup
+pub mod Padded
+pub mod Exactly

@@ -1,0 +1,76 @@
+-- Worked indexes, computed from the definitions.
+use mathlib.Core.Path.{_≡_, refl}
+use mathlib.Core.List.{[], _∷_}
+use Prim.Native.Nat.{ℕ, _*_}
+use lib.ListN.{replicate}
+use Rattle.sheet.specs.Sheet.{Grid, Sheet, grid}
+use Rattle.sheet.specs.Refusal.{Lent}
+use Rattle.sheet.specs.Cases.{sampleA, confluences}
+use Rattle.index.specs.declared.Indexed.the-variants.{Units, Refused}
+use Rattle.index.specs.Units.{withLabel, distinctLabels, unitEntry, units}
+use Rattle.index.specs.Index.{LentIndex, lentIndex, indexed, indexAfter}
+
+abbrev sheet : Grid → ℕ → Sheet
+sheet G depth = record { grid = G; depth = depth }
+
+-- what is lent for n cells, and for so many units, each place holding 7
+abbrev lentFor : ℕ → Lent
+lentFor n = record { areas = replicate n 7; labels = replicate n 7; work = replicate (8 * n) 7 }
+
+abbrev lentUnits : ℕ → LentIndex
+lentUnits k = lentIndex (replicate k 7) (replicate k 7) (replicate k 7)
+
+-- a label that begins another stands before it, and one that stands already is not put again
+pub begins-first : withLabel (2 ∷ []) (withLabel (2 ∷ []) (withLabel (2 ∷ 1 ∷ []) (withLabel (3 ∷ [])
+    (withLabel [] [])))) ≡ [] ∷ (2 ∷ []) ∷ (2 ∷ 1 ∷ []) ∷ (3 ∷ []) ∷ []
+unfolding withLabel
+begins-first = refl
+
+-- sample A: cells 1 and 2 have label 8, cells 7 and 11 label 93
+pub sample-a-units : units (sheet sampleA 2)
+    ≡ unitEntry 1 4 1 ∷ unitEntry 2 8 1 ∷ unitEntry 3 5 1 ∷ unitEntry 4 9 1 ∷ unitEntry 6 10 1 ∷ unitEntry 8 1 2 ∷
+    unitEntry 91 6 1 ∷ unitEntry 92 3 1 ∷ unitEntry 93 7 2 ∷ []
+unfolding units
+sample-a-units = refl
+
+-- at depth 1 cells 3, 6, 7 and 11 have label 9
+pub sample-a-cut : units (sheet sampleA 1)
+    ≡ unitEntry 1 4 1 ∷ unitEntry 2 8 1 ∷ unitEntry 3 5 1 ∷ unitEntry 4 9 1 ∷ unitEntry 6 10 1 ∷ unitEntry 8 1 2 ∷
+    unitEntry 9 6 4 ∷ []
+unfolding units
+sample-a-cut = refl
+
+-- labels of two digits stand among those of one
+pub among-shorter : distinctLabels (sheet confluences 2)
+    ≡ (1 ∷ 1 ∷ []) ∷ (1 ∷ 2 ∷ []) ∷ (2 ∷ []) ∷ (4 ∷ []) ∷ (5 ∷ []) ∷ (6 ∷ []) ∷ (8 ∷ []) ∷ (9 ∷ []) ∷ []
+unfolding distinctLabels
+among-shorter = refl
+
+-- one unit, label 0
+pub one-cell : units (sheet (grid 1 1 (1 ∷ [])) 1) ≡ unitEntry 0 0 1 ∷ []
+unfolding units
+one-cell = refl
+
+-- places beyond the units keep their values
+pub one-cell-after : indexAfter (sheet (grid 1 1 (1 ∷ [])) 1) (lentFor 1) (lentUnits 2)
+    ≡ lentIndex (0 ∷ 7 ∷ []) (0 ∷ 7 ∷ []) (1 ∷ 7 ∷ [])
+unfolding indexAfter
+one-cell-after = refl
+
+-- 3 for too few places of the index; a refusal of labelling comes before it; refused, no place is written
+pub too-short : indexed (sheet (grid 1 1 (1 ∷ [])) 1) (lentFor 1) (lentIndex (7 ∷ []) (7 ∷ []) []) ≡ Refused 3 0
+unfolding indexed
+too-short = refl
+
+pub labelling-first : indexed (sheet (grid 1 2 (16 ∷ 1 ∷ [])) 1) (lentFor 2) (lentUnits 0) ≡ Refused 7 1
+unfolding indexed
+labelling-first = refl
+
+pub none-written : indexAfter (sheet (grid 1 1 (1 ∷ [])) 1) (lentFor 1) (lentIndex (7 ∷ []) (7 ∷ []) [])
+    ≡ lentIndex (7 ∷ []) (7 ∷ []) []
+unfolding indexAfter
+none-written = refl
+
+pub sample-a-accepted : indexed (sheet sampleA 2) (lentFor 12) (lentUnits 9) ≡ Units 9
+unfolding indexed
+sample-a-accepted = refl

@@ -1,0 +1,85 @@
+-- How many cells of a list pass a test, and how many of the sheet's cells: equal where the list holds those cells, each
+-- once.
+use mathlib.Core.Path.{_≡_, refl, sym, _∙_, ap}
+use mathlib.Core.Bool.{Bool, true, false, cond, true≢false}
+use mathlib.Core.List.{List, [], _∷_, List·Memᴰ, List·Memᴰ·head, List·Memᴰ·tail, List·Memᴰ·not-nil}
+use mathlib.Core.List.{List·Memᴰ·cases-cons}
+use mathlib.Core.Logic.{_⊎_, inl, inr, _≢_}
+use Prim.Native.Nat.{ℕ, suc, _<_}
+use native.Mathlib.Omega.{arith}
+use lib.Dec.{eqb}
+use lib.ListN.{length}
+use borrow.Author.Tests.{eqb-false, eq-eqb, ne-eqb}
+use Rattle.sheet.specs.Area.{count}
+use Rattle.lookup.specs.Lookup.{counted}
+use Rattle.claims.proofs.Counts.{not-true}
+use Rattle.claims.proofs.Sums.{count-none, count-more}
+
+pub counted-none : (t : ℕ → Bool) (cs : List ℕ) → ((c : ℕ) → List·Memᴰ c cs → t c ≡ false) → counted t cs ≡ 0
+unfolding counted
+counted-none t [] h = refl
+counted-none t (c ∷ cs) h = rw (h c (List·Memᴰ·head refl)) (counted-none t cs (λ d m. h d (List·Memᴰ·tail m)))
+
+pub counted-all : (cs : List ℕ) → counted (λ c. true) cs ≡ length cs
+unfolding counted
+counted-all [] = refl
+counted-all (c ∷ cs) = rw (counted-all cs)
+
+-- each cell stands once
+pub data Once : List ℕ → Type 0 where
+  once-none : Once []
+  once-on : {c : ℕ} {cs : List ℕ} → (List·Memᴰ c cs → ⊥) → Once cs → Once (c ∷ cs)
+
+-- u tests the cells below n, t those of the list
+pub record SameTests (n : ℕ) (cs : List ℕ) (u t : ℕ → Bool) : Type 0 where
+  pub below : (c : ℕ) → List·Memᴰ c cs → c < n
+  pub listed : (q : ℕ) → q < n → u q ≡ true → List·Memᴰ q cs
+  pub same : (c : ℕ) → List·Memᴰ c cs → u c ≡ t c
+
+-- u without the cell c
+abbrev except : ℕ → (ℕ → Bool) → ℕ → Bool
+except c u q = cond (eqb q c) false (u q)
+
+except-other : (c : ℕ) (u : ℕ → Bool) (q : ℕ) → q ≢ c → except c u q ≡ u q
+except-other c u q d = rw (ne-eqb q c d)
+
+except-true : (c : ℕ) (u : ℕ → Bool) (q : ℕ) → except c u q ≡ true → (q ≢ c) × (u q ≡ true)
+except-true c u q e = go (eqb q c) refl e
+  where
+    go : (b : Bool) → eqb q c ≡ b → cond b false (u q) ≡ true → (q ≢ c) × (u q ≡ true)
+    go true p h = absurd (true≢false (sym h))
+    go false p h = (eqb-false q c p, h)
+
+pub counted-cells : (n : ℕ) (cs : List ℕ) (u t : ℕ → Bool) → Once cs → SameTests n cs u t → count n u ≡ counted t cs
+unfolding counted
+counted-cells n [] u t o r =
+    count-none n u (λ q l. not-true (u q) (λ e. List·Memᴰ·not-nil (r .listed q l e)))
+counted-cells n (c ∷ cs) u t (once-on d o) r = go (t c) refl (λ v. counted-cells n cs v t o)
+  where
+    rest : {q : ℕ} → (q ≡ c) ⊎ List·Memᴰ q cs → q ≢ c → List·Memᴰ q cs
+    rest (inl e) f = absurd (f e)
+    rest (inr m) f = m
+
+    go : (b : Bool) → t c ≡ b → ((v : ℕ → Bool) → SameTests n cs v t → count n v ≡ counted t cs)
+        → count n u ≡ cond b (suc (counted t cs)) (counted t cs)
+    go true e f =
+        let now : u c ≡ true = r .same c (List·Memᴰ·head refl) ∙ e in
+        let l : c < n = r .below c (List·Memᴰ·head refl) in
+        let fewer = f (except c u) (record {
+          below = λ q m. r .below q (List·Memᴰ·tail m);
+          listed = λ q k h.
+              let x = except-true c u q h in rest (List·Memᴰ·cases-cons (r .listed q k (x .1))) (x .0);
+          same = λ q m.
+              except-other c u q (λ p. d (rw p at m)) ∙ r .same q (List·Memᴰ·tail m);
+        }) in
+        let more = count-more n (except c u) u c l (rw (eq-eqb c c refl) refl) now
+        (λ q k x. sym (except-other c u q x)) in
+        omega (arith, more, fewer)
+    go false e f =
+        let now : u c ≡ false = r .same c (List·Memᴰ·head refl) ∙ e in
+        f u (record {
+          below = λ q m. r .below q (List·Memᴰ·tail m);
+          listed = λ q k h.
+              rest (List·Memᴰ·cases-cons (r .listed q k h)) (λ p. true≢false (sym h ∙ ap u p ∙ now));
+          same = λ q m. r .same q (List·Memᴰ·tail m);
+        })

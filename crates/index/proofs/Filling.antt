@@ -1,0 +1,87 @@
+-- Laws of entries written one by one: what is still to write, written on the present slices, gives the whole written on
+-- the slices lent.
+use mathlib.Core.Path.{_≡_, refl, ap, _∙_}
+use mathlib.Core.List.{List, _++_, map}
+use Prim.Native.Nat.{ℕ, _+_, _-_, _≤_}
+use native.Mathlib.Nat.{zero-add}
+use native.Mathlib.Numerals.{add-one}
+use native.Mathlib.Omega.{arith}
+use lib.ListN.{length, getD, drop, set, length-set, length-map}
+use lib.Seq.{sets, sets-eq}
+use Rattle.sheet.specs.Label.{labelAt}
+use Rattle.sheet.specs.Refusal.{written}
+use Rattle.index.specs.Units.{UnitEntry}
+use Rattle.index.specs.Index.{LentIndex, lentIndex, writtenIndex}
+use Rattle.index.specs.Steps.{groupsOf, Group, Room}
+use Rattle.index.proofs.Groups.{one-more, groups-past}
+
+-- entries written from a place on
+abbrev writtenFrom : ℕ → List UnitEntry → LentIndex → LentIndex
+writtenFrom at entries I =
+    lentIndex (sets (I .labels) at (map (λ (e : UnitEntry). e .label) entries))
+    (sets (I .outlets) at (map (λ (e : UnitEntry). e .outlet) entries))
+    (sets (I .counts) at (map (λ (e : UnitEntry). e .count) entries))
+
+written-whole : (new old : List ℕ) → length new ≤ length old → sets old 0 new ≡ written new old
+written-whole new old l =
+    sets-eq new old 0 (omega arith) ∙ ap (λ (k : ℕ). new ++ drop k old) (zero-add (length new))
+
+-- the groups before position `first` are written, at the places before `at`; I was lent, and J is what the slices hold
+pub record Filling (cells labels : List ℕ) (I J : LentIndex) (at first : ℕ) : Type 0 where
+  pub within : first ≤ length cells
+  pub left : at + length (groupsOf (drop first cells) labels) ≡ length (groupsOf cells labels)
+  pub units : length (J .labels) ≡ length (I .labels)
+  pub outlets : length (J .outlets) ≡ length (I .outlets)
+  pub counts : length (J .counts) ≡ length (I .counts)
+  pub to-do : writtenFrom at (groupsOf (drop first cells) labels) J ≡ writtenFrom 0 (groupsOf cells labels) I
+
+module _ (cells labels : List ℕ) (I : LentIndex) where
+  pub filling-starts : Filling cells labels I I 0 0
+  filling-starts = record {
+    within = omega arith;
+    left = omega arith;
+    units = refl;
+    outlets = refl;
+    counts = refl;
+    to-do = refl;
+  }
+
+  -- a place is left for the group at `first`
+  pub room-left : {J : LentIndex} {at first last : ℕ} → Filling cells labels I J at first
+      → Group cells labels first last → Room (length (groupsOf cells labels)) I → Room (at + 1) J
+  room-left f g room =
+      let more = one-more cells labels g in
+      record {
+        labels = omega (arith, f .left, f .units, room .labels);
+        outlets = omega (arith, f .left, f .outlets, room .outlets);
+        counts = omega (arith, f .left, f .counts, room .counts);
+      }
+
+  pub filling-goes-on : {J : LentIndex} {at first last : ℕ} → Filling cells labels I J at first
+      → Group cells labels first last
+      → Filling cells labels I
+      (lentIndex (set (J .labels) at (labelAt labels (getD cells first 0))) (set (J .outlets) at (getD cells first 0))
+      (set (J .counts) at (last - first + 1))) (at + 1) (last + 1)
+  filling-goes-on {J} {at} {first} {last} f g = record {
+    within = omega (arith, g .to);
+    left = omega (arith, f .left, one-more cells labels g);
+    units = length-set (J .labels) at _ ∙ f .units;
+    outlets = length-set (J .outlets) at _ ∙ f .outlets;
+    counts = length-set (J .counts) at _ ∙ f .counts;
+    to-do = rw (add-one at) (rw (g .is) at (f .to-do));
+  }
+
+  pub filling-ends : {J : LentIndex} {at first : ℕ} → Filling cells labels I J at first → length cells ≤ first
+      → Room (length (groupsOf cells labels)) I → J ≡ writtenIndex (groupsOf cells labels) I
+  filling-ends {J} {at} {first} f l room =
+      let g = groupsOf cells labels in
+      rw (groups-past cells labels first l) at (f .to-do) ∙ rw (
+        written-whole (map (λ (e : UnitEntry). e .label) g) (I .labels) (rw length-map (room .labels)),
+        written-whole (map (λ (e : UnitEntry). e .outlet) g) (I .outlets) (rw length-map (room .outlets)),
+        written-whole (map (λ (e : UnitEntry). e .count) g) (I .counts) (rw length-map (room .counts)),
+      )
+
+  pub filling-counted : {J : LentIndex} {at first : ℕ} → Filling cells labels I J at first → length cells ≤ first
+      → at ≡ length (groupsOf cells labels)
+  filling-counted {at = at} {first = first} f l =
+      omega (arith, f .left, ap length (groups-past cells labels first l))

@@ -1,0 +1,17 @@
+pub mod Cases
+pub mod IntakeCases
+pub mod ListPlaces
+pub mod LabelsRise
+pub mod Distinct
+pub mod Counting
+pub mod GroupsInOrder
+pub mod Groups
+pub mod Filling
+pub mod Room
+pub mod Outlets
+pub mod UnitsInOrder
+pub mod Steps
+pub mod SmallAnswers
+pub mod Partition
+pub mod Columns
+pub mod Meaning

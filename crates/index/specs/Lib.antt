@@ -1,0 +1,6 @@
+pub mod Units
+pub mod Index
+pub mod Groups
+pub mod Steps
+pub mod FromIntake
+pub mod Meaning

@@ -1,0 +1,53 @@
+-- What the steps of the index call ask and promise.
+use mathlib.Core.Path.{_≡_}
+use mathlib.Core.List.{List, _∷_}
+use Prim.Native.Nat.{ℕ, _+_, _*_, _-_, _^_, _≤_, _<_}
+use lib.ListN.{length, getD, drop, replicate}
+use Rattle.sheet.specs.Sheet.{Sheet, cells}
+use Rattle.sheet.specs.Label.{areasOf, labelsOf, labelAt}
+use Rattle.sheet.specs.Refusal.{Lent, outcomeOn, ifAccepted}
+use Rattle.directions.specs.Sizes.{mostCells}
+use Rattle.upstream.specs.Work.{cellsPart}
+use Rattle.order.specs.Places.{cellsIn}
+use Rattle.index.specs.declared.Indexed.{Indexed}
+use Rattle.index.specs.Units.{UnitEntry, unitEntry, units}
+use Rattle.index.specs.Groups.{grouped}
+use Rattle.index.specs.Index.{LentIndex, indexedOn, ifIndexed}
+
+-- cells that have labels, so few that a count of them fits 32 bits
+pub record CellsLabelled (cells labels : List ℕ) : Type 0 where
+  pub few : length cells < 2 ^ 32
+  pub on : (j : ℕ) → j < length cells → getD cells j 0 < length labels
+
+-- the groups of a list of cells, by their labels
+abbrev pub groupsOf : List ℕ → List ℕ → List UnitEntry
+groupsOf cells labels = grouped (labelAt labels) cells
+
+-- the cells at positions first to last are a group of their own
+pub record Group (cells labels : List ℕ) (first last : ℕ) : Type 0 where
+  pub from : first ≤ last
+  pub to : last < length cells
+  pub is : groupsOf (drop first cells) labels
+      ≡ unitEntry (labelAt labels (getD cells first 0)) (getD cells first 0) (last - first + 1)
+      ∷ groupsOf (drop (last + 1) cells) labels
+
+-- each of the three slices has a place for each of so many units
+pub record Room (units : ℕ) (I : LentIndex) : Type 0 where
+  pub labels : units ≤ length (I .labels)
+  pub outlets : units ≤ length (I .outlets)
+  pub counts : units ≤ length (I .counts)
+
+-- what the order along rivers hands over: so many cells stand in their part of the work places, with labels
+pub record InOrder (n : ℕ) (work labels : List ℕ) (queued : ℕ) : Type 0 where
+  pub small : n ≤ mostCells
+  pub room : cellsPart * n + queued ≤ length work
+  pub labelled : CellsLabelled (cellsIn n work queued) labels
+
+-- what the call leaves of a sheet that passed checks 1 to 3: L and I were lent, and L′ and I′ are what the slices hold
+-- then
+pub record IndexedFitting (S : Sheet) (L L′ : Lent) (I I′ : LentIndex) (r : Indexed) : Type 0 where
+  pub answer : r ≡ indexedOn (outcomeOn (S .grid)) (length (units S)) I
+  pub areas : L′ .areas ≡ ifAccepted (outcomeOn (S .grid)) (areasOf S) (L .areas)
+  pub labels : L′ .labels ≡ ifAccepted (outcomeOn (S .grid)) (labelsOf S) (L .labels)
+  pub work : L′ .work ≡ replicate (8 * cells (S .grid)) 0
+  pub index : I′ ≡ ifIndexed r (units S) I

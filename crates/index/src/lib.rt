@@ -1,0 +1,138 @@
+// The index of a sheet's units: their labels in dictionary order, each with its outlet cell and its count of cells.
+pub mod from_intake;
+pub mod units;
+
+use crate::units::write_units;
+use drainage::Inspection;
+use sheet::Outcome;
+use upstream::parts;
+ghost use mathlib.Core.Path.{_≡_};
+ghost use lib.ListN.{length};
+ghost use Rattle.order.specs.Places.{cellsIn};
+ghost use Rattle.sheet.specs.Refusal.{lentAfter};
+ghost use Rattle.labelling.specs.Labelling.{sheet, lent, firstChecks, Fitting};
+ghost use Rattle.index.specs.Index.{lentIndex, indexedOn, indexed, indexedValues, ifIndexed, indexAfter};
+ghost use Rattle.index.specs.Steps.{groupsOf, InOrder, IndexedFitting};
+
+// The answer of the index call: the number of units, or refused with document 01's number and place.
+pub enum Indexed {
+    Units(usize),
+    Refused(u8, usize),
+}
+
+// The index of a sheet whose labelling came to `found`: refused as labelling was, else filled from the order along
+// rivers in the work places.
+fn index_in_order(
+    found: Inspection,
+    n: usize,
+    work: &[u32],
+    labels: &[u64],
+    units: &mut [u64],
+    outlets: &mut [u32],
+    counts: &mut [u32],
+) -> Indexed
+    requires { ⌜ (found .outcome ≡ Outcome.Accepted → InOrder n (now work) (now labels) (found .queued)) ⌝ }
+    ensures answer { λ r. ⌜ r ≡ indexedOn (found .outcome)
+        (length (groupsOf (cellsIn n (now (work .entry)) (found .queued)) (now (labels .entry))))
+        (lentIndex (now (units .entry)) (now (outlets .entry)) (now (counts .entry))) ⌝ }
+    ensures index { λ r. ⌜ lentIndex (now (units .exit)) (now (outlets .exit)) (now (counts .exit))
+        ≡ ifIndexed r (groupsOf (cellsIn n (now (work .entry)) (found .queued)) (now (labels .entry)))
+        (lentIndex (now (units .entry)) (now (outlets .entry)) (now (counts .entry))) ⌝ }
+{
+    let outcome = found.outcome;
+    let queued = found.queued;
+    match outcome {
+        Outcome::Accepted => {
+            let cells = parts::CELLS * n;
+            let cells_end = cells + queued;
+            write_units(&work[cells..cells_end], labels, units, outlets, counts)
+        }
+        Outcome::Refused(number, place) => Indexed::Refused(number, place),
+    }
+}
+
+// Labels a sheet that passed checks 1 to 3, and fills the index of its units. The work places are 0 afterwards.
+fn index_fitting(
+    rows: usize,
+    cols: usize,
+    depth: usize,
+    dirs: &[u8],
+    areas: &mut [u32],
+    labels: &mut [u64],
+    work: &mut [u32],
+    units: &mut [u64],
+    outlets: &mut [u32],
+    counts: &mut [u32],
+) -> Indexed
+    requires { ⌜ Fitting (sheet rows cols depth (now dirs)) (lent (now areas) (now labels) (now work)) ⌝ }
+    requires { ⌜ firstChecks (sheet rows cols depth (now dirs)) (lent (now areas) (now labels) (now work))
+        ≡ Outcome.Accepted ⌝ }
+    ensures { λ r. ⌜ IndexedFitting (sheet rows cols depth (now (dirs .entry)))
+        (lent (now (areas .entry)) (now (labels .entry)) (now (work .entry)))
+        (lent (now (areas .exit)) (now (labels .exit)) (now (work .exit)))
+        (lentIndex (now (units .entry)) (now (outlets .entry)) (now (counts .entry)))
+        (lentIndex (now (units .exit)) (now (outlets .exit)) (now (counts .exit))) r ⌝ }
+{
+    let found = labelling::label_in_order(rows, cols, depth, dirs, areas, labels, work);
+    let answer = index_in_order(found, rows * cols, work, labels, units, outlets, counts);
+    labelling::clear_places(work);
+    answer
+}
+
+// Labels a sheet as `labelling::label` does, and fills the index of its units: `units` gets their labels. The answer is
+// the number of units; refused as labelling is, then by 3 if a slice of the index has too few places for them. Refused,
+// no place of the index is written; areas and labels are written once labelling is accepted.
+pub fn index(
+    rows: usize,
+    cols: usize,
+    depth: usize,
+    dirs: &[u8],
+    areas: &mut [u32],
+    labels: &mut [u64],
+    work: &mut [u32],
+    units: &mut [u64],
+    outlets: &mut [u32],
+    counts: &mut [u32],
+) -> Indexed
+    ensures answer { λ r. ⌜ r ≡ indexed (sheet rows cols depth (now (dirs .entry)))
+        (lent (now (areas .entry)) (now (labels .entry)) (now (work .entry)))
+        (lentIndex (now (units .entry)) (now (outlets .entry)) (now (counts .entry))) ⌝ }
+    ensures values { λ r. ⌜ indexedValues r
+        ≡ indexedValues (indexed (sheet rows cols depth (now (dirs .entry)))
+        (lent (now (areas .entry)) (now (labels .entry)) (now (work .entry)))
+        (lentIndex (now (units .entry)) (now (outlets .entry)) (now (counts .entry)))) ⌝ }
+    ensures lent { λ _. ⌜ lent (now (areas .exit)) (now (labels .exit)) (now (work .exit))
+        ≡ lentAfter (sheet rows cols depth (now (dirs .entry)))
+        (lent (now (areas .entry)) (now (labels .entry)) (now (work .entry))) ⌝ }
+    ensures index { λ _. ⌜ lentIndex (now (units .exit)) (now (outlets .exit)) (now (counts .exit))
+        ≡ indexAfter (sheet rows cols depth (now (dirs .entry)))
+        (lent (now (areas .entry)) (now (labels .entry)) (now (work .entry)))
+        (lentIndex (now (units .entry)) (now (outlets .entry)) (now (counts .entry))) ⌝ }
+{
+    match labelling::first_checks(
+        rows,
+        cols,
+        depth,
+        dirs.len(),
+        areas.len(),
+        labels.len(),
+        work.len(),
+    ) {
+        Outcome::Accepted => {
+            let places = 8 * (rows * cols);
+            index_fitting(
+                rows,
+                cols,
+                depth,
+                dirs,
+                areas,
+                labels,
+                &mut work[..places],
+                units,
+                outlets,
+                counts,
+            )
+        }
+        Outcome::Refused(number, place) => Indexed::Refused(number, place),
+    }
+}

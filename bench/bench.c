@@ -1,4 +1,5 @@
-/* Times the proved labelling call against the plain C baseline, on the same sheets in one run, and prints the ratio. */
+/* Times the proved labelling call against the plain C baseline, and the index call against the labelling call, on the same sheets in one
+   run, and prints the ratios. */
 #include <stdint.h>
 #include <stdio.h>
 #include <stdlib.h>
@@ -10,8 +11,8 @@
 enum { SIDE = 256, CELLS = SIDE * SIDE, EAST = 1, SOUTH = 4, WEST = 16, NORTHWEST = 32, NORTH = 64 };
 
 static uint8_t dirs[CELLS];
-static uint32_t areas[CELLS], baseline_areas[CELLS], work[8 * CELLS];
-static uint64_t labels[CELLS], baseline_labels[CELLS];
+static uint32_t areas[CELLS], baseline_areas[CELLS], index_areas[CELLS], work[8 * CELLS], outlets[CELLS], counts[CELLS];
+static uint64_t labels[CELLS], baseline_labels[CELLS], index_labels[CELLS], units[CELLS];
 static uint64_t seed = 88172645463325252ull;
 
 static uint32_t below(uint32_t n) {
@@ -77,12 +78,19 @@ static uint64_t proved(int side, int depth) {
     return pf_label(side, side, depth, dirs, n, areas, n, labels, n, work, 8 * n);
 }
 
+static uint64_t indexed(int side, int depth) {
+    size_t n = (size_t)side * side;
+    return pf_index(side, side, depth, dirs, n, index_areas, n, index_labels, n, work, 8 * n, units, n, outlets, n, counts, n);
+}
+
 static uint64_t plain(int side, int depth) {
     return baseline_label(side, side, depth, dirs, baseline_areas, baseline_labels);
 }
 
+typedef uint64_t (*call_of)(int side, int depth);
+
 /* The time of one call, in seconds, over several. */
-static double time_of(uint64_t (*call)(int, int), int side, int depth) {
+static double time_of(call_of call, int side, int depth) {
     int calls = side == SIDE ? 2 : 8;
     double start = now();
     for (int i = 0; i < calls; i++) call(side, depth);
@@ -90,45 +98,73 @@ static double time_of(uint64_t (*call)(int, int), int side, int depth) {
 }
 
 /* The least time of each call over rounds in which both are timed, one right after the other. */
-static void least_times(int side, int depth, double *p, double *q) {
+static void least_times(call_of first, call_of second, int side, int depth, double *p, double *q) {
     *p = *q = 1e9;
     for (int round = 0; round < 25; round++) {
-        double a = time_of(proved, side, depth), b = time_of(plain, side, depth);
+        double a = time_of(first, side, depth), b = time_of(second, side, depth);
         if (a < *p) *p = a;
         if (b < *q) *q = b;
     }
 }
 
-int main(void) {
-    static const struct { const char *name; void (*make)(int); } shapes[] = {
-        {"comb", comb}, {"tree", tree}, {"snake", snake}, {"random", random_basin}};
-    static const int depths[] = {1, 3, 18}, sides[] = {64, 128, 256};
+static const struct { const char *name; void (*make)(int); } shapes[] = {
+    {"comb", comb}, {"tree", tree}, {"snake", snake}, {"random", random_basin}};
+enum { SHAPES = sizeof shapes / sizeof shapes[0] };
+
+static void label_against_baseline(void) {
+    static const int depths[] = {1, 3, 18};
     double worst = 0;
     printf("time of the proved call / time of the baseline, 256 x 256 (milliseconds of each)\n");
-    for (size_t s = 0; s < 4; s++) {
+    for (size_t s = 0; s < SHAPES; s++) {
         shapes[s].make(SIDE);
         for (size_t d = 0; d < 3; d++) {
             uint64_t a = proved(SIDE, depths[d]), b = plain(SIDE, depths[d]);
             if (a != b || memcmp(areas, baseline_areas, sizeof areas) || memcmp(labels, baseline_labels, sizeof labels)) {
                 printf("%s, depth %d: the results differ\n", shapes[s].name, depths[d]);
-                return 1;
+                exit(1);
             }
             double p, q;
-            least_times(SIDE, depths[d], &p, &q);
+            least_times(proved, plain, SIDE, depths[d], &p, &q);
             if (p / q > worst) worst = p / q;
             printf("%-7s depth %2d  ratio %.2f  (%.2f / %.2f)\n", shapes[s].name, depths[d], p / q, p * 1e3, q * 1e3);
         }
     }
-    printf("largest ratio %.2f\n\nnanoseconds a cell, proved call, depth 18\n", worst);
-    for (size_t s = 0; s < 4; s++) {
+    printf("largest ratio %.2f\n", worst);
+}
+
+static void index_against_label(void) {
+    printf("\ntime of the index call / time of the labelling call, 256 x 256, depth 18 (milliseconds of each; units)\n");
+    for (size_t s = 0; s < SHAPES; s++) {
+        shapes[s].make(SIDE);
+        uint64_t a = indexed(SIDE, 18), b = proved(SIDE, 18);
+        if (a % 256 != 0 || b != 0 || memcmp(index_areas, areas, sizeof areas) || memcmp(index_labels, labels, sizeof labels)) {
+            printf("%s: areas or labels of the index call differ\n", shapes[s].name);
+            exit(1);
+        }
+        double p, q;
+        least_times(indexed, proved, SIDE, 18, &p, &q);
+        printf("%-7s index / label  %.2f  (%.2f / %.2f; %u)\n", shapes[s].name, p / q, p * 1e3, q * 1e3, (unsigned)(a / 256));
+    }
+}
+
+static void time_a_cell(void) {
+    static const int sides[] = {64, 128, 256};
+    printf("\nnanoseconds a cell, proved call, depth 18\n");
+    for (size_t s = 0; s < SHAPES; s++) {
         printf("%-7s", shapes[s].name);
         for (size_t i = 0; i < 3; i++) {
             double p, q;
             shapes[s].make(sides[i]);
-            least_times(sides[i], 18, &p, &q);
+            least_times(proved, plain, sides[i], 18, &p, &q);
             printf("  %3d x %-3d %6.1f", sides[i], sides[i], p * 1e9 / (sides[i] * sides[i]));
         }
         printf("\n");
     }
+}
+
+int main(void) {
+    label_against_baseline();
+    index_against_label();
+    time_a_cell();
     return 0;
 }

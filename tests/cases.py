@@ -1,7 +1,7 @@
-# Recomputes the stored cases with reference.py, and checks sheets, labels and boundaries of document 01 by direct call.
+# Recomputes the stored cases with reference.py, and checks sheets, labels and boundaries of documents 01 and 02 by direct call.
 #
 # A file can get refusals 1 to 10 and 14. It cannot get
-#   11 and 12: they belong to the flow question, which the program does not ask;
+#   11, 12 and 16: they belong to the flow question and the lookup, of which the program makes no use;
 #   13: the program hands over no line and no end after the end;
 #   15: the program labels only after the intake has accepted the end.
 # Nor can it get 1 to 4 from labelling, since the intake has refused such sizes and directions before.
@@ -12,9 +12,10 @@ import pathlib
 import sys
 
 sys.dont_write_bytecode = True
-from reference import Intake, flow, label, label_intake, report, take_end, take_line
+from reference import Intake, flow, index, index_intake, label, label_intake, lookup, report, take_end, take_line
 
 CASES = pathlib.Path(__file__).resolve().parent / 'cases'
+INDEX_EXAMPLE = CASES.parent.parent / 'examples' / 'index.out'
 
 SAMPLE_A = bytes([0, 4, 16, 8, 16, 16, 16, 16, 64, 64, 32, 64])
 
@@ -71,6 +72,51 @@ SHEETS = [
     ('6 before 7', 1, 5, 1, bytes([16, 1, 16, 0, 1]), 5, 5, 40, 6, 1),
 ]
 
+# The units of sample A: label, outlet cell, count of cells.
+SAMPLE_A_UNITS = [(1, 4, 1), (2, 8, 1), (3, 5, 1), (4, 9, 1), (6, 10, 1), (8, 1, 2), (91, 6, 1), (92, 3, 1), (93, 7, 2)]
+SAMPLE_A_UNITS_CUT = [(1, 4, 1), (2, 8, 1), (3, 5, 1), (4, 9, 1), (6, 10, 1), (8, 1, 2), (9, 6, 4)]
+
+# (name, rows, cols, depth, directions, areas, labels, work places, labels, outlets and counts of units; number, place, units)
+INDEXES = [
+    ('sample A', 3, 4, 2, SAMPLE_A, 12, 12, 96, 9, 9, 9, 0, 0, SAMPLE_A_UNITS),
+    ('sample A at depth 1', 3, 4, 1, SAMPLE_A, 12, 12, 96, 9, 7, 8, 0, 0, SAMPLE_A_UNITS_CUT),
+    ('1 by 1, code 1', 1, 1, 1, bytes([1]), 1, 1, 8, 1, 1, 1, 0, 0, [(0, 0, 1)]),
+    ('an outside cell is no unit', 1, 2, 1, bytes([0, 1]), 2, 2, 16, 1, 1, 1, 0, 0, [(0, 1, 1)]),
+    ('one unit too few', 3, 4, 2, SAMPLE_A, 12, 12, 96, 8, 9, 9, 3, 0, None),
+    ('one outlet too few', 3, 4, 2, SAMPLE_A, 12, 12, 96, 9, 8, 9, 3, 0, None),
+    ('one count too few', 3, 4, 2, SAMPLE_A, 12, 12, 96, 9, 9, 8, 3, 0, None),
+    ('7 before 3 of the index', 1, 2, 1, bytes([16, 1]), 2, 2, 16, 0, 0, 0, 7, 1, None),
+]
+
+LABELS = [label for label, outlet, count in SAMPLE_A_UNITS]
+
+# (name, leading digits, labels; number, start, length)
+LOOKUPS = [
+    ('three labels', 9, LABELS, 0, 6, 3),
+    ('no leading digits', 0, LABELS, 0, 0, 9),
+    ('a whole label', 92, LABELS, 0, 7, 1),
+    ('between 4 and 6', 5, LABELS, 0, 4, 0),
+    ('past a label that they begin with', 921, LABELS, 0, 8, 0),
+    ('after all', 94, LABELS, 0, 9, 0),
+    ('before all', 1, [2, 3], 0, 0, 0),
+    ('nothing lent', 5, [], 0, 0, 0),
+    ('none, and nothing lent', 0, [], 0, 0, 0),
+    ('a label before those it begins', 1, [1, 11, 111, 2], 0, 0, 3),
+    ('the label 0 before all', 0, [0, 1], 0, 0, 2),
+    ('dictionary order, not that of numbers', 2, [11, 2], 0, 1, 1),
+    ('order of numbers', 2, [2, 11], 16, 0, 0),
+    ('a label after one it begins', 1, [11, 1], 16, 0, 0),
+    ('the label 0 at the end', 1, [1, 0], 16, 0, 0),
+    ('equal neighbours', 3, [1, 1], 16, 0, 0),
+    ('a leading 0 digit', 10, LABELS, 11, 0, 0),
+    ('an entry with a 0 digit', 1, [1, 105], 11, 0, 0),
+    ('18 digits', 10 ** 18 - 1, [10 ** 18 - 1], 0, 0, 1),
+    ('19 leading digits', 1111111111111111111, [], 11, 0, 0),
+    ('an entry of 19 digits', 0, [1111111111111111111], 11, 0, 0),
+    ('11 at the end before 16 at the start', 1, [2, 1, 20], 11, 0, 0),
+    ('leading digits by 11 before 16', 20, [2, 1], 11, 0, 0),
+]
+
 
 def file_checks():
     for given in sorted(CASES.glob('*.in')):
@@ -91,6 +137,21 @@ def sheet_checks():
         yield 'label: ' + name, label(*arguments)[:2], (number, place)
 
 
+def index_checks():
+    for name, *arguments, number, place, units in INDEXES:
+        got = index(*arguments)
+        yield 'index: ' + name, (*got[:2], got[4]), (number, place, units)
+        labelled = label(*arguments[:-3])
+        yield 'index, areas and labels: ' + name, got[2:4], labelled[2:]
+    lines = ['%d,%d,%d,%d' % (label, outlet // 4, outlet % 4, count) for label, outlet, count in SAMPLE_A_UNITS]
+    yield 'index: the example in C', INDEX_EXAMPLE.read_text().splitlines()[1:-1], lines
+
+
+def lookup_checks():
+    for name, leading, labels, *answer in LOOKUPS:
+        yield 'lookup: ' + name, lookup(leading, labels), tuple(answer)
+
+
 def sample_checks():
     areas = [0, 2, 1, 1, 11, 9, 4, 2, 1, 1, 1, 1]
     # The tributaries of cell 5 stand as 9, 10, 1: they get 4, 6, 8.
@@ -109,6 +170,9 @@ def intake_checks():
     yield 'intake: an end after the end', take_end(ended), (13, ended)
     yield 'intake: an end before cell names', take_end(Intake()), (14, Intake())
     yield 'intake: labelling before the end', label_intake(cells, dirs, 0, 0, 0), (15, 0, None, None)
+    yield 'intake: an index before the end', index_intake(cells, dirs, 0, 0, 0, 0, 0, 0), (15, 0, None, None, None)
+    yield ('intake: an index after the end', index_intake(ended, bytes([1, 7]), 1, 1, 8, 1, 1, 1),
+           (0, 0, [1], [0], [(0, 0, 1)]))
     yield 'intake: byte 10 in a line', take_line(Intake(), b'rows,cols,depth\n', dirs), (8, Intake())
     yield 'intake: nothing lent, 3 before 8', take_line(cells, b'', bytearray()), (3, cells)
     yield 'intake: refused lines write no byte', bytes(dirs), bytes([1, 7])
@@ -121,7 +185,7 @@ def intake_checks():
 def main():
     files = list(file_checks())
     checks = files + [('there are stored cases', len(files) > 0, True)]
-    checks += [*flow_checks(), *sheet_checks(), *sample_checks(), *intake_checks()]
+    checks += [*flow_checks(), *sheet_checks(), *sample_checks(), *index_checks(), *lookup_checks(), *intake_checks()]
     failures = [check for check in checks if check[1] != check[2]]
     for name, got, expected in failures:
         print(f'{name}: expected {expected!r:.200}, got {got!r:.200}')

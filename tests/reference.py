@@ -1,5 +1,5 @@
 # Reference for the program `pfafstetter`: a file on standard input, its listing or its refusal on standard output.
-# Written from document 01 by lists and sorting. Refusals are document 01's numbers; 0 means accepted.
+# Written from documents 01 and 02 alone, by lists, sorting and text. Refusals are their numbers; 0 means accepted.
 
 import sys
 from typing import NamedTuple
@@ -131,13 +131,60 @@ def label(rows, cols, depth, dirs, areas_len, labels_len, work_len):
     areas = areas_of(donors, drained)
     return 0, 0, areas, labels_of(donors, areas, depth, outlets[0])
 
+# The index of units, and the lookup in it.
+
+def digits_of(number):
+    """The digits of a label as text, whose order is dictionary order; the label 0 has none."""
+    return str(number) if number != 0 else ''
+
+def units_of(rows, cols, dirs, labels):
+    """Triples (label, outlet cell, count of cells) of an accepted sheet, in dictionary order of the digits."""
+    cells_with = {}
+    for cell in range(rows * cols):
+        if dirs[cell] != OUTSIDE:
+            cells_with.setdefault(digits_of(labels[cell]), set()).add(cell)
+    units = []
+    for digits in sorted(cells_with):
+        cells = cells_with[digits]
+        # The one of these cells whose water goes to none of them.
+        outlet, = [cell for cell in cells if step_end(rows, cols, dirs, cell) not in cells]
+        units.append((labels[outlet], outlet, len(cells)))
+    return units
+
+def index_after(labelled, rows, cols, dirs, units_len, outlets_len, counts_len):
+    """What `index` gives once labelling has given `labelled`."""
+    number, place, areas, labels = labelled
+    if number != 0:
+        return number, place, areas, labels, None
+    units = units_of(rows, cols, dirs, labels)
+    if min(units_len, outlets_len, counts_len) < len(units):
+        return 3, 0, areas, labels, None
+    return 0, 0, areas, labels, units
+
+def index(rows, cols, depth, dirs, areas_len, labels_len, work_len, units_len, outlets_len, counts_len):
+    """Labels and indexes: (number, place, areas, labels, units). Refused, units are None; by labelling, the others too."""
+    labelled = label(rows, cols, depth, dirs, areas_len, labels_len, work_len)
+    return index_after(labelled, rows, cols, dirs, units_len, outlets_len, counts_len)
+
+def lookup(leading, labels):
+    """Where the labels stand that begin with the leading digits: (number, start, length)."""
+    leading, *entries = (digits_of(number) for number in [leading, *labels])
+    if any('0' in digits or len(digits) > MAX_DEPTH for digits in [leading, *entries]):
+        return 11, 0, 0
+    if entries != sorted(set(entries)):
+        return 16, 0, 0
+    found = [place for place, digits in enumerate(entries) if digits.startswith(leading)]
+    if found:
+        return 0, found[0], len(found)
+    return 0, sorted([*entries, leading]).index(leading), 0
+
 # The flow question.
 
 def flow(depth, p, q):
     """Does water from label q pass label p: 'Same', 'Yes', 'No', 'Undecided' or ('Refused', number)."""
     if not 1 <= depth <= MAX_DEPTH:
         return 'Refused', 2
-    p, q = (str(number) if number else '' for number in (p, q))
+    p, q = digits_of(p), digits_of(q)
     if '0' in p + q or max(len(p), len(q)) > depth:
         return 'Refused', 11
     if p == q:
@@ -211,6 +258,10 @@ def label_intake(state, dirs, areas_len, labels_len, work_len):
     if state.stage != 'ended':
         return 15, 0, None, None
     return label(state.rows, state.cols, state.depth, dirs, areas_len, labels_len, work_len)
+
+def index_intake(state, dirs, areas_len, labels_len, work_len, units_len, outlets_len, counts_len):
+    labelled = label_intake(state, dirs, areas_len, labels_len, work_len)
+    return index_after(labelled, state.rows, state.cols, dirs, units_len, outlets_len, counts_len)
 
 # The program.
 

@@ -1,11 +1,19 @@
-/* Calls pf_label and pf_flow on the cases that come on standard input, and compares the answer and every place of every lent slice
-   afterwards with what is expected. The cases are made by tests/direct/cases.py, which also says how they are laid out. */
+/* Calls pf_label, pf_index, pf_lookup and pf_flow on the cases that come on standard input, and compares the answer and every place of
+   every lent slice afterwards with what is expected. The cases are made by tests/direct/cases.py, which also says how they are laid out. */
 #include <inttypes.h>
 #include <stdint.h>
 #include <stdio.h>
 #include <stdlib.h>
 #include <string.h>
 #include "pfafstetter.h"
+
+/* A lent slice, and what it must hold after the call. */
+struct lent {
+    const char *name;
+    size_t width;
+    uint64_t length;
+    void *places, *expected;
+};
 
 static uint64_t passed, failed;
 
@@ -30,50 +38,80 @@ static void *slice(size_t size) {
     return places;
 }
 
-static int same(const char *what, uint64_t which, const void *a, const void *b, size_t size) {
-    if (size == 0 || memcmp(a, b, size) == 0) return 1;
-    printf("case %" PRIu64 ": %s differ\n", which, what);
-    return 0;
+static void *copy(const void *places, size_t size) {
+    void *copied = malloc(size == 0 ? 1 : size);
+    if (copied == NULL) exit(2);
+    if (size != 0) memcpy(copied, places, size);
+    return copied;
 }
 
-static int label_case(uint64_t which) {
-    uint64_t rows = number(), cols = number(), depth = number();
-    uint64_t dirs_len = number(), areas_len = number(), labels_len = number(), work_len = number();
-    uint8_t *dirs = slice(dirs_len), *dirs_after = malloc(dirs_len + 1);
-    uint32_t *areas = slice(4 * areas_len), *work;
-    uint64_t *labels = slice(8 * labels_len);
-    work = slice(4 * work_len);
-    memcpy(dirs_after, dirs, dirs_len);
-    uint64_t expected = number();
-    uint32_t *areas_after = slice(4 * areas_len);
-    uint64_t *labels_after = slice(8 * labels_len);
-    uint32_t *work_after = slice(4 * work_len);
-    uint64_t answer = pf_label(rows, cols, depth, dirs, dirs_len, areas, areas_len, labels, labels_len, work, work_len);
-    int good = answer == expected;
-    if (!good)
-        printf("case %" PRIu64 ": %" PRIu64 " x %" PRIu64 ", depth %" PRIu64 ": answer %" PRIu64 ", expected %" PRIu64 "\n", which, rows, cols, depth, answer, expected);
-    good &= same("directions", which, dirs, dirs_after, dirs_len);
-    good &= same("areas", which, areas, areas_after, 4 * areas_len);
-    good &= same("labels", which, labels, labels_after, 8 * labels_len);
-    good &= same("work places", which, work, work_after, 4 * work_len);
-    free(dirs), free(dirs_after), free(areas), free(labels), free(work), free(areas_after), free(labels_after), free(work_after);
+/* Compares a slice with what it must hold, and frees both. */
+static int as_expected(uint64_t which, struct lent *lent) {
+    size_t size = lent->width * lent->length;
+    int good = size == 0 || memcmp(lent->places, lent->expected, size) == 0;
+    if (!good) printf("case %" PRIu64 ": %s differ\n", which, lent->name);
+    free(lent->places), free(lent->expected);
     return good;
+}
+
+/* A call of pf_label, or of pf_index, which has three slices more. */
+static int sheet_case(uint64_t which, int is_index) {
+    struct lent lent[] = {{.name = "directions", .width = 1}, {.name = "areas", .width = 4}, {.name = "labels", .width = 8},
+                          {.name = "work places", .width = 4}, {.name = "labels of units", .width = 8},
+                          {.name = "outlets of units", .width = 4}, {.name = "counts of units", .width = 4}};
+    int count = is_index ? 7 : 4, good;
+    uint64_t rows = number(), cols = number(), depth = number(), expected, answer;
+    for (int i = 0; i < count; i++) lent[i].length = number();
+    for (int i = 0; i < count; i++) lent[i].places = slice(lent[i].width * lent[i].length);
+    expected = number();
+    lent[0].expected = copy(lent[0].places, lent[0].length);
+    for (int i = 1; i < count; i++) lent[i].expected = slice(lent[i].width * lent[i].length);
+    if (is_index)
+        answer = pf_index(rows, cols, depth, lent[0].places, lent[0].length, lent[1].places, lent[1].length, lent[2].places, lent[2].length,
+                          lent[3].places, lent[3].length, lent[4].places, lent[4].length, lent[5].places, lent[5].length, lent[6].places,
+                          lent[6].length);
+    else
+        answer = pf_label(rows, cols, depth, lent[0].places, lent[0].length, lent[1].places, lent[1].length, lent[2].places, lent[2].length,
+                          lent[3].places, lent[3].length);
+    good = answer == expected;
+    if (!good)
+        printf("case %" PRIu64 ", %s: %" PRIu64 " x %" PRIu64 ", depth %" PRIu64 ": answer %" PRIu64 ", expected %" PRIu64 "\n", which,
+               is_index ? "pf_index" : "pf_label", rows, cols, depth, answer, expected);
+    for (int i = 0; i < count; i++) good &= as_expected(which, &lent[i]);
+    return good;
+}
+
+static int lookup_case(uint64_t which) {
+    uint64_t leading = number();
+    struct lent labels = {.name = "looked-up labels", .width = 8, .length = number()};
+    labels.places = slice(8 * labels.length);
+    labels.expected = copy(labels.places, 8 * labels.length);
+    size_t start = number(), length = number();
+    uint64_t expected = number(), expected_start = number(), expected_length = number();
+    uint32_t answer = pf_lookup(leading, labels.places, labels.length, &start, &length);
+    int good = answer == expected && start == expected_start && length == expected_length;
+    if (!good)
+        printf("case %" PRIu64 ", pf_lookup: %" PRIu64 " in %" PRIu64 " labels: answer %" PRIu32 ", start %zu, length %zu, expected %" PRIu64
+               ", %" PRIu64 ", %" PRIu64 "\n", which, leading, labels.length, answer, start, length, expected, expected_start, expected_length);
+    return good & as_expected(which, &labels);
 }
 
 static int flow_case(uint64_t which) {
     uint64_t depth = number(), p = number(), q = number(), expected = number();
     uint32_t answer = pf_flow(depth, p, q);
     if (answer == expected) return 1;
-    printf("case %" PRIu64 ": depth %" PRIu64 ", from %" PRIu64 " past %" PRIu64 ": answer %" PRIu32 ", expected %" PRIu64 "\n", which, depth, q, p, answer, expected);
+    printf("case %" PRIu64 ", pf_flow: depth %" PRIu64 ", from %" PRIu64 " past %" PRIu64 ": answer %" PRIu32 ", expected %" PRIu64 "\n",
+           which, depth, q, p, answer, expected);
     return 0;
 }
 
 int main(void) {
     int kind;
     for (uint64_t which = 0; (kind = getchar()) != EOF; which++) {
-        int good = kind == 'L' ? label_case(which) : kind == 'F' ? flow_case(which) : 0;
-        good ? passed++ : failed++;
-        if (kind != 'L' && kind != 'F') break;
+        int good = kind == 'L' ? sheet_case(which, 0) : kind == 'I' ? sheet_case(which, 1) : kind == 'P' ? lookup_case(which)
+                   : kind == 'F' ? flow_case(which) : -1;
+        good == 1 ? passed++ : failed++;
+        if (good == -1) break;
     }
     printf("%" PRIu64 " passed, %" PRIu64 " failed\n", passed, failed + (passed == 0));
     return failed != 0 || passed == 0;

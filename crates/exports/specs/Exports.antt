@@ -1,8 +1,21 @@
--- The number that a host gets for the outcome of labelling.
-use Prim.Native.Nat.{ℕ, _+_, _*_}
+-- The numbers that a host gets for the outcome of labelling and for the answer of the index call.
+use Prim.Native.Nat.{ℕ, _+_, _*_, _<_, _≤_}
 use Rattle.sheet.specs.declared.Outcome.{Outcome}
 use Rattle.sheet.specs.Refusal.{outcomeValues}
+use Rattle.index.specs.declared.Indexed.{Indexed}
+use Rattle.index.specs.declared.Indexed.the-variants.{Units, Refused}
 
 -- the refusal's number + 256 × its place; 0 if accepted
 abbrev pub outcomeCode : Outcome → ℕ
 outcomeCode o = outcomeValues o .number + 256 * outcomeValues o .place
+
+-- 256 × the number of units; else the refusal's number + 256 × its place
+abbrev pub indexedCode : Indexed → ℕ
+indexedCode (Units units) = 256 * units
+indexedCode (Refused number place) = number + 256 * place
+
+-- an answer that its code tells: at most 65,536 units, or a refusal with a number from 1 to 255 and a place below
+-- 65,536
+abbrev pub CodeTells : Indexed → Type 0
+CodeTells (Units units) = units ≤ 65536
+CodeTells (Refused number place) = (1 ≤ number) × (number < 256) × (place < 65536)

@@ -1,12 +1,16 @@
 // The calls for hosts in C and in languages that call C; include/pfafstetter.h declares them. Each only calls proved
 // functions.
+use index::Indexed;
+use lookup::LookupAnswer;
 use sheet::Outcome;
 ghost use mathlib.Core.Path.{_≡_};
 ghost use Prim.Native.Nat.{_<_};
 ghost use Rattle.sheet.specs.Refusal.{outcomeValues, outcome, lentAfter};
 ghost use Rattle.sheet.specs.Flow.{flow, answerNumber};
 ghost use Rattle.labelling.specs.Labelling.{sheet, lent};
-ghost use Rattle.exports.specs.Exports.{outcomeCode};
+ghost use Rattle.lookup.specs.Lookup.{lookupAnswer, lookupValues};
+ghost use Rattle.index.specs.Index.{lentIndex, indexed, indexAfter};
+ghost use Rattle.exports.specs.Exports.{outcomeCode, indexedCode, CodeTells};
 
 // The refusal's number + 256 × its place; 0 if accepted.
 fn outcome_code(outcome: Outcome) -> u64
@@ -37,6 +41,82 @@ pub extern "C" fn pf_label(
         (lent (now (areas .entry)) (now (labels .entry)) (now (work .entry))) ⌝ }
 {
     outcome_code(labelling::label(rows, cols, depth, dirs, areas, labels, work))
+}
+
+// 256 × the number of units; else the refusal's number + 256 × its place.
+fn indexed_code(answer: Indexed) -> u64
+    requires { ⌜ CodeTells answer ⌝ }
+    ensures { λ r. ⌜ r ≡ indexedCode answer ⌝ }
+{
+    match answer {
+        Indexed::Units(units) => 256 * (units as u64),
+        Indexed::Refused(number, place) => number as u64 + 256 * (place as u64),
+    }
+}
+
+// Labels a sheet, and fills the index of its units.
+#[no_mangle]
+pub extern "C" fn pf_index(
+    rows: usize,
+    cols: usize,
+    depth: usize,
+    dirs: &[u8],
+    areas: &mut [u32],
+    labels: &mut [u64],
+    work: &mut [u32],
+    units: &mut [u64],
+    outlets: &mut [u32],
+    counts: &mut [u32],
+) -> u64
+    ensures answer { λ r. ⌜ r ≡ indexedCode (indexed (sheet rows cols depth (now (dirs .entry)))
+        (lent (now (areas .entry)) (now (labels .entry)) (now (work .entry)))
+        (lentIndex (now (units .entry)) (now (outlets .entry)) (now (counts .entry)))) ⌝ }
+    ensures lent { λ _. ⌜ lent (now (areas .exit)) (now (labels .exit)) (now (work .exit))
+        ≡ lentAfter (sheet rows cols depth (now (dirs .entry)))
+        (lent (now (areas .entry)) (now (labels .entry)) (now (work .entry))) ⌝ }
+    ensures index { λ _. ⌜ lentIndex (now (units .exit)) (now (outlets .exit)) (now (counts .exit))
+        ≡ indexAfter (sheet rows cols depth (now (dirs .entry)))
+        (lent (now (areas .entry)) (now (labels .entry)) (now (work .entry)))
+        (lentIndex (now (units .entry)) (now (outlets .entry)) (now (counts .entry))) ⌝ }
+{
+    indexed_code(index::index(
+        rows,
+        cols,
+        depth,
+        dirs,
+        areas,
+        labels,
+        work,
+        units,
+        outlets,
+        counts,
+    ))
+}
+
+// Where the labels that begin with the leading digits start, and how many there are. The refusal's number, or 0.
+#[no_mangle]
+pub extern "C" fn pf_lookup(
+    leading: u64,
+    labels: &[u64],
+    start: &mut usize,
+    length: &mut usize,
+) -> u32
+    ensures number { λ r. ⌜ r ≡ lookupValues (lookupAnswer leading (now (labels .entry))) .number ⌝ }
+    ensures start { λ _. ⌜ now (start .exit) ≡ lookupValues (lookupAnswer leading (now (labels .entry))) .start ⌝ }
+    ensures length { λ _. ⌜ now (length .exit) ≡ lookupValues (lookupAnswer leading (now (labels .entry))) .length ⌝ }
+{
+    match lookup::find(leading, labels) {
+        LookupAnswer::Part(first, count) => {
+            *start = first;
+            *length = count;
+            0
+        }
+        LookupAnswer::Refused(number) => {
+            *start = 0;
+            *length = 0;
+            number as u32
+        }
+    }
 }
 
 // Does water from the label q pass the label p?

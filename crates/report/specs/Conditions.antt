@@ -33,7 +33,7 @@ endNumbers = 14 ∷ []
 abbrev pub sheetNumbers : List ℕ
 sheetNumbers = 3 ∷ 4 ∷ 5 ∷ 6 ∷ 7 ∷ []
 
--- those that a file can get: all but 11, 12, 13 and 15
+-- those that a file can get: all but 11, 12, 13, 15 and 16
 abbrev pub fileNumbers : List ℕ
 fileNumbers = 1 ∷ 2 ∷ 3 ∷ 4 ∷ 5 ∷ 6 ∷ 7 ∷ 8 ∷ 9 ∷ 10 ∷ 14 ∷ []
 

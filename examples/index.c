@@ -1,0 +1,31 @@
+/* Prints the index of sample A, and the labels in it that begin with 9. */
+#include <stdio.h>
+#include "pfafstetter.h"
+
+int main(void) {
+  enum { ROWS = 3, COLS = 4, N = ROWS * COLS };
+  uint8_t dirs[N] = {0, 4, 16, 8, 16, 16, 16, 16, 64, 64, 32, 64};
+  uint32_t areas[N], work[8 * N], outlets[N], counts[N];
+  uint64_t labels[N], units[N];
+  uint64_t answer = pf_index(ROWS, COLS, 3, dirs, N, areas, N, labels, N, work, 8 * N,
+                             units, N, outlets, N, counts, N);
+  if (answer % 256 != 0) {
+    printf("refused by %u, place %u\n", (unsigned)(answer % 256), (unsigned)(answer / 256));
+    return 1;
+  }
+  size_t count = answer / 256, start, length;
+  printf("label,outlet row,outlet col,cells\n");
+  for (size_t k = 0; k < count; k++)
+    printf("%llu,%u,%u,%u\n", (unsigned long long)units[k], (unsigned)outlets[k] / COLS,
+           (unsigned)outlets[k] % COLS, (unsigned)counts[k]);
+  uint32_t refused = pf_lookup(9, units, count, &start, &length);
+  if (refused != 0) {
+    printf("refused by %u\n", (unsigned)refused);
+    return 1;
+  }
+  printf("%u labels begin with 9:", (unsigned)length);
+  for (size_t k = start; k < start + length; k++)
+    printf(" %llu", (unsigned long long)units[k]);
+  printf("\n");
+  return 0;
+}

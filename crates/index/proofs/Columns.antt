@@ -2,17 +2,17 @@
 use mathlib.Core.Path.{_≡_, refl, _∙_, ap}
 use mathlib.Core.List.{List, [], _∷_, map}
 use Prim.Native.Nat.{ℕ, _<_}
-use lib.ListN.{length, getD, drop, List·getD-append}
+use lib.ListN.{length, length-map, getD, drop, List·getD-append}
 use Rattle.sheet.specs.Sheet.{Sheet}
 use Rattle.sheet.specs.Label.{number}
 use Rattle.sheet.specs.Refusal.{written}
 use Rattle.index.specs.Units.{UnitEntry, entryOfUnit, distinctLabels, units, outletCell, unitCells}
-use Rattle.index.proofs.ListPlaces.{map-at, map-long}
+use Rattle.index.proofs.ListPlaces.{map-at}
 
 module _ (S : Sheet) where
   pub units-long : length (units S) ≡ length (distinctLabels S)
   unfolding units
-  units-long = map-long (entryOfUnit S) (distinctLabels S)
+  units-long = length-map (distinctLabels S) (entryOfUnit S)
 
   label-columns : (xs : List (List ℕ)) → map (λ (e : UnitEntry). e .label) (map (entryOfUnit S) xs) ≡ map number xs
   unfolding entryOfUnit
@@ -47,4 +47,4 @@ module _ (S : Sheet) where
 pub column-at : (f : List ℕ → ℕ) (xs : List (List ℕ)) (new old : List ℕ) (k : ℕ) → new ≡ map f xs → k < length xs
     → getD (written new old) k 0 ≡ f (getD xs k [])
 column-at f xs new old k e l =
-    List·getD-append new (drop (length new) old) 0 k (rw (e, map-long f xs) l) ∙ rw e (map-at [] f xs k l)
+    List·getD-append new (drop (length new) old) 0 k (rw (e, length-map xs f) l) ∙ rw e (map-at [] f xs k l)

@@ -1,5 +1,5 @@
 -- The members of a list by their places.
-use mathlib.Core.Path.{_≡_, refl, sym, ap}
+use mathlib.Core.Path.{_≡_, refl, sym}
 use mathlib.Core.List.{List, [], _∷_, map, List·Memᴰ, List·Memᴰ·head, List·Memᴰ·tail, List·Memᴰ·not-nil}
 use mathlib.Core.List.{List·Memᴰ·cases-cons}
 use mathlib.Core.Logic.{_⊎_, inl, inr}
@@ -26,7 +26,3 @@ module _ {A : Type 0} (none : A) where
   map-at f [] k l = absurd (omega arith)
   map-at f (c ∷ cs) zero l = refl
   map-at f (c ∷ cs) (suc k) l = map-at f cs k (omega arith)
-
-pub map-long : {A B : Type 0} (f : A → B) (xs : List A) → length (map f xs) ≡ length xs
-map-long f [] = refl
-map-long f (x ∷ xs) = ap suc (map-long f xs)

@@ -6,7 +6,7 @@ use mathlib.Core.List.{List, [], _∷_, map, List·Memᴰ, List·Memᴰ·head, L
 use Prim.Native.Nat.{ℕ, _≤_, _<_}
 use native.Mathlib.Omega.{arith}
 use lib.Dec.{eqb, ltb}
-use lib.ListN.{length, getD, take}
+use lib.ListN.{length, length-map, getD, take}
 use lib.Seq.{take-append-seam}
 use borrow.Author.Tests.{eqb-true, eqb-false, ltb-true, ltb-false}
 use Rattle.sheet.specs.declared.Outcome.{Outcome}
@@ -46,7 +46,7 @@ use Rattle.index.specs.Index.{indexAfter}
 use Rattle.index.specs.FromIntake.{indexedWith, indexWith, intakeIndexed, intakeIndexAfter}
 use Rattle.index.specs.Meaning.{IndexMeaningFrom, IndexMeaningWhole, HasLabel, IndexMeaning, IndexedDirectly}
 use Rattle.index.specs.Meaning.{indexLabel, indexOutlet, indexCount}
-use Rattle.index.proofs.ListPlaces.{at-place, place-of, map-at, map-long}
+use Rattle.index.proofs.ListPlaces.{at-place, place-of, map-at}
 use Rattle.index.proofs.LabelsRise.{rise-at}
 use Rattle.index.proofs.Distinct.{CellOf, among-rise, among-has, among-from}
 use Rattle.index.proofs.Outlets.{of-unit, unit-of, begins-same, outlet-is}
@@ -203,13 +203,13 @@ module _ (S : Sheet) (L : Lent) (accepted : outcome S L ≡ Accepted) (I : LentI
 
   all-counts : take (length (units S)) (index .counts) ≡ map (unitCells S) (distinctLabels S)
   all-counts =
-      ap (λ (n : ℕ). take n (index .counts)) (sym (map-long (λ (e : UnitEntry). e .count) (units S)))
+      ap (λ (n : ℕ). take n (index .counts)) (sym (length-map (units S) (λ (e : UnitEntry). e .count)))
       ∙ take-append-seam (map (λ (e : UnitEntry). e .count) (units S)) _ ∙ count-column S
 
   -- the labels of the index, as a list
   all-labels : take (length (units S)) (index .labels) ≡ map number (distinctLabels S)
   all-labels =
-      ap (λ (n : ℕ). take n (index .labels)) (sym (map-long (λ (e : UnitEntry). e .label) (units S)))
+      ap (λ (n : ℕ). take n (index .labels)) (sym (length-map (units S) (λ (e : UnitEntry). e .label)))
       ∙ take-append-seam (map (λ (e : UnitEntry). e .label) (units S)) _ ∙ label-column S
 
   are-labels : every (isLabel greatestDepth) (map number (distinctLabels S)) ≡ true
@@ -224,7 +224,7 @@ module _ (S : Sheet) (L : Lent) (accepted : outcome S L ≡ Accepted) (I : LentI
   unfolding distinctLabels
   rise-numbers = record {
     earlier = λ i j l h.
-        let k : j < length (distinctLabels S) = rw (map-long number (distinctLabels S)) at h in
+        let k : j < length (distinctLabels S) = rw (length-map (distinctLabels S) number) at h in
         let a = map-at [] number (distinctLabels S) i (omega arith) in
         let b = map-at [] number (distinctLabels S) j k in
         rw (a, b, digits-of i (omega arith), digits-of j k) (rise-at (among-rise S (cells (S .grid))) i j l k);

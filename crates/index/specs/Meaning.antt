@@ -88,7 +88,7 @@ pub record IndexMeaningFrom (i : Intake) (dirs labels : List ℕ) (units : ℕ) 
   pub ended : endedSizes (i .stage) ≡ some sizes
   pub meaning : IndexMeaning (sheet (sizes .rows) (sizes .cols) (sizes .depth) dirs) labels units I
 
--- what the index says, for all accepted sheets, however it was index-filled
+-- what the index says, for all accepted sheets, however it was filled
 pub record IndexMeaningWhole : Type 1 where
   pub directly : (S : Sheet) (L : Lent) (I : LentIndex) (L′ : Lent) (I′ : LentIndex) (units : ℕ)
       → IndexedDirectly S L I L′ I′ units → IndexMeaning S (L′ .labels) units I′

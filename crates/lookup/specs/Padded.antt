@@ -10,6 +10,7 @@ use Rattle.lookup.specs.Lookup.{greatestDepth, counted}
 unfoldable pub withZeros : ℕ → ℕ → ℕ
 withZeros m count = m * 10 ^ (greatestDepth - count)
 
+-- a label with zeros behind it, up to 18 digits
 unfoldable pub padded : ℕ → ℕ
 unfolding withZeros digitsOf
 padded label = withZeros label (length (digitsOf label))

@@ -1,4 +1,5 @@
 pub mod Answers
+pub mod TakeWhile
 pub mod ValueLaws
 pub mod TextLaws
 pub mod ReadBack

@@ -11,9 +11,10 @@ use lib.Dec.{eqb}
 use Rattle.decimal.specs.Ascii.{digitZero, comma}
 use Rattle.decimal.specs.declared.Value.{Value}
 use Rattle.decimal.specs.declared.Value.the-variants.{Found}
-use Rattle.decimal.specs.Value.{isDigit, digitRun, valueFrom, mostDigits, isValue, foundAt, valueAt}
+use Rattle.decimal.specs.Value.{isDigit, takeWhile, digitRun, valueFrom, mostDigits, isValue, foundAt, valueAt}
 use Rattle.decimal.specs.Text.{decimalText}
-use Rattle.decimal.proofs.ValueLaws.{is-digit, run-digit, run-stop}
+use Rattle.decimal.proofs.TakeWhile.{while-next, while-stop}
+use Rattle.decimal.proofs.ValueLaws.{is-digit}
 use Rattle.decimal.proofs.TextLaws.{text-induction, text-small, text-few}
 
 number-append : (v : ℕ) (s : List ℕ) (b : ℕ) → valueFrom v (s ++ (b ∷ [])) ≡ valueFrom v s * 10 + (b - digitZero)
@@ -39,7 +40,7 @@ text-run n =
     text-induction (λ (n : ℕ) (s : List ℕ). (rest : List ℕ) → digitRun (s ++ rest) ≡ s ++ digitRun rest) small large n
   where
     small : (n : ℕ) → n < 10 → (rest : List ℕ) → digitRun ((digitZero + n) ∷ rest) ≡ (digitZero + n) ∷ digitRun rest
-    small n h rest = run-digit (digitZero + n) rest (is-digit (digitZero + n) (omega arith) (omega arith))
+    small n h rest = while-next isDigit (digitZero + n) rest (is-digit (digitZero + n) (omega arith) (omega arith))
 
     large : (n : ℕ) → 10 ≤ n
         → ((rest : List ℕ) → digitRun (decimalText (n / 10) ++ rest) ≡ decimalText (n / 10) ++ digitRun rest) →
@@ -49,7 +50,7 @@ text-run n =
     large n h ih rest =
         simp append-assoc
         (ih ((digitZero + n % 10) ∷ rest) ∙ ap (λ (s : List ℕ). decimalText (n / 10) ++ s)
-        (run-digit (digitZero + n % 10) rest (is-digit (digitZero + n % 10) (omega arith) (omega arith))))
+        (while-next isDigit (digitZero + n % 10) rest (is-digit (digitZero + n % 10) (omega arith) (omega arith))))
 
 -- the text of a number above 0 does not start with 0
 data Starts : List ℕ → Type 0 where
@@ -96,7 +97,7 @@ module _ (k n : ℕ) (few : k ≤ mostDigits) (small : n < 10 ^ k) (front : List
 
   pub read-back-end : valueAt k (front ++ decimalText n) (length front) ≡ Found n
       (length front + length (decimalText n))
-  unfolding digitRun
+  unfolding takeWhile
   read-back-end =
       ap (λ (s : List ℕ). valueAt k (front ++ s) (length front)) (sym (append-nil (decimalText n))) ∙ read-back [] refl
 
@@ -104,4 +105,4 @@ module _ (k n : ℕ) (few : k ≤ mostDigits) (small : n < 10 ^ k) (front : List
       → valueAt k (front ++ (decimalText n ++ (comma ∷ rest))) (length front) ≡ Found n
       (length front + length (decimalText n))
   unfolding isDigit
-  read-back-comma rest = read-back (comma ∷ rest) (run-stop comma rest refl)
+  read-back-comma rest = read-back (comma ∷ rest) (while-stop isDigit comma rest refl)

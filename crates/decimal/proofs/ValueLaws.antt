@@ -3,17 +3,18 @@ use Prim.Native.Nat.{ℕ, zero, suc, _+_, _-_, _*_, _^_, _<_, _≤_}
 use mathlib.Core.Path.{_≡_, refl, sym, ap, _∙_}
 use mathlib.Core.List.{List, [], _∷_}
 use mathlib.Core.Bool.{Bool, true, false, cond, and-eq-true-iff}
-use native.Mathlib.Numerals.{add-one}
 use native.Mathlib.Nat.{pow-suc, one-le-pow, pow-le-pow-right, lt-of-lt-of-le}
 use native.Mathlib.Omega.{arith}
 use borrow.Author.Tests.{leb-true, le-leb, lt-leb, eq-eqb, ne-eqb}
-use lib.ListN.{length, drop, getD, drop-of-length-le}
-use lib.Seq.{drop-cons, getD-drop}
+use lib.ListN.{length, drop, getD}
+use lib.Seq.{getD-drop}
 use lib.Dec.{leb, eqb}
 use Rattle.decimal.specs.Ascii.{digitZero, digitNine}
 use Rattle.decimal.specs.declared.Value.{Value}
 use Rattle.decimal.specs.declared.Value.the-variants.{Found, Bad}
-use Rattle.decimal.specs.Value.{isDigit, digitRun, valueFrom, mostDigits, isValue, foundAt, numberAt, valueAt}
+use Rattle.decimal.specs.Value.{isDigit, digitRun, valueFrom, mostDigits, isValue, foundAt, numberAt}
+use Rattle.decimal.specs.Value.{unpaddedAt, valueAt}
+use Rattle.decimal.proofs.TakeWhile.{while-passes}
 
 pub digit-low : (b : ℕ) → isDigit b ≡ true → digitZero ≤ b
 unfolding isDigit
@@ -26,28 +27,6 @@ digit-high b e = leb-true b digitNine (and-eq-true-iff (leb digitZero b) (leb b 
 pub is-digit : (b : ℕ) → digitZero ≤ b → b ≤ digitNine → isDigit b ≡ true
 unfolding isDigit
 is-digit b l h = rw (le-leb digitZero b l, le-leb b digitNine h)
-
--- A list's digits, by its first byte.
-pub run-stop : (b : ℕ) (s : List ℕ) → isDigit b ≡ false → digitRun (b ∷ s) ≡ []
-unfolding digitRun
-run-stop b s e = rw e
-
-pub run-digit : (b : ℕ) (s : List ℕ) → isDigit b ≡ true → digitRun (b ∷ s) ≡ b ∷ digitRun s
-unfolding digitRun
-run-digit b s e = rw e
-
--- The digits at a position, by the byte there.
-module _ (s : List ℕ) (i : ℕ) where
-  pub run-at-end : length s ≤ i → digitRun (drop i s) ≡ []
-  unfolding digitRun
-  run-at-end h = rw drop-of-length-le
-
-  pub run-at-other : i < length s → isDigit (getD s i 0) ≡ false → digitRun (drop i s) ≡ []
-  run-at-other h e = rw (drop-cons s i 0) (run-stop (getD s i 0) (drop (suc i) s) e)
-
-  pub run-at-digit : i < length s → isDigit (getD s i 0) ≡ true
-      → digitRun (drop i s) ≡ getD s i 0 ∷ digitRun (drop (i + 1) s)
-  run-at-digit h e = rw (add-one, drop-cons s i 0) (run-digit (getD s i 0) (drop (suc i) s) e)
 
 -- A reader of the digits `all` at position `at`, of which at most `most` are allowed, has come to position i: it has
 -- gathered v, `left` more digits are allowed, and the digits `rest` are still to come.
@@ -98,48 +77,38 @@ module _ {all rest : List ℕ} {at most i left v : ℕ} (g : Gathered all rest a
     gathered-fits =
         lt-of-lt-of-le gathered-small (pow-le-pow-right {n = 10} (omega arith) {j = mostDigits} (omega arith))
 
--- The value at a position, by the byte there.
+-- The value whose digits begin at a position, by the byte there.
+module _ (most : ℕ) (s : List ℕ) (at : ℕ) where
+  pub unpadded-none : digitRun (drop at s) ≡ [] → unpaddedAt most s at ≡ Bad
+  unfolding unpaddedAt
+  unpadded-none e = rw e
+
+  pub unpadded-zero : {b : ℕ} {more : List ℕ} → digitRun (drop at s) ≡ b ∷ more → b ≡ digitZero
+      → unpaddedAt most s at ≡ numberAt 1 s at
+  unfolding unpaddedAt
+  unpadded-zero {b} {more} e z =
+      rw (e, eq-eqb b digitZero z) (ap (λ (t : Bool). foundAt t (b ∷ more) at) (alone (length more)))
+    where
+      alone : (n : ℕ) → eqb n 0 ≡ leb (suc n) 1
+      alone zero = refl
+      alone (suc n) = ne-eqb (suc n) 0 (omega arith) ∙ sym (lt-leb (suc (suc n)) 1 (omega arith))
+
+  pub unpadded-more : {b : ℕ} {more : List ℕ} → digitRun (drop at s) ≡ b ∷ more → (b ≡ digitZero → ⊥)
+      → unpaddedAt most s at ≡ numberAt most s at
+  unfolding unpaddedAt
+  unpadded-more {b} {more} e z = rw (e, ne-eqb b digitZero z)
+
+-- The value at a position.
 module _ (most : ℕ) (s : List ℕ) (at : ℕ) where
   pub value-over : mostDigits < most → valueAt most s at ≡ Bad
   unfolding valueAt
   value-over h = rw (lt-leb most mostDigits h)
 
-  module _ (few : most ≤ mostDigits) where
-    pub value-none : digitRun (drop at s) ≡ [] → valueAt most s at ≡ Bad
-    unfolding valueAt
-    value-none e = rw (le-leb most mostDigits few, e)
-
-    pub value-zero : {b : ℕ} {more : List ℕ} → digitRun (drop at s) ≡ b ∷ more → b ≡ digitZero
-        → valueAt most s at ≡ numberAt 1 s at
-    unfolding valueAt
-    value-zero {b} {more} e z =
-        rw (
-          le-leb most mostDigits few,
-          e,
-          eq-eqb b digitZero z,
-        ) (ap (λ (t : Bool). foundAt t (b ∷ more) at) (alone (length more)))
-      where
-        alone : (n : ℕ) → eqb n 0 ≡ leb (suc n) 1
-        alone zero = refl
-        alone (suc n) = ne-eqb (suc n) 0 (omega arith) ∙ sym (lt-leb (suc (suc n)) 1 (omega arith))
-
-    pub value-more : {b : ℕ} {more : List ℕ} → digitRun (drop at s) ≡ b ∷ more → (b ≡ digitZero → ⊥)
-        → valueAt most s at ≡ numberAt most s at
-    unfolding valueAt
-    value-more {b} {more} e z = rw (le-leb most mostDigits few, e, ne-eqb b digitZero z)
+  pub value-unpadded : most ≤ mostDigits → valueAt most s at ≡ unpaddedAt most s at
+  unfolding valueAt
+  value-unpadded few = rw (le-leb most mostDigits few)
 
 -- Every byte from the position to where a value stops is a digit.
-run-digits : (s : List ℕ) (i : ℕ) → i < length (digitRun s) → isDigit (getD s i 0) ≡ true
-unfolding digitRun
-run-digits [] i h = absurd (omega arith)
-run-digits (b ∷ s) i h = go (isDigit b) refl (run-digits s) i h
-  where
-    go : (t : Bool) → isDigit b ≡ t → ((i : ℕ) → i < length (digitRun s) → isDigit (getD s i 0) ≡ true) → (i : ℕ)
-        → i < length (digitRun (b ∷ s)) → isDigit (getD (b ∷ s) i 0) ≡ true
-    go false e ih i h = absurd (omega (arith, ap length (run-stop b s e)))
-    go true e ih zero h = e
-    go true e ih (suc i) h = ih i (omega (arith, ap length (run-digit b s e)))
-
 value-stops : (most : ℕ) (s : List ℕ) (at : ℕ) {v end : ℕ} → valueAt most s at ≡ Found v end
     → end ≡ at + length (digitRun (drop at s))
 unfolding valueAt
@@ -155,4 +124,4 @@ pub value-digits : (most : ℕ) (s : List ℕ) (at : ℕ) {v end : ℕ} → valu
     → i < end → isDigit (getD s i 0) ≡ true
 value-digits most s at e i l h =
     let p : at + (i - at) ≡ i = omega arith in
-    rw (getD-drop, p) at (run-digits (drop at s) (i - at) (omega (arith, value-stops most s at e)))
+    rw (getD-drop, p) at (while-passes isDigit (drop at s) (i - at) (omega (arith, value-stops most s at e)))

@@ -11,11 +11,14 @@ use Rattle.decimal.specs.declared.Value.the-variants.{Found, Bad}
 unfoldable pub isDigit : ℕ → Bool
 isDigit b = leb digitZero b && leb b digitNine
 
+-- the bytes with which a list begins, up to the first that does not pass a test
+unfoldable pub takeWhile : (ℕ → Bool) → List ℕ → List ℕ
+takeWhile test [] = []
+takeWhile test (b ∷ s) = cond (test b) (b ∷ takeWhile test s) []
+
 -- the digits with which a list begins
-unfoldable pub digitRun : List ℕ → List ℕ
-unfolding isDigit
-digitRun [] = []
-digitRun (b ∷ s) = cond (isDigit b) (b ∷ digitRun s) []
+abbrev pub digitRun : List ℕ → List ℕ
+digitRun s = takeWhile isDigit s
 
 -- the number that is written by the digits of v and then by these
 unfoldable pub valueFrom : ℕ → List ℕ → ℕ
@@ -40,14 +43,15 @@ foundAt good digits at = cond good (Found (valueFrom 0 digits) (at + length digi
 abbrev pub numberAt : ℕ → List ℕ → ℕ → Value
 numberAt most s at = let digits : List ℕ = digitRun (drop at s) in foundAt (leb (length digits) most) digits at
 
--- The value at a position of a line: all the digits that stand there have to make a value. Where a reader is to allow
--- more digits than fit 32 bits, there is no value.
+-- the value whose digits begin at a position: all the digits that stand there have to make it
+unfoldable pub unpaddedAt : ℕ → List ℕ → ℕ → Value
+unfolding isValue isDigit takeWhile foundAt
+unpaddedAt most s at = let digits : List ℕ = digitRun (drop at s) in foundAt (isValue most digits) digits at
+
+-- The value at a position of a line. Where a reader is to allow more digits than fit 32 bits, there is none.
 unfoldable pub valueAt : ℕ → List ℕ → ℕ → Value
-unfolding isValue digitRun foundAt
-valueAt most s at =
-    -- The digits begin at the position itself. What may stand in front of a value is to be passed over here.
-    let digits : List ℕ = digitRun (drop at s) in
-    cond (leb most mostDigits) (foundAt (isValue most digits) digits at) Bad
+unfolding unpaddedAt
+valueAt most s at = cond (leb most mostDigits) (unpaddedAt most s at) Bad
 
 -- document 01's number of an answer, and its values: 8 where the file's rules ask for a value and there is none
 pub record FoundValues : Type 0 where

@@ -2,7 +2,7 @@
 ghost use mathlib.Core.Path.{_≡_};
 ghost use Prim.Native.Nat.{_≤_};
 ghost use lib.ListN.{length};
-ghost use Rattle.decimal.specs.Value.{isDigit, mostDigits, numberAt, valueAt, foundValues};
+ghost use Rattle.decimal.specs.Value.{isDigit, mostDigits, numberAt, unpaddedAt, valueAt, foundValues};
 ghost use Rattle.decimal.specs.Text.{decimalText, writtenValues, writeText};
 
 // What reading a value gives: the value and the position after it, or that no value stands there.
@@ -60,15 +60,11 @@ fn read_digits(line: &[u8], at: usize, most: u8) -> Value
     Value::Found(value, end)
 }
 
-// The value at a position: 0 alone, or 1 to `most` digits not starting with 0. Where `most` is over MOST_DIGITS there
-// is none.
-pub fn read_value(line: &[u8], at: usize, most: u8) -> Value
-    ensures value { λ r. ⌜ r ≡ valueAt most (now (line .entry)) at ⌝ }
-    ensures values { λ r. ⌜ foundValues r ≡ foundValues (valueAt most (now (line .entry)) at) ⌝ }
+// The value whose digits begin at a position: 0 alone, or 1 to `most` digits not starting with 0.
+fn unpadded_value(line: &[u8], at: usize, most: u8) -> Value
+    requires { ⌜ most ≤ mostDigits ⌝ }
+    ensures { λ r. ⌜ r ≡ unpaddedAt most (now (line .entry)) at ⌝ }
 {
-    if MOST_DIGITS < most {
-        return Value::Bad;
-    }
     if line.len() <= at {
         return Value::Bad;
     }
@@ -81,6 +77,17 @@ pub fn read_value(line: &[u8], at: usize, most: u8) -> Value
     } else {
         Value::Bad
     }
+}
+
+// The value at a position. Where `most` is over MOST_DIGITS there is none.
+pub fn read_value(line: &[u8], at: usize, most: u8) -> Value
+    ensures value { λ r. ⌜ r ≡ valueAt most (now (line .entry)) at ⌝ }
+    ensures values { λ r. ⌜ foundValues r ≡ foundValues (valueAt most (now (line .entry)) at) ⌝ }
+{
+    if MOST_DIGITS < most {
+        return Value::Bad;
+    }
+    unpadded_value(line, at, most)
 }
 
 // How many bytes n has in decimal.

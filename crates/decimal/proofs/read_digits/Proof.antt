@@ -10,9 +10,9 @@ use lib.ListN.{length, drop, getD}
 use lib.Dec.{lit<}
 use Rattle.decimal.specs.Ascii.{digitZero}
 use Rattle.decimal.specs.Value.{isDigit, digitRun, mostDigits}
+use Rattle.decimal.proofs.TakeWhile.{while-at-end, while-at-stop, while-at-next}
 use Rattle.decimal.proofs.ValueLaws.{Gathered, gathered-none, gathered-all, gathered-over, gathered-digit}
-use Rattle.decimal.proofs.ValueLaws.{gathered-fits, digit-low, digit-high, run-at-end, run-at-other}
-use Rattle.decimal.proofs.ValueLaws.{run-at-digit}
+use Rattle.decimal.proofs.ValueLaws.{gathered-fits, digit-low, digit-high}
 use Rattle.decimal.proofs.read_digits.Statement.{statement}
 use Rattle.decimal.proofs.read_digits.Tie as tie
 
@@ -47,7 +47,7 @@ to-come : (c : tie.Then1 Inv-loop μ-loop)
     (c .before .before .before .before .before .before .args .line .now))
     ≡ getD (c .before .before .before .before .before .before .args .line .now)
     (c .before .before .before .before .loop .end) 0 ∷ digitRun (drop (c .before .before .before .before .loop .end + 1) (c .before .before .before .before .before .before .args .line .now))
-to-come c = run-at-digit _ _ (c .before .before .before .loop-test .taken) (digit c)
+to-come c = while-at-next isDigit _ _ (c .before .before .before .loop-test .taken) (digit c)
 
 returns : tie.Need-returns Inv-loop μ-loop
 returns c =
@@ -97,10 +97,10 @@ returns-2 : tie.Need-returns-2 Inv-loop μ-loop
 returns-2 c =
     let t = c .before .before .before in
     gathered-all (t .before .loop .inv .0)
-    (run-at-other _ _ (t .loop-test .taken) (sym (c .before .is-digit .ensures) ∙ c .if1 .left))
+    (while-at-stop isDigit _ _ (t .loop-test .taken) (sym (c .before .is-digit .ensures) ∙ c .if1 .left))
 
 returns-3 : tie.Need-returns-3 Inv-loop μ-loop
-returns-3 c = gathered-all (c .before .loop .inv .0) (run-at-end _ _ (c .loop-test .left))
+returns-3 c = gathered-all (c .before .loop .inv .0) (while-at-end isDigit _ _ (c .loop-test .left))
 
 pub read-digits-spec : {M : Type 1} → statement M
 read-digits-spec =

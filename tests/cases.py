@@ -5,7 +5,7 @@
 #   13: the program hands over no line and no end after the end;
 #   15: the program labels only after the intake has accepted the end.
 # Nor can it get 1 to 4 from labelling, since the intake has refused such sizes and directions before.
-# No line of 80 bytes keeps the file's rules: three values with their commas have at most 17 bytes.
+# No line of 80 bytes keeps the file's rules: three values with their blanks and commas have at most 41 bytes.
 # So cell_80_bytes and cell_81_bytes both get 8.
 
 import pathlib

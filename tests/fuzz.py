@@ -110,6 +110,11 @@ SHAPES = [grown, grown, grown, comb, snake, northwest, by_chance, spoiled, spoil
 
 # Files.
 
+# Fields that are put in place of others, good and bad.
+ODD_FIELDS = [b'0', b'00', b'01', b'19', b'256', b'257', b'99999', b'100000', b'3', b'128', b'255', b'', b'-1', b'+1',
+              b'1 ', b' 1', b' ', b'        99999', b'         1', b'        100000', b' 00', b' 01', b'\t1']
+
+
 def line(values):
     return b','.join(value if isinstance(value, bytes) else b'%d' % value for value in values)
 
@@ -132,6 +137,27 @@ def sheet_lines(rng):
     return [line(size_names), line(sizes[name] for name in size_names), line(cell_names)] + [line(cell[name] for name in cell_names) for cell in cells]
 
 
+def padded(rng, lines):
+    """The lines of a sheet with up to eight blanks in front of some of its values, or of all."""
+    share, most = rng.choice([0.02, 0.3, 1]), rng.choice([1, 8, 8])
+
+    def value(text):
+        return b' ' * (rng.choice([rng.randint(0, most), most]) if rng.random() < share else 0) + text
+
+    return [text if at in (0, 2) else b','.join(map(value, text.split(b','))) for at, text in enumerate(lines)]
+
+
+def with_blanks(rng, text):
+    """A line of any kind with blanks before, after or within one of its fields, or in its place; or with a tab."""
+    fields = text.split(b',')
+    at = rng.randrange(len(fields))
+    field = fields[at].lstrip(b' ')
+    blanks = rng.choice([b' ' * rng.choice([1, 7, 8, 8, 9, 9, 9, 10, 80])] * 7 + [b'\t', b' \t', b'\t '])
+    cut = rng.randint(0, len(field))
+    fields[at] = rng.choice([blanks + field, blanks + field, field + blanks, field[:cut] + blanks + field[cut:], blanks])
+    return b','.join(fields)
+
+
 def damaged(rng, lines):
     """Lines with one thing wrong, or that may be wrong."""
     lines = list(lines)
@@ -151,7 +177,7 @@ def damaged(rng, lines):
         lines[at] = bytes(text)
     elif kind == 4:
         fields = lines[at].split(b',')
-        fields[rng.randrange(len(fields))] = rng.choice([b'0', b'00', b'01', b'19', b'256', b'257', b'99999', b'100000', b'3', b'128', b'255', b'', b'-1', b'+1', b'1 ', b' 1'])
+        fields[rng.randrange(len(fields))] = rng.choice(ODD_FIELDS)
         lines[at] = b','.join(fields)
     elif kind == 5:
         lines = lines[:at]
@@ -170,7 +196,12 @@ def a_file(rng):
     if rng.random() < 0.02:
         return bytes(rng.randrange(256) for _ in range(rng.randint(0, 300)))
     lines = sheet_lines(rng)
-    if rng.random() < 0.45:
+    if rng.random() < 0.4:
+        lines = padded(rng, lines)
+    if rng.random() < 0.15:
+        at = rng.choice([0, 1, 1, 2, rng.randrange(len(lines))])
+        lines[at] = with_blanks(rng, lines[at])
+    if rng.random() < 0.4:
         lines = damaged(rng, lines)
     data = b'\n'.join(lines)
     ends = rng.random()
@@ -213,6 +244,8 @@ def main():
         expected = reference.report(data)
         out, err = run(options.program, rng, data)
         kind = expected.split(b'\n')[1].split(b',')[0].decode() if expected.startswith(b'refused') else 'listing'
+        if kind == 'listing' and b' ' in data:
+            kind = 'listing of a file with blanks'
         kinds[kind] = kinds.get(kind, 0) + 1
         if out == expected and err == b'':
             passed += 1

@@ -12,6 +12,7 @@ MAX_DEPTH = 18
 MAX_TAKEN = 4  # mouths taken from a unit
 LENT = 2048  # direction bytes that the program lends
 WORK = 8  # work places for each cell
+MAX_BLANKS = 8  # blanks in front of a value
 
 SIZE_NAMES = [b'rows', b'cols', b'depth']
 CELL_NAMES = [b'row', b'col', b'dir']
@@ -207,7 +208,11 @@ class Intake(NamedTuple):
     names: tuple = ()  # the names last accepted, in their order
 
 def is_value(text):
-    return text == b'0' or (text.isdigit() and len(text) <= 5 and text[0] != ord('0'))
+    """Is a field a value, with no more than the allowed blanks in front of it?"""
+    digits = text.lstrip(b' ')
+    if len(text) > len(digits) + MAX_BLANKS:
+        return False
+    return digits == b'0' or (digits.isdigit() and len(digits) <= 5 and digits[0] != ord('0'))
 
 def take_sizes(state, values, dirs):
     rows, cols, depth = (values[name] for name in SIZE_NAMES)

@@ -31,9 +31,45 @@ pub blank-after : valueAt 5 (ascii "42 ") 0 ≡ Found 42 2
 unfolding valueAt
 blank-after = refl
 
-pub blank-in-front : valueAt 5 (ascii " 42") 0 ≡ Bad
+pub blank-in-front : valueAt 5 (ascii " 42") 0 ≡ Found 42 3
 unfolding valueAt
 blank-in-front = refl
+
+pub blanks-between-commas : valueAt 5 (ascii "3,   42,1") 2 ≡ Found 42 7
+unfolding valueAt
+blanks-between-commas = refl
+
+pub eight-blanks : valueAt 5 (ascii "        99999") 0 ≡ Found 99999 13
+unfolding valueAt
+eight-blanks = refl
+
+pub nine-blanks : valueAt 5 (ascii "         1") 0 ≡ Bad
+unfolding valueAt
+nine-blanks = refl
+
+pub eight-of-nine-blanks : valueAt 5 (ascii "         1") 1 ≡ Found 1 10
+unfolding valueAt
+eight-of-nine-blanks = refl
+
+pub blank-and-six-digits : valueAt 5 (ascii " 100000") 0 ≡ Bad
+unfolding valueAt
+blank-and-six-digits = refl
+
+pub blank-and-leading-zero : valueAt 5 (ascii " 07") 0 ≡ Bad
+unfolding valueAt
+blank-and-leading-zero = refl
+
+pub blank-between-digits : valueAt 5 (ascii " 4 2") 0 ≡ Found 4 2
+unfolding valueAt
+blank-between-digits = refl
+
+pub blanks-alone : valueAt 5 (ascii "   ") 0 ≡ Bad
+unfolding valueAt
+blanks-alone = refl
+
+pub tab-in-front : valueAt 5 (ascii "\t1") 0 ≡ Bad
+unfolding valueAt
+tab-in-front = refl
 
 pub no-digit : valueAt 5 (ascii ",1") 0 ≡ Bad
 unfolding valueAt

@@ -1,19 +1,17 @@
 -- The text of a number is read as that number.
 use Prim.Native.Nat.{ℕ, zero, suc, _+_, _-_, _*_, _/_, _%_, _^_, _<_, _≤_}
-use mathlib.Core.Path.{_≡_, refl, sym, ap, _∙_}
+use mathlib.Core.Path.{_≡_, refl, ap, _∙_}
 use mathlib.Core.List.{List, [], _∷_, _++_, append-assoc, append-nil}
 use mathlib.Core.Bool.{Bool, true, false}
 use native.Mathlib.Omega.{arith}
 use borrow.Author.Tests.{le-leb, ne-eqb, eqb-true, eqb-false}
 use lib.ListN.{length}
-use lib.Seq.{drop-append-seam}
 use lib.Dec.{eqb}
-use Rattle.decimal.specs.Ascii.{digitZero, comma}
-use Rattle.decimal.specs.declared.Value.{Value}
+use Rattle.decimal.specs.Ascii.{digitZero}
 use Rattle.decimal.specs.declared.Value.the-variants.{Found}
-use Rattle.decimal.specs.Value.{isDigit, takeWhile, digitRun, valueFrom, mostDigits, isValue, foundAt, valueAt}
+use Rattle.decimal.specs.Value.{isDigit, digitRun, valueFrom, isValue, foundAt, unpaddedAt}
 use Rattle.decimal.specs.Text.{decimalText}
-use Rattle.decimal.proofs.TakeWhile.{while-next, while-stop}
+use Rattle.decimal.proofs.TakeWhile.{while-next}
 use Rattle.decimal.proofs.ValueLaws.{is-digit}
 use Rattle.decimal.proofs.TextLaws.{text-induction, text-small, text-few}
 
@@ -86,23 +84,9 @@ text-value k n h = go (eqb n 0) refl
     go false e =
         starts-value k (text-starts n (omega (arith, eqb-false n 0 e))) (text-few k n (some k h (eqb-false n 0 e)) h)
 
--- After the text of a number of at most k digits no digit may follow: it is read as the number, up to where the text
--- ends.
-module _ (k n : ℕ) (few : k ≤ mostDigits) (small : n < 10 ^ k) (front : List ℕ) where
-  pub read-back : (rest : List ℕ) → digitRun rest ≡ []
-      → valueAt k (front ++ (decimalText n ++ rest)) (length front) ≡ Found n (length front + length (decimalText n))
-  unfolding valueAt foundAt
-  read-back rest e =
-      rw (drop-append-seam, text-run, e, append-nil, le-leb k mostDigits few, text-value k n small, text-number)
-
-  pub read-back-end : valueAt k (front ++ decimalText n) (length front) ≡ Found n
-      (length front + length (decimalText n))
-  unfolding takeWhile
-  read-back-end =
-      ap (λ (s : List ℕ). valueAt k (front ++ s) (length front)) (sym (append-nil (decimalText n))) ∙ read-back [] refl
-
-  pub read-back-comma : (rest : List ℕ)
-      → valueAt k (front ++ (decimalText n ++ (comma ∷ rest))) (length front) ≡ Found n
-      (length front + length (decimalText n))
-  unfolding isDigit
-  read-back-comma rest = read-back (comma ∷ rest) (while-stop isDigit comma rest refl)
+-- the text of a number of at most k digits, before no further digit, is that number
+pub text-back : (k n : ℕ) → n < 10 ^ k → (rest : List ℕ) → digitRun rest ≡ []
+    → unpaddedAt k (decimalText n ++ rest) 0 ≡ Found n (length (decimalText n))
+unfolding unpaddedAt foundAt
+text-back k n small rest e = rw (text-run, e, append-nil, text-value k n small, text-number)
+    (ap (Found n) (omega arith))

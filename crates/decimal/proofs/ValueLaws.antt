@@ -2,18 +2,17 @@
 use Prim.Native.Nat.{ℕ, zero, suc, _+_, _-_, _*_, _^_, _<_, _≤_}
 use mathlib.Core.Path.{_≡_, refl, sym, ap, _∙_}
 use mathlib.Core.List.{List, [], _∷_}
-use mathlib.Core.Bool.{Bool, true, false, cond, and-eq-true-iff}
+use mathlib.Core.Bool.{Bool, true, false, cond, _&&_, _||_, and-eq-true-iff, and-false, or-true}
 use native.Mathlib.Nat.{pow-suc, one-le-pow, pow-le-pow-right, lt-of-lt-of-le}
 use native.Mathlib.Omega.{arith}
-use borrow.Author.Tests.{leb-true, le-leb, lt-leb, eq-eqb, ne-eqb}
+use borrow.Author.Tests.{leb-true, le-leb, lt-leb, ltb-true, ltb-false, eq-eqb, ne-eqb}
 use lib.ListN.{length, drop, getD}
 use lib.Seq.{getD-drop}
-use lib.Dec.{leb, eqb}
+use lib.Dec.{leb, ltb, eqb}
 use Rattle.decimal.specs.Ascii.{digitZero, digitNine}
-use Rattle.decimal.specs.declared.Value.{Value}
 use Rattle.decimal.specs.declared.Value.the-variants.{Found, Bad}
-use Rattle.decimal.specs.Value.{isDigit, digitRun, valueFrom, mostDigits, isValue, foundAt, numberAt}
-use Rattle.decimal.specs.Value.{unpaddedAt, valueAt}
+use Rattle.decimal.specs.Value.{isDigit, isBlank, takeWhile, digitRun, blanksAt, valueFrom, mostDigits, isValue}
+use Rattle.decimal.specs.Value.{foundAt, numberAt, unpaddedAt, mostBlanks, valueAt}
 use Rattle.decimal.proofs.TakeWhile.{while-passes}
 
 pub digit-low : (b : ℕ) → isDigit b ≡ true → digitZero ≤ b
@@ -98,30 +97,87 @@ module _ (most : ℕ) (s : List ℕ) (at : ℕ) where
   unfolding unpaddedAt
   unpadded-more {b} {more} e z = rw (e, ne-eqb b digitZero z)
 
--- The value at a position.
+-- a value without blanks that was found
+pub record UnpaddedFound (most : ℕ) (s : List ℕ) (at v end : ℕ) : Type 0 where
+  pub good : isValue most (digitRun (drop at s)) ≡ true
+  pub number : v ≡ valueFrom 0 (digitRun (drop at s))
+  pub stops : end ≡ at + length (digitRun (drop at s))
+
+pub unpadded-found : (most : ℕ) (s : List ℕ) (at : ℕ) {v end : ℕ} → unpaddedAt most s at ≡ Found v end
+    → UnpaddedFound most s at v end
+unfolding unpaddedAt foundAt
+unpadded-found most s at {v} {end} e = go (isValue most (digitRun (drop at s))) refl e
+  where
+    go : (t : Bool) → isValue most (digitRun (drop at s)) ≡ t → foundAt t (digitRun (drop at s)) at ≡ Found v end
+        → UnpaddedFound most s at v end
+    go true g e = record { good = g; number = cc; stops = cc }
+    go false g e = let z : _≡_ {A = ℕ} 0 1 = cc in absurd (omega arith)
+
+-- a value that was found
+pub record ValueFound (most : ℕ) (s : List ℕ) (at v end : ℕ) : Type 0 where
+  pub allowed : most ≤ mostDigits
+  pub few : blanksAt s at ≤ mostBlanks
+  pub value-is : unpaddedAt most s (at + blanksAt s at) ≡ Found v end
+
+-- The value at a position, by the blanks there.
 module _ (most : ℕ) (s : List ℕ) (at : ℕ) where
   pub value-over : mostDigits < most → valueAt most s at ≡ Bad
   unfolding valueAt
   value-over h = rw (lt-leb most mostDigits h)
 
-  pub value-unpadded : most ≤ mostDigits → valueAt most s at ≡ unpaddedAt most s at
+  pub value-over-blanks : mostBlanks < blanksAt s at → valueAt most s at ≡ Bad
   unfolding valueAt
-  value-unpadded few = rw (le-leb most mostDigits few)
+  value-over-blanks h = rw (lt-leb (blanksAt s at) mostBlanks h, and-false (leb most mostDigits))
 
--- Every byte from the position to where a value stops is a digit.
-value-stops : (most : ℕ) (s : List ℕ) (at : ℕ) {v end : ℕ} → valueAt most s at ≡ Found v end
-    → end ≡ at + length (digitRun (drop at s))
-unfolding valueAt
-value-stops most s at {v} {end} e = go (leb most mostDigits) (isValue most (digitRun (drop at s))) e
+  pub value-after-blanks : most ≤ mostDigits → blanksAt s at ≤ mostBlanks
+      → valueAt most s at ≡ unpaddedAt most s (at + blanksAt s at)
+  unfolding valueAt
+  value-after-blanks few h = rw (le-leb most mostDigits few, le-leb (blanksAt s at) mostBlanks h)
+
+  -- no digit follows the blanks
+  pub value-no-digit : digitRun (drop (at + blanksAt s at) s) ≡ [] → valueAt most s at ≡ Bad
+  unfolding valueAt
+  value-no-digit e =
+      rw (unpadded-none most s (at + blanksAt s at) e)
+      (either (leb most mostDigits && leb (blanksAt s at) mostBlanks))
+    where
+      either : (t : Bool) → cond t Bad Bad ≡ Bad
+      either true = refl
+      either false = refl
+
+  -- a value that was found has no more digits and follows no more blanks than are allowed
+  pub value-found : {v end : ℕ} → valueAt most s at ≡ Found v end → ValueFound most s at v end
+  unfolding valueAt
+  value-found {v} {end} e = go (leb most mostDigits) (leb (blanksAt s at) mostBlanks) refl refl e
+    where
+      go : (t u : Bool) → leb most mostDigits ≡ t → leb (blanksAt s at) mostBlanks ≡ u
+          → cond (t && u) (unpaddedAt most s (at + blanksAt s at)) Bad ≡ Found v end → ValueFound most s at v end
+      go true true g h e = record {
+        allowed = leb-true most mostDigits g;
+        few = leb-true (blanksAt s at) mostBlanks h;
+        value-is = e;
+      }
+      go true false g h e = let z : _≡_ {A = ℕ} 0 1 = cc in absurd (omega arith)
+      go false u g h e = let z : _≡_ {A = ℕ} 0 1 = cc in absurd (omega arith)
+
+-- Every byte from the position to where a value stops is a blank or a digit.
+abbrev pub isValueByte : ℕ → Bool
+isValueByte b = isBlank b || isDigit b
+
+pub value-bytes : (most : ℕ) (s : List ℕ) (at : ℕ) {v end : ℕ} → valueAt most s at ≡ Found v end → (i : ℕ) → at ≤ i
+    → i < end → isValueByte (getD s i 0) ≡ true
+value-bytes most s at {v} {end} e i l h = go (ltb i start) refl
   where
-    go : (t u : Bool) → cond t (foundAt u (digitRun (drop at s)) at) Bad ≡ Found v end
-        → end ≡ at + length (digitRun (drop at s))
-    go false u e = let z : _≡_ {A = ℕ} 0 1 = cc in absurd (omega arith)
-    go true false e = let z : _≡_ {A = ℕ} 0 1 = cc in absurd (omega arith)
-    go true true e = cc
+    start : ℕ
+    start = at + blanksAt s at
 
-pub value-digits : (most : ℕ) (s : List ℕ) (at : ℕ) {v end : ℕ} → valueAt most s at ≡ Found v end → (i : ℕ) → at ≤ i
-    → i < end → isDigit (getD s i 0) ≡ true
-value-digits most s at e i l h =
-    let p : at + (i - at) ≡ i = omega arith in
-    rw (getD-drop, p) at (while-passes isDigit (drop at s) (i - at) (omega (arith, value-stops most s at e)))
+    passes : (test : ℕ → Bool) (k : ℕ) → k ≤ i → i < k + length (takeWhile test (drop k s)) → test (getD s i 0) ≡ true
+    passes test k l h =
+        let p : k + (i - k) ≡ i = omega arith in
+        rw (getD-drop, p) at (while-passes test (drop k s) (i - k) (omega arith))
+
+    go : (t : Bool) → ltb i start ≡ t → isValueByte (getD s i 0) ≡ true
+    go true b = rw (passes isBlank at l (ltb-true i start b))
+    go false b =
+        let f = unpadded-found most s start (value-found most s at e .value-is) in
+        rw (passes isDigit start (ltb-false i start b) (omega (arith, f .stops))) (or-true (isBlank (getD s i 0)))

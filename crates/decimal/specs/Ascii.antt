@@ -15,6 +15,10 @@ digitZero = 48
 abbrev pub digitNine : ℕ
 digitNine = 57
 
+-- the byte that may stand in front of a value
+abbrev pub blank : ℕ
+blank = 32
+
 -- the byte between two values, and the byte that ends a line
 abbrev pub comma : ℕ
 comma = 44

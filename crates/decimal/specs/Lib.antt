@@ -1,3 +1,4 @@
 pub mod Ascii
 pub mod Value
 pub mod Text
+pub mod Blanks

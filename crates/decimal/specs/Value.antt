@@ -1,24 +1,35 @@
--- A value in a line. Document 01: "Values are decimal: 0 alone, or 1 to 5 digits not starting with 0."
+-- A value in a line. Document 01: "Values are decimal: 0 alone, or 1 to 5 digits not starting with 0." Document 02, W2,
+-- of blanks: "a value may have up to eight of them in front".
 use Prim.Native.Nat.{ℕ, _+_, _-_, _*_}
 use mathlib.Core.List.{List, [], _∷_}
 use mathlib.Core.Bool.{Bool, false, cond, _&&_}
 use lib.ListN.{length, drop}
 use lib.Dec.{leb, eqb}
-use Rattle.decimal.specs.Ascii.{digitZero, digitNine}
+use Rattle.decimal.specs.Ascii.{blank, digitZero, digitNine}
 use Rattle.decimal.specs.declared.Value.{Value}
 use Rattle.decimal.specs.declared.Value.the-variants.{Found, Bad}
 
 unfoldable pub isDigit : ℕ → Bool
 isDigit b = leb digitZero b && leb b digitNine
 
+abbrev pub isBlank : ℕ → Bool
+isBlank b = eqb b blank
+
 -- the bytes with which a list begins, up to the first that does not pass a test
 unfoldable pub takeWhile : (ℕ → Bool) → List ℕ → List ℕ
 takeWhile test [] = []
 takeWhile test (b ∷ s) = cond (test b) (b ∷ takeWhile test s) []
 
--- the digits with which a list begins
+-- the digits with which a list begins; the blanks with which it begins
 abbrev pub digitRun : List ℕ → List ℕ
 digitRun s = takeWhile isDigit s
+
+abbrev pub blankRun : List ℕ → List ℕ
+blankRun s = takeWhile isBlank s
+
+-- how many blanks stand at a position
+abbrev pub blanksAt : List ℕ → ℕ → ℕ
+blanksAt s at = length (blankRun (drop at s))
 
 -- the number that is written by the digits of v and then by these
 unfoldable pub valueFrom : ℕ → List ℕ → ℕ
@@ -48,10 +59,17 @@ unfoldable pub unpaddedAt : ℕ → List ℕ → ℕ → Value
 unfolding isValue isDigit takeWhile foundAt
 unpaddedAt most s at = let digits : List ℕ = digitRun (drop at s) in foundAt (isValue most digits) digits at
 
--- The value at a position of a line. Where a reader is to allow more digits than fit 32 bits, there is none.
+-- a value may have up to eight blanks in front
+abbrev pub mostBlanks : ℕ
+mostBlanks = 8
+
+-- The value at a position of a line, after the blanks that stand there. Where these are too many, or a reader is to
+-- allow more digits than fit 32 bits, there is none.
 unfoldable pub valueAt : ℕ → List ℕ → ℕ → Value
-unfolding unpaddedAt
-valueAt most s at = cond (leb most mostDigits) (unpaddedAt most s at) Bad
+unfolding takeWhile unpaddedAt
+valueAt most s at =
+    let blanks : ℕ = blanksAt s at in
+    cond (leb most mostDigits && leb blanks mostBlanks) (unpaddedAt most s (at + blanks)) Bad
 
 -- document 01's number of an answer, and its values: 8 where the file's rules ask for a value and there is none
 pub record FoundValues : Type 0 where

@@ -1,8 +1,8 @@
 // Decimal numbers: a value read at a position of a line, and a number written as text.
 ghost use mathlib.Core.Path.{_≡_};
-ghost use Prim.Native.Nat.{_≤_};
+ghost use Prim.Native.Nat.{_+_, _≤_};
 ghost use lib.ListN.{length};
-ghost use Rattle.decimal.specs.Value.{isDigit, mostDigits, numberAt, unpaddedAt, valueAt, foundValues};
+ghost use Rattle.decimal.specs.Value.{isDigit, blanksAt, mostDigits, numberAt, unpaddedAt, valueAt, foundValues};
 ghost use Rattle.decimal.specs.Text.{decimalText, writtenValues, writeText};
 
 // What reading a value gives: the value and the position after it, or that no value stands there.
@@ -22,6 +22,9 @@ pub const DIGIT_ZERO: u8 = b'0';
 
 pub const DIGIT_NINE: u8 = b'9';
 
+// The byte that may stand in front of a value.
+const BLANK: u8 = b' ';
+
 // The byte between two values, and the byte that ends a line.
 pub const COMMA: u8 = b',';
 
@@ -29,6 +32,9 @@ pub const LINE_FEED: u8 = b'\n';
 
 // The most digits that a reader may allow: any nine fit 32 bits.
 const MOST_DIGITS: u8 = 9;
+
+// The most blanks in front of a value.
+const MOST_BLANKS: usize = 8;
 
 fn is_digit(b: u8) -> bool
     ensures { λ r. ⌜ r ≡ isDigit b ⌝ }
@@ -79,7 +85,22 @@ fn unpadded_value(line: &[u8], at: usize, most: u8) -> Value
     }
 }
 
-// The value at a position. Where `most` is over MOST_DIGITS there is none.
+// Where the blanks that begin at a position end.
+fn blanks_end(line: &[u8], at: usize) -> usize
+    ensures { λ r. ⌜ r ≡ at + blanksAt (now (line .entry)) at ⌝ }
+{
+    let mut end = at;
+    while end < line.len() {
+        if line[end] != BLANK {
+            return end;
+        }
+        end += 1;
+    }
+    end
+}
+
+// The value at a position: up to MOST_BLANKS blanks, then 0 alone or 1 to `most` digits not starting with 0. Where
+// `most` is over MOST_DIGITS there is none.
 pub fn read_value(line: &[u8], at: usize, most: u8) -> Value
     ensures value { λ r. ⌜ r ≡ valueAt most (now (line .entry)) at ⌝ }
     ensures values { λ r. ⌜ foundValues r ≡ foundValues (valueAt most (now (line .entry)) at) ⌝ }
@@ -87,7 +108,11 @@ pub fn read_value(line: &[u8], at: usize, most: u8) -> Value
     if MOST_DIGITS < most {
         return Value::Bad;
     }
-    unpadded_value(line, at, most)
+    let start = blanks_end(line, at);
+    if MOST_BLANKS < start - at {
+        return Value::Bad;
+    }
+    unpadded_value(line, start, most)
 }
 
 // How many bytes n has in decimal.

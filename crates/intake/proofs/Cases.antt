@@ -179,6 +179,29 @@ pub value-100000 : lineAfter (in-stage atCells) (ascii "100000,0,1") bytes ≡ r
 unfolding lineAfter
 value-100000 = refl
 
+-- blanks in front of a value, up to eight
+pub eight-blanks-sizes : lineAfter (in-stage atSizes) (ascii "        3,        4,        2") bytes ≡ accept
+    (WaitingForCellNames (sizesOf 3 4 2)) (replicate 12 0)
+unfolding lineAfter
+eight-blanks-sizes = refl
+
+pub nine-blanks-sizes : lineAfter (in-stage atSizes) (ascii "3,         4,2") bytes ≡ refuse atSizes bytes 8
+unfolding lineAfter
+nine-blanks-sizes = refl
+
+pub eight-blanks-cell : lineAfter (in-stage atCells) (ascii "        0,        0,        1") bytes ≡ lineAfter
+    (in-stage atCells) (ascii "0,0,1") bytes
+unfolding lineAfter
+eight-blanks-cell = refl
+
+pub nine-blanks-cell : lineAfter (in-stage atCells) (ascii "0,0,         1") bytes ≡ refuse atCells bytes 8
+unfolding lineAfter
+nine-blanks-cell = refl
+
+pub names-blank : lineAfter (in-stage atCellNames) (ascii "row, col,dir") bytes ≡ refuse atCellNames bytes 8
+unfolding lineAfter
+names-blank = refl
+
 pub byte-10 : lineAfter (in-stage atCells) (ascii "0,0,1\n") bytes ≡ refuse atCells bytes 8
 unfolding lineAfter
 byte-10 = refl

@@ -33,9 +33,30 @@ pub blank-after : valuesLine (ascii "1,2 ,3") ≡ BadValues
 unfolding valuesLine
 blank-after = refl
 
-pub blank-in-front : valuesLine (ascii " 1,2,3") ≡ BadValues
+pub blank-in-front : valuesLine (ascii " 1,2,3") ≡ Valued (record { first = 1; second = 2; third = 3 })
 unfolding valuesLine
 blank-in-front = refl
+
+pub eight-blanks : valuesLine (
+    ascii "        99999,        0,        1") ≡ Valued (record { first = 99999; second = 0; third = 1 })
+unfolding valuesLine
+eight-blanks = refl
+
+pub nine-blanks-first : valuesLine (ascii "         1,2,3") ≡ BadValues
+unfolding valuesLine
+nine-blanks-first = refl
+
+pub nine-blanks-middle : valuesLine (ascii "1,         2,3") ≡ BadValues
+unfolding valuesLine
+nine-blanks-middle = refl
+
+pub nine-blanks-last : valuesLine (ascii "1,2,         3") ≡ BadValues
+unfolding valuesLine
+nine-blanks-last = refl
+
+pub blank-alone : valuesLine (ascii "1, ,3") ≡ BadValues
+unfolding valuesLine
+blank-alone = refl
 
 pub two-values : valuesLine (ascii "1,2") ≡ BadValues
 unfolding valuesLine

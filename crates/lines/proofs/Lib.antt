@@ -1,4 +1,5 @@
 pub mod FieldLaws
 pub mod ValuesLaws
 pub mod OtherBytes
+pub mod Blanks
 pub mod Cases

@@ -11,7 +11,7 @@ use Rattle.decimal.specs.Ascii.{comma, lineFeed}
 use Rattle.decimal.specs.declared.Value.{Value}
 use Rattle.decimal.specs.declared.Value.the-variants.{Found, Bad as NoValue}
 use Rattle.decimal.specs.Value.{isDigit, valueAt}
-use Rattle.decimal.proofs.ValueLaws.{value-digits}
+use Rattle.decimal.proofs.ValueLaws.{isValueByte, value-bytes}
 use Rattle.lines.specs.declared.values.Values.{Values}
 use Rattle.lines.specs.declared.values.ValuesLine.the-variants.{Bad as BadValues}
 use Rattle.lines.specs.Fields.{fitsLine, longer, fields}
@@ -59,8 +59,8 @@ fields-contain b (x ∷ s) n = go (eqb x comma) refl (fields-contain b s n)
     go true h ih = rw (ne-eqb x b (λ e. n (sym e ∙ eqb-true x comma h))) ih
     go false h ih = rw ih (sym (put (fields s)))
 
--- A values line and a byte that is no digit and no comma.
-module _ (b : ℕ) (other : isDigit b ≡ false) where
+-- A values line and a byte that is no comma and cannot stand in a value.
+module _ (b : ℕ) (other : isValueByte b ≡ false) where
   field-other : (f : List ℕ) → contains b f ≡ true → fieldValue f ≡ NoValue
   unfolding fieldValue
   field-other f h = go (valueAt valueDigits f 0) refl
@@ -70,7 +70,7 @@ module _ (b : ℕ) (other : isDigit b ≡ false) where
       whole v end e true w =
           let (i, l, g) = at-contains b f h in
           absurd (false≢true
-          (sym other ∙ ap isDigit (sym g) ∙ value-digits valueDigits f 0 e i (omega arith)
+          (sym other ∙ ap isValueByte (sym g) ∙ value-bytes valueDigits f 0 e i (omega arith)
           (omega (arith, eqb-true end (length f) w))))
       whole v end e false w = refl
 

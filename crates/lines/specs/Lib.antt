@@ -1,3 +1,4 @@
 pub mod Fields
 pub mod Columns
 pub mod Values
+pub mod Blanks

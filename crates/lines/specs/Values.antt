@@ -1,5 +1,5 @@
 -- A values line. Document 01: "Values are decimal: 0 alone, or 1 to 5 digits not starting with 0. Commas part them;
--- nothing else is allowed."
+-- nothing else is allowed." Blanks in front of a value: valueAt of decimal.
 use Prim.Native.Nat.{ℕ, _+_}
 use mathlib.Core.List.{List, [], _∷_}
 use mathlib.Core.Bool.{cond}

@@ -6,7 +6,7 @@ use mathlib.Core.Bool.{Bool, true, false, cond, _||_, false≢true}
 use mathlib.Mathlib.Data.Bool.Basic.{or-eq-false-eq-eq-false-and-eq-false}
 use lib.ListN.{length, getD}
 use lib.Dec.{eqb}
-use Rattle.decimal.specs.Ascii.{ascii, comma, lineFeed}
+use Rattle.decimal.specs.Ascii.{ascii, blank, comma, lineFeed}
 use Rattle.lines.specs.declared.columns.Column.{Column}
 use Rattle.lines.specs.declared.columns.Column.the-variants.{Absent}
 use Rattle.lines.specs.declared.columns.Columns.{Columns}
@@ -86,6 +86,12 @@ module _ (b : ℕ) (n : contains b (ascii "rows,cols,depth,row,col,dir") ≡ fal
 
       no-comma : b ≡ comma → ⊥
       no-comma e = false≢true (sym n ∙ ap (λ (x : ℕ). contains x (ascii "rows,cols,depth,row,col,dir")) e)
+
+-- A names line with a blank anywhere is Bad.
+pub names-blank : (expected : Columns) (s : List ℕ) (i : ℕ) → i < length s → getD s i 0 ≡ blank
+    → namesLine expected s ≡ BadNames
+unfolding contains
+names-blank = names-other-byte blank refl
 
 -- A line feed.
 pub names-line-feed : (expected : Columns) (s : List ℕ) (i : ℕ) → i < length s → getD s i 0 ≡ lineFeed

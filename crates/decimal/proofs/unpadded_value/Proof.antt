@@ -42,8 +42,9 @@ returns-3 c =
 
 returns-4 : tie.Need-returns-4
 returns-4 c =
-    sym (unpadded-none _ _ _
-    (while-at-stop isDigit _ _ (c .before .before .before .before .if1 .left) (sym (c .before .is-digit .ensures) ∙ c .if3 .left)))
+    let run = while-at-stop isDigit _ _ (c .before .before .before .before .if1 .left)
+    (sym (c .before .is-digit .ensures) ∙ c .if3 .left) in
+    sym (unpadded-none _ _ _ run)
 
 pub unpadded-value-spec : {M : Type 1} → statement M
 unpadded-value-spec =

@@ -84,9 +84,9 @@ text-value k n h = go (eqb n 0) refl
     go false e =
         starts-value k (text-starts n (omega (arith, eqb-false n 0 e))) (text-few k n (some k h (eqb-false n 0 e)) h)
 
--- the text of a number of at most k digits, before no further digit, is that number
+-- the text of a number of at most k digits, with no further digit after it, is that number
 pub text-back : (k n : ℕ) → n < 10 ^ k → (rest : List ℕ) → digitRun rest ≡ []
     → unpaddedAt k (decimalText n ++ rest) 0 ≡ Found n (length (decimalText n))
 unfolding unpaddedAt foundAt
-text-back k n small rest e = rw (text-run, e, append-nil, text-value k n small, text-number)
-    (ap (Found n) (omega arith))
+text-back k n small rest e =
+    rw (text-run, e, append-nil, text-value k n small, text-number) (ap (Found n) (omega arith))

@@ -113,7 +113,7 @@ unpadded-found most s at {v} {end} e = go (isValue most (digitRun (drop at s))) 
     go true g e = record { good = g; number = cc; stops = cc }
     go false g e = let z : _≡_ {A = ℕ} 0 1 = cc in absurd (omega arith)
 
--- a value that was found
+-- a value that was found, with or without blanks
 pub record ValueFound (most : ℕ) (s : List ℕ) (at v end : ℕ) : Type 0 where
   pub allowed : most ≤ mostDigits
   pub few : blanksAt s at ≤ mostBlanks
@@ -145,7 +145,7 @@ module _ (most : ℕ) (s : List ℕ) (at : ℕ) where
       either true = refl
       either false = refl
 
-  -- a value that was found has no more digits and follows no more blanks than are allowed
+  -- a value is found only by a reader that allows at most nine digits, and after at most eight blanks
   pub value-found : {v end : ℕ} → valueAt most s at ≡ Found v end → ValueFound most s at v end
   unfolding valueAt
   value-found {v} {end} e = go (leb most mostDigits) (leb (blanksAt s at) mostBlanks) refl refl e

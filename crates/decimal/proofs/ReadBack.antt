@@ -1,7 +1,7 @@
 -- The text of a number is read as that number.
 use Prim.Native.Nat.{ℕ, zero, suc, _+_, _-_, _*_, _/_, _%_, _^_, _<_, _≤_}
 use mathlib.Core.Path.{_≡_, refl, ap, _∙_}
-use mathlib.Core.List.{List, [], _∷_, _++_, append-assoc, append-nil}
+use mathlib.Core.List.{List, [], _∷_, _++_, append-nil}
 use mathlib.Core.Bool.{Bool, true, false}
 use native.Mathlib.Omega.{arith}
 use borrow.Author.Tests.{le-leb, ne-eqb, eqb-true, eqb-false}
@@ -9,9 +9,9 @@ use lib.ListN.{length}
 use lib.Dec.{eqb}
 use Rattle.decimal.specs.Ascii.{digitZero}
 use Rattle.decimal.specs.declared.Value.the-variants.{Found}
-use Rattle.decimal.specs.Value.{isDigit, digitRun, valueFrom, isValue, foundAt, unpaddedAt}
+use Rattle.decimal.specs.Value.{isDigit, takeWhile, digitRun, valueFrom, isValue, foundAt, unpaddedAt}
 use Rattle.decimal.specs.Text.{decimalText}
-use Rattle.decimal.proofs.TakeWhile.{while-next}
+use Rattle.decimal.proofs.TakeWhile.{while-next, while-append}
 use Rattle.decimal.proofs.ValueLaws.{is-digit}
 use Rattle.decimal.proofs.TextLaws.{text-induction, text-small, text-few}
 
@@ -33,22 +33,19 @@ text-number = text-induction (λ (n : ℕ) (s : List ℕ). valueFrom 0 s ≡ n) 
     large n h ih = number-append 0 (decimalText (n / 10)) (digitZero + n % 10) ∙ omega arith
 
 -- a text is all digits
-pub text-run : (n : ℕ) (rest : List ℕ) → digitRun (decimalText n ++ rest) ≡ decimalText n ++ digitRun rest
-text-run n =
-    text-induction (λ (n : ℕ) (s : List ℕ). (rest : List ℕ) → digitRun (s ++ rest) ≡ s ++ digitRun rest) small large n
+text-digits : (n : ℕ) → digitRun (decimalText n) ≡ decimalText n
+unfolding takeWhile
+text-digits = text-induction (λ (n : ℕ) (s : List ℕ). digitRun s ≡ s) small large
   where
-    small : (n : ℕ) → n < 10 → (rest : List ℕ) → digitRun ((digitZero + n) ∷ rest) ≡ (digitZero + n) ∷ digitRun rest
-    small n h rest = while-next isDigit (digitZero + n) rest (is-digit (digitZero + n) (omega arith) (omega arith))
+    small : (n : ℕ) → n < 10 → digitRun ((digitZero + n) ∷ []) ≡ (digitZero + n) ∷ []
+    small n h = while-next isDigit (digitZero + n) [] (is-digit (digitZero + n) (omega arith) (omega arith))
 
-    large : (n : ℕ) → 10 ≤ n
-        → ((rest : List ℕ) → digitRun (decimalText (n / 10) ++ rest) ≡ decimalText (n / 10) ++ digitRun rest) →
-        (rest : List ℕ)
-        → digitRun ((decimalText (n / 10) ++ ((digitZero + n % 10) ∷ [])) ++ rest)
-        ≡ (decimalText (n / 10) ++ ((digitZero + n % 10) ∷ [])) ++ digitRun rest
-    large n h ih rest =
-        simp append-assoc
-        (ih ((digitZero + n % 10) ∷ rest) ∙ ap (λ (s : List ℕ). decimalText (n / 10) ++ s)
-        (while-next isDigit (digitZero + n % 10) rest (is-digit (digitZero + n % 10) (omega arith) (omega arith))))
+    large : (n : ℕ) → 10 ≤ n → digitRun (decimalText (n / 10)) ≡ decimalText (n / 10)
+        → digitRun (decimalText (n / 10) ++ ((digitZero + n % 10) ∷ []))
+        ≡ decimalText (n / 10) ++ ((digitZero + n % 10) ∷ [])
+    large n h ih =
+        while-append isDigit (decimalText (n / 10)) _ ih
+        ∙ ap (λ (s : List ℕ). decimalText (n / 10) ++ s) (small (n % 10) (omega arith))
 
 -- the text of a number above 0 does not start with 0
 data Starts : List ℕ → Type 0 where
@@ -89,4 +86,5 @@ pub text-back : (k n : ℕ) → n < 10 ^ k → (rest : List ℕ) → digitRun re
     → unpaddedAt k (decimalText n ++ rest) 0 ≡ Found n (length (decimalText n))
 unfolding unpaddedAt foundAt
 text-back k n small rest e =
-    rw (text-run, e, append-nil, text-value k n small, text-number) (ap (Found n) (omega arith))
+    rw (while-append isDigit (decimalText n) rest (text-digits n), e, append-nil, text-value k n small, text-number)
+    (ap (Found n) (omega arith))

@@ -13,6 +13,7 @@ use Rattle.decimal.specs.Ascii.{digitZero, digitNine}
 use Rattle.decimal.specs.declared.Value.the-variants.{Found, Bad}
 use Rattle.decimal.specs.Value.{isDigit, isBlank, takeWhile, digitRun, blanksAt, valueFrom, mostDigits, isValue}
 use Rattle.decimal.specs.Value.{foundAt, numberAt, unpaddedAt, mostBlanks, valueAt}
+use Rattle.decimal.proofs.Answers.{either-way}
 use Rattle.decimal.proofs.TakeWhile.{while-passes}
 
 pub digit-low : (b : ℕ) → isDigit b ≡ true → digitZero ≤ b
@@ -139,11 +140,7 @@ module _ (most : ℕ) (s : List ℕ) (at : ℕ) where
   unfolding valueAt
   value-no-digit e =
       rw (unpadded-none most s (at + blanksAt s at) e)
-      (either (leb most mostDigits && leb (blanksAt s at) mostBlanks))
-    where
-      either : (t : Bool) → cond t Bad Bad ≡ Bad
-      either true = refl
-      either false = refl
+      (either-way (leb most mostDigits && leb (blanksAt s at) mostBlanks) Bad)
 
   -- a value is found only by a reader that allows at most nine digits, and after at most eight blanks
   pub value-found : {v end : ℕ} → valueAt most s at ≡ Found v end → ValueFound most s at v end

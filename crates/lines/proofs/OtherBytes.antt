@@ -11,6 +11,7 @@ use Rattle.decimal.specs.Ascii.{comma, lineFeed}
 use Rattle.decimal.specs.declared.Value.{Value}
 use Rattle.decimal.specs.declared.Value.the-variants.{Found, Bad as NoValue}
 use Rattle.decimal.specs.Value.{isDigit, valueAt}
+use Rattle.decimal.proofs.Answers.{either-way}
 use Rattle.decimal.proofs.ValueLaws.{isValueByte, value-bytes}
 use Rattle.lines.specs.declared.values.Values.{Values}
 use Rattle.lines.specs.declared.values.ValuesLine.the-variants.{Bad as BadValues}
@@ -102,11 +103,7 @@ module _ (b : ℕ) (other : isValueByte b ≡ false) where
   unfolding valuesLine
   values-other-byte no-comma s i h e =
       rw (values-from-other columnCount 0 (fields s) noValues
-      (sym (fields-contain b s no-comma) ∙ contains-at b s i h e)) (either (fitsLine s))
-    where
-      either : (t : Bool) → cond t BadValues BadValues ≡ BadValues
-      either true = refl
-      either false = refl
+      (sym (fields-contain b s no-comma) ∙ contains-at b s i h e)) (either-way (fitsLine s) BadValues)
 
 -- A line feed.
 pub values-line-feed : (s : List ℕ) (i : ℕ) → i < length s → getD s i 0 ≡ lineFeed → valuesLine s ≡ BadValues

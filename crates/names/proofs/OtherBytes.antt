@@ -7,6 +7,7 @@ use mathlib.Mathlib.Data.Bool.Basic.{or-eq-false-eq-eq-false-and-eq-false}
 use lib.ListN.{length, getD}
 use lib.Dec.{eqb}
 use Rattle.decimal.specs.Ascii.{ascii, blank, comma, lineFeed}
+use Rattle.decimal.proofs.Answers.{either-way}
 use Rattle.lines.specs.declared.columns.Column.{Column}
 use Rattle.lines.specs.declared.columns.Column.the-variants.{Absent}
 use Rattle.lines.specs.declared.columns.Columns.{Columns}
@@ -78,12 +79,8 @@ module _ (b : ℕ) (n : contains b (ascii "rows,cols,depth,row,col,dir") ≡ fal
   unfolding namesLine contains
   names-other-byte expected s i h e =
       rw (names-from-other 0 (fields s) noColumns (sym (fields-contain b s no-comma) ∙ contains-at b s i h e))
-      (either (fitsLine s))
+      (either-way (fitsLine s) BadNames)
     where
-      either : (t : Bool) → cond t BadNames BadNames ≡ BadNames
-      either true = refl
-      either false = refl
-
       no-comma : b ≡ comma → ⊥
       no-comma e = false≢true (sym n ∙ ap (λ (x : ℕ). contains x (ascii "rows,cols,depth,row,col,dir")) e)
 

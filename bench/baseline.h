@@ -3,5 +3,6 @@
 #include <stddef.h>
 #include <stdint.h>
 /* 0, or refusal number + 256 x place. */
-uint64_t baseline_label(size_t rows, size_t cols, size_t depth, const uint8_t *dirs, uint32_t *areas, uint64_t *labels);
+uint64_t baseline_label(size_t rows, size_t cols, size_t depth, const uint8_t *dirs, const uint16_t *weights,
+                        uint32_t *areas, uint64_t *labels);
 #endif

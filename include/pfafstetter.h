@@ -1,5 +1,6 @@
 /* The C interface: Pfafstetter labels of a single river basin. README.md says what the numbers mean.
-   A slice is a pointer and the number of its places; no place beyond that number is touched. The slices of one call must not overlap. */
+   A slice is a pointer and the number of its places; no place beyond that number is touched. The slices of one call
+   must not overlap. */
 #ifndef PFAFSTETTER_H
 #define PFAFSTETTER_H
 
@@ -10,26 +11,35 @@
 extern "C" {
 #endif
 
-/* Labels a sheet of rows x cols direction codes (1 to 256 each) to a depth of 1 to 18 digits. It needs n = rows x cols directions, areas and
-   labels, and 8n work places; more may be lent. Returns 0, and has written the first n areas and labels, or refusal number + 256 x place,
-   and has written none. The first 8n work places are 0 afterwards, unless the refusal was 1, 2 or 3. */
-uint64_t pf_label(size_t rows, size_t cols, size_t depth, const uint8_t *dirs, size_t dirs_len, uint32_t *areas, size_t areas_len,
-                  uint64_t *labels, size_t labels_len, uint32_t *work, size_t work_len);
+/* Labels a sheet of rows x cols direction codes (1 to 256 each) to a depth of 1 to 18 digits. Each row has a weight, 1
+   to 1000, from row 0. The area of a cell is the sum of the weights of the cells whose water passes it, at most
+   65,536,000; with the weight 1 for every row it is their count. The call needs n = rows x cols directions, areas and
+   labels, one weight for each row, and 8n work places; more may be lent, and what stands past these counts is neither
+   looked at nor changed. Returns 0, and has written the first n areas and labels, or refusal number + 256 x place, and
+   has written none. The refusals are tried in this order: 1, 2, 3, 17 (a weight outside 1 to 1000, in any row; place
+   0), 4, 5, 6, 7. The first 8n work places are 0 afterwards, unless the refusal was 1, 2 or 3. */
+uint64_t pf_label(size_t rows, size_t cols, size_t depth, const uint8_t *dirs, size_t dirs_len, const uint16_t *weights,
+                  size_t weights_len, uint32_t *areas, size_t areas_len, uint64_t *labels, size_t labels_len,
+                  uint32_t *work, size_t work_len);
 
-/* Labels a sheet as pf_label does and fills its index: the distinct labels of its inside cells in dictionary order of their digits (a label
-   that begins another stands before it), each with its outlet, the cell to which the cells with this label drain, and the count of these
-   cells. units (for the labels), outlets and counts need one place for each unit; rows x cols places are always enough. Accepted, the lowest
-   byte of the answer is 0 and the rest (answer / 256) is the number of units; so many places of the three slices are written, the others
-   keep their values. Otherwise it is refusal number + 256 x place, first those of pf_label, then 3 if one of the three slices is too short,
-   and none of their places is written; with that last refusal areas, labels and work places are as after an accepted pf_label. */
-uint64_t pf_index(size_t rows, size_t cols, size_t depth, const uint8_t *dirs, size_t dirs_len, uint32_t *areas, size_t areas_len,
-                  uint64_t *labels, size_t labels_len, uint32_t *work, size_t work_len, uint64_t *units, size_t units_len,
-                  uint32_t *outlets, size_t outlets_len, uint32_t *counts, size_t counts_len);
+/* Labels a sheet as pf_label does and fills its index: the distinct labels of its inside cells in dictionary order of
+   their digits (a label that begins another stands before it), each with its outlet, the cell to which the cells with
+   this label drain, and the count of these cells, whatever their weights. units (for the labels), outlets and counts
+   need one place for each unit; rows x cols places are always enough. Accepted, the lowest byte of the answer is 0 and
+   the rest (answer / 256) is the number of units; so many places of the three slices are written, the others keep their
+   values. Otherwise it is refusal number + 256 x place, first those of pf_label, then 3 if one of the three slices is
+   too short, and none of their places is written; with that last refusal areas, labels and work places are as after an
+   accepted pf_label. */
+uint64_t pf_index(size_t rows, size_t cols, size_t depth, const uint8_t *dirs, size_t dirs_len, const uint16_t *weights,
+                  size_t weights_len, uint32_t *areas, size_t areas_len, uint64_t *labels, size_t labels_len,
+                  uint32_t *work, size_t work_len, uint64_t *units, size_t units_len, uint32_t *outlets,
+                  size_t outlets_len, uint32_t *counts, size_t counts_len);
 
-/* Finds the labels that begin with the leading digits (0 for none) in a slice that rises strictly in dictionary order, such as the labels of
-   an index. Returns 0: they are the labels from start on, length of them; where there are none, length is 0 and start is the place that they
-   would take. Or returns a refusal, and start and length are 0: 11 if the leading digits or an entry are no label of up to 18 digits, then
-   16 if the slice does not rise strictly. start and length each point to one number; these must not overlap each other or the slice. */
+/* Finds the labels that begin with the leading digits (0 for none) in a slice that rises strictly in dictionary order,
+   such as the labels of an index. Returns 0: they are the labels from start on, length of them; where there are none,
+   length is 0 and start is the place that they would take. Or returns a refusal, and start and length are 0: 11 if the
+   leading digits or an entry are no label of up to 18 digits, then 16 if the slice does not rise strictly. start and
+   length each point to one number; these must not overlap each other or the slice. */
 uint32_t pf_lookup(uint64_t leading, const uint64_t *labels, size_t labels_len, size_t *start, size_t *length);
 
 /* Does water from the label q pass the label p, at a depth? 0 No, 1 Yes, 2 Same, 3 Undecided, 128 + refusal number. */

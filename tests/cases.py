@@ -1,10 +1,12 @@
-# Recomputes the stored cases with reference.py, and checks sheets, labels and boundaries of documents 01 and 02 by direct call.
+# Recomputes the stored cases with reference.py, and checks sheets, labels and boundaries of documents 01 and 02 by
+# direct call.
 #
-# A file can get refusals 1 to 10 and 14. It cannot get
+# A file can get refusals 1 to 10, 14 and 17. It cannot get
 #   11, 12 and 16: they belong to the flow question and the lookup, of which the program makes no use;
 #   13: the program hands over no line and no end after the end;
 #   15: the program labels only after the intake has accepted the end.
-# Nor can it get 1 to 4 from labelling, since the intake has refused such sizes and directions before.
+# Nor can it get 1 to 4 or 17 from labelling, since the intake has refused such sizes, directions and weights before;
+# nor 9 for a state that waits for the weight of a row outside its sheet, which no line leads to.
 # No line of 80 bytes keeps the file's rules: three values with their blanks and commas have at most 41 bytes.
 # So cell_80_bytes and cell_81_bytes both get 8.
 
@@ -17,6 +19,7 @@ from reference import Intake, flow, index, index_intake, label, label_intake, lo
 CASES = pathlib.Path(__file__).resolve().parent / 'cases'
 INDEX_EXAMPLE = CASES.parent.parent / 'examples' / 'index.out'
 
+ONES = [1] * 256
 SAMPLE_A = bytes([0, 4, 16, 8, 16, 16, 16, 16, 64, 64, 32, 64])
 
 # (name, depth, p, q, answer): does water from q pass p?
@@ -45,47 +48,65 @@ FLOW = [
     ('depth 19: 2 before 11', 19, 105, 105, ('Refused', 2)),
 ]
 
-# (name, rows, cols, depth, directions, areas, labels, work places; number, place)
+# (name, rows, cols, depth, directions, weights, areas, labels, work places; number, place)
 SHEETS = [
-    ('256 rows', 256, 1, 1, bytes([4] * 256), 256, 256, 2048, 0, 0),
-    ('257 rows', 257, 1, 1, bytes([4] * 257), 257, 257, 2056, 1, 0),
-    ('256 columns', 1, 256, 1, bytes([1] * 256), 256, 256, 2048, 0, 0),
-    ('257 columns', 1, 257, 1, bytes([1] * 257), 257, 257, 2056, 1, 0),
-    ('0 rows', 0, 1, 1, bytes([4]), 1, 1, 8, 1, 0),
-    ('0 columns', 1, 0, 1, bytes([4]), 1, 1, 8, 1, 0),
-    ('depth 18', 1, 1, 18, bytes([1]), 1, 1, 8, 0, 0),
-    ('depth 19', 1, 1, 19, bytes([1]), 1, 1, 8, 2, 0),
-    ('depth 0', 1, 1, 0, bytes([1]), 1, 1, 8, 2, 0),
-    ('257 rows and depth 19', 257, 1, 19, b'', 0, 0, 0, 1, 0),
-    ('depth 19 and nothing lent', 1, 1, 19, b'', 0, 0, 0, 2, 0),
-    ('one direction too few', 3, 4, 2, SAMPLE_A[:11], 12, 12, 96, 3, 0),
-    ('one area too few', 3, 4, 2, SAMPLE_A, 11, 12, 96, 3, 0),
-    ('one label too few', 3, 4, 2, SAMPLE_A, 12, 11, 96, 3, 0),
-    ('one work place too few', 3, 4, 2, SAMPLE_A, 12, 12, 95, 3, 0),
-    ('3 before 4', 1, 2, 1, bytes([3, 1]), 2, 2, 15, 3, 0),
-    ('direction 3 before direction 5', 1, 3, 1, bytes([1, 3, 5]), 3, 3, 24, 4, 1),
-    ('4 before 5', 1, 2, 1, bytes([0, 3]), 2, 2, 16, 4, 1),
-    ('bad direction past the sheet', 1, 1, 1, bytes([1, 3]), 1, 1, 8, 0, 0),
-    ('no cell inside', 1, 2, 1, bytes([0, 0, 1]), 2, 2, 16, 5, 0),
-    ('codes 1 and 16', 1, 2, 1, bytes([1, 16]), 2, 2, 16, 6, 0),
-    ('codes 16 and 1', 1, 2, 1, bytes([16, 1]), 2, 2, 16, 7, 1),
-    ('6 before 7', 1, 5, 1, bytes([16, 1, 16, 0, 1]), 5, 5, 40, 6, 1),
+    ('256 rows', 256, 1, 1, bytes([4] * 256), ONES, 256, 256, 2048, 0, 0),
+    ('257 rows', 257, 1, 1, bytes([4] * 257), ONES, 257, 257, 2056, 1, 0),
+    ('256 columns', 1, 256, 1, bytes([1] * 256), ONES, 256, 256, 2048, 0, 0),
+    ('257 columns', 1, 257, 1, bytes([1] * 257), ONES, 257, 257, 2056, 1, 0),
+    ('0 rows', 0, 1, 1, bytes([4]), ONES, 1, 1, 8, 1, 0),
+    ('0 columns', 1, 0, 1, bytes([4]), ONES, 1, 1, 8, 1, 0),
+    ('depth 18', 1, 1, 18, bytes([1]), ONES, 1, 1, 8, 0, 0),
+    ('depth 19', 1, 1, 19, bytes([1]), ONES, 1, 1, 8, 2, 0),
+    ('depth 0', 1, 1, 0, bytes([1]), ONES, 1, 1, 8, 2, 0),
+    ('257 rows and depth 19', 257, 1, 19, b'', ONES, 0, 0, 0, 1, 0),
+    ('depth 19 and nothing lent', 1, 1, 19, b'', ONES, 0, 0, 0, 2, 0),
+    ('one direction too few', 3, 4, 2, SAMPLE_A[:11], ONES, 12, 12, 96, 3, 0),
+    ('one area too few', 3, 4, 2, SAMPLE_A, ONES, 11, 12, 96, 3, 0),
+    ('one label too few', 3, 4, 2, SAMPLE_A, ONES, 12, 11, 96, 3, 0),
+    ('one work place too few', 3, 4, 2, SAMPLE_A, ONES, 12, 12, 95, 3, 0),
+    ('3 before 4', 1, 2, 1, bytes([3, 1]), ONES, 2, 2, 15, 3, 0),
+    ('direction 3 before direction 5', 1, 3, 1, bytes([1, 3, 5]), ONES, 3, 3, 24, 4, 1),
+    ('4 before 5', 1, 2, 1, bytes([0, 3]), ONES, 2, 2, 16, 4, 1),
+    ('bad direction past the sheet', 1, 1, 1, bytes([1, 3]), ONES, 1, 1, 8, 0, 0),
+    ('no cell inside', 1, 2, 1, bytes([0, 0, 1]), ONES, 2, 2, 16, 5, 0),
+    ('codes 1 and 16', 1, 2, 1, bytes([1, 16]), ONES, 2, 2, 16, 6, 0),
+    ('codes 16 and 1', 1, 2, 1, bytes([16, 1]), ONES, 2, 2, 16, 7, 1),
+    ('6 before 7', 1, 5, 1, bytes([16, 1, 16, 0, 1]), ONES, 5, 5, 40, 6, 1),
+    ('no weights lent', 3, 4, 2, SAMPLE_A, [], 12, 12, 96, 3, 0),
+    ('one weight too few', 3, 4, 2, SAMPLE_A, [1, 1], 12, 12, 96, 3, 0),
+    ('one weight a row', 3, 4, 2, SAMPLE_A, [1, 1, 1], 12, 12, 96, 0, 0),
+    ('no weights past the rows', 3, 4, 2, SAMPLE_A, [1, 1000, 1, 0, 65535], 12, 12, 96, 0, 0),
+    ('weight 0 in the first row', 3, 4, 2, SAMPLE_A, [0, 1, 1], 12, 12, 96, 17, 0),
+    ('weight 1001 in a middle row', 3, 4, 2, SAMPLE_A, [1, 1001, 1], 12, 12, 96, 17, 0),
+    ('weight 65535 in the last row', 3, 4, 2, SAMPLE_A, [1, 1, 65535], 12, 12, 96, 17, 0),
+    ('weight 0 in a row without an inside cell', 2, 1, 1, bytes([1, 0]), [1, 0], 2, 2, 16, 17, 0),
+    ('1 before 17', 257, 1, 1, bytes([4] * 257), [0] * 257, 257, 257, 2056, 1, 0),
+    ('2 before 17', 1, 1, 19, bytes([1]), [0], 1, 1, 8, 2, 0),
+    ('3 before 17', 1, 1, 1, bytes([1]), [0], 1, 1, 7, 3, 0),
+    ('17 before 4', 1, 2, 1, bytes([3, 1]), [0], 2, 2, 16, 17, 0),
+    ('17 before 5', 1, 2, 1, bytes([0, 0]), [1001], 2, 2, 16, 17, 0),
+    ('17 before 6', 1, 2, 1, bytes([1, 16]), [0], 2, 2, 16, 17, 0),
+    ('17 before 7', 1, 2, 1, bytes([16, 1]), [1001], 2, 2, 16, 17, 0),
 ]
 
 # The units of sample A: label, outlet cell, count of cells.
 SAMPLE_A_UNITS = [(1, 4, 1), (2, 8, 1), (3, 5, 1), (4, 9, 1), (6, 10, 1), (8, 1, 2), (91, 6, 1), (92, 3, 1), (93, 7, 2)]
 SAMPLE_A_UNITS_CUT = [(1, 4, 1), (2, 8, 1), (3, 5, 1), (4, 9, 1), (6, 10, 1), (8, 1, 2), (9, 6, 4)]
 
-# (name, rows, cols, depth, directions, areas, labels, work places, labels, outlets and counts of units; number, place, units)
+# (name, rows, cols, depth, directions, weights, areas, labels, work places, labels, outlets and counts of units;
+# number, place, units)
 INDEXES = [
-    ('sample A', 3, 4, 2, SAMPLE_A, 12, 12, 96, 9, 9, 9, 0, 0, SAMPLE_A_UNITS),
-    ('sample A at depth 1', 3, 4, 1, SAMPLE_A, 12, 12, 96, 9, 7, 8, 0, 0, SAMPLE_A_UNITS_CUT),
-    ('1 by 1, code 1', 1, 1, 1, bytes([1]), 1, 1, 8, 1, 1, 1, 0, 0, [(0, 0, 1)]),
-    ('an outside cell is no unit', 1, 2, 1, bytes([0, 1]), 2, 2, 16, 1, 1, 1, 0, 0, [(0, 1, 1)]),
-    ('one unit too few', 3, 4, 2, SAMPLE_A, 12, 12, 96, 8, 9, 9, 3, 0, None),
-    ('one outlet too few', 3, 4, 2, SAMPLE_A, 12, 12, 96, 9, 8, 9, 3, 0, None),
-    ('one count too few', 3, 4, 2, SAMPLE_A, 12, 12, 96, 9, 9, 8, 3, 0, None),
-    ('7 before 3 of the index', 1, 2, 1, bytes([16, 1]), 2, 2, 16, 0, 0, 0, 7, 1, None),
+    ('sample A', 3, 4, 2, SAMPLE_A, ONES, 12, 12, 96, 9, 9, 9, 0, 0, SAMPLE_A_UNITS),
+    ('sample A at depth 1', 3, 4, 1, SAMPLE_A, ONES, 12, 12, 96, 9, 7, 8, 0, 0, SAMPLE_A_UNITS_CUT),
+    ('1 by 1, code 1', 1, 1, 1, bytes([1]), ONES, 1, 1, 8, 1, 1, 1, 0, 0, [(0, 0, 1)]),
+    ('an outside cell is no unit', 1, 2, 1, bytes([0, 1]), ONES, 2, 2, 16, 1, 1, 1, 0, 0, [(0, 1, 1)]),
+    ('one unit too few', 3, 4, 2, SAMPLE_A, ONES, 12, 12, 96, 8, 9, 9, 3, 0, None),
+    ('one outlet too few', 3, 4, 2, SAMPLE_A, ONES, 12, 12, 96, 9, 8, 9, 3, 0, None),
+    ('one count too few', 3, 4, 2, SAMPLE_A, ONES, 12, 12, 96, 9, 9, 8, 3, 0, None),
+    ('7 before 3 of the index', 1, 2, 1, bytes([16, 1]), ONES, 2, 2, 16, 0, 0, 0, 7, 1, None),
+    ('counts of cells, whatever their weights', 1, 2, 1, bytes([16, 16]), [9], 2, 2, 16, 1, 1, 1, 0, 0, [(0, 0, 2)]),
+    ('17 before 3 of the index', 1, 1, 1, bytes([1]), [1001], 1, 1, 8, 0, 0, 0, 17, 0, None),
 ]
 
 LABELS = [label for label, outlet, count in SAMPLE_A_UNITS]
@@ -156,36 +177,86 @@ def sample_checks():
     areas = [0, 2, 1, 1, 11, 9, 4, 2, 1, 1, 1, 1]
     # The tributaries of cell 5 stand as 9, 10, 1: they get 4, 6, 8.
     labels = [0, 8, 8, 92, 1, 3, 91, 93, 2, 4, 6, 93]
-    yield 'label: sample A', label(3, 4, 2, SAMPLE_A, 12, 12, 96), (0, 0, areas, labels)
+    yield 'label: sample A', label(3, 4, 2, SAMPLE_A, ONES, 12, 12, 96), (0, 0, areas, labels)
     cut = [0, 8, 8, 9, 1, 3, 9, 9, 2, 4, 6, 9]
-    yield 'label: sample A at depth 1', label(3, 4, 1, SAMPLE_A, 12, 12, 96), (0, 0, areas, cut)
-    yield 'label: 1 by 1, code 1', label(1, 1, 1, bytes([1]), 1, 1, 8), (0, 0, [1], [0])
+    yield 'label: sample A at depth 1', label(3, 4, 1, SAMPLE_A, ONES, 12, 12, 96), (0, 0, areas, cut)
+    yield 'label: 1 by 1, code 1', label(1, 1, 1, bytes([1]), ONES, 1, 1, 8), (0, 0, [1], [0])
+
+
+# Three cells of row 0 and two of row 2 come together at the cell in row 1, column 0.
+NORTH_AND_SOUTH = bytes([0, 8, 16, 16, 16, 0, 0, 0, 0, 32, 16, 0])
+
+
+def weight_checks():
+    def labelled(weights):
+        return label(3, 4, 1, NORTH_AND_SOUTH, weights, 12, 12, 96)[2:]
+
+    north = [0, 3, 3, 3, 1, 0, 0, 0, 0, 2, 2, 0]  # the river comes from the north
+    south = [0, 2, 2, 2, 1, 0, 0, 0, 0, 3, 3, 0]
+    yield 'weights: counts', labelled([1, 1, 1]), ([0, 3, 2, 1, 6, 0, 0, 0, 0, 2, 1, 0], north)
+    yield 'weights: fewer cells', labelled([1, 9, 2]), ([0, 3, 2, 1, 16, 0, 0, 0, 0, 4, 2, 0], south)
+    yield 'weights: equal areas', labelled([2, 5, 3]), ([0, 6, 4, 2, 17, 0, 0, 0, 0, 6, 3, 0], south)
+    yield 'weights: one more', labelled([201, 5, 300]), ([0, 603, 402, 201, 1208, 0, 0, 0, 0, 600, 300, 0], north)
+    areas = label(256, 256, 1, bytes([16] * 256 + [64] * 65280), [1000] * 256, 65536, 65536, 8 * 65536)[2]
+    yield 'weights: the largest area', areas[0], 65536000
+    stored = [(CASES / (name + '.out')).read_bytes() for name in ('sample_a', 'weights_all_1')]
+    yield 'weights: all 1, the listing of none', *stored
 
 
 def intake_checks():
     cells = Intake('cells', 1, 1, 1, (b'row', b'col', b'dir'))
     ended = cells._replace(stage='ended')
-    dirs = bytearray([1, 7])
-    yield 'intake: a line after the end', take_line(ended, b'', dirs), (13, ended)
+    dirs, weights = bytearray([1, 7]), [8, 9]
+    yield 'intake: a line after the end', take_line(ended, b'', dirs, weights), (13, ended)
     yield 'intake: an end after the end', take_end(ended), (13, ended)
     yield 'intake: an end before cell names', take_end(Intake()), (14, Intake())
-    yield 'intake: labelling before the end', label_intake(cells, dirs, 0, 0, 0), (15, 0, None, None)
-    yield 'intake: an index before the end', index_intake(cells, dirs, 0, 0, 0, 0, 0, 0), (15, 0, None, None, None)
-    yield ('intake: an index after the end', index_intake(ended, bytes([1, 7]), 1, 1, 8, 1, 1, 1),
-           (0, 0, [1], [0], [(0, 0, 1)]))
-    yield 'intake: byte 10 in a line', take_line(Intake(), b'rows,cols,depth\n', dirs), (8, Intake())
-    yield 'intake: nothing lent, 3 before 8', take_line(cells, b'', bytearray()), (3, cells)
-    yield 'intake: refused lines write no byte', bytes(dirs), bytes([1, 7])
+    yield 'intake: labelling before the end', label_intake(cells, dirs, weights, 0, 0, 0), (15, 0, None, None)
+    yield ('intake: an index before the end', index_intake(cells, dirs, weights, 0, 0, 0, 0, 0, 0),
+           (15, 0, None, None, None))
+    yield ('intake: an index after the end', index_intake(ended, bytes([1, 7]), [5], 1, 1, 8, 1, 1, 1),
+           (0, 0, [5], [0], [(0, 0, 1)]))
+    yield 'intake: labelling with no weights lent', label_intake(ended, bytes([1]), [], 1, 1, 8), (3, 0, None, None)
+    yield 'intake: labelling with a bad weight', label_intake(ended, bytes([1]), [0], 1, 1, 8), (17, 0, None, None)
+    yield 'intake: byte 10 in a line', take_line(Intake(), b'rows,cols,depth\n', dirs, weights), (8, Intake())
+    yield 'intake: nothing lent, 3 before 8', take_line(cells, b'', bytearray(), weights), (3, cells)
+    yield 'intake: no weights lent, 3 before 8', take_line(cells, b'', dirs, []), (3, cells)
+    yield 'intake: refused lines write nothing', (bytes(dirs), list(weights)), (bytes([1, 7]), [8, 9])
     sizes = Intake('sizes', names=(b'rows', b'cols', b'depth'))
-    state = cells._replace(stage='cell names', names=sizes.names)
-    yield 'intake: sizes', take_line(sizes, b'1,1,1', dirs), (0, state)
-    yield 'intake: sizes set rows × columns bytes to 0', bytes(dirs), bytes([0, 7])
+    state = cells._replace(stage='weight or cell names', names=sizes.names)
+    yield 'intake: sizes, no weights lent', take_line(sizes, b'1,1,1', dirs, []), (3, sizes)
+    yield 'intake: sizes', take_line(sizes, b'1,1,1', dirs, weights), (0, state)
+    yield 'intake: sizes set their bytes to 0, weights to 1', (bytes(dirs), list(weights)), (bytes([0, 7]), [1, 9])
+
+
+def intake_weight_checks():
+    dirs, weights = bytearray([4, 5]), [8, 9, 0]
+    first = Intake('weights', 2, 1, 1, (b'weight',), 0)
+    second, names = first._replace(row=1), first._replace(stage='cell names')
+    yield 'intake: a weight of 0', take_line(first, b'0', dirs, weights), (17, first)
+    yield 'intake: refused weights write nothing', list(weights), [8, 9, 0]
+    yield 'intake: a weight', take_line(first, b'1000', dirs, weights), (0, second)
+    yield 'intake: it sets its own row', list(weights), [1000, 9, 0]
+    yield 'intake: the last weight', take_line(second, b'3', dirs, weights), (0, names)
+    yield 'intake: it sets its own row, and no byte', (list(weights), bytes(dirs)), ([1000, 3, 0], bytes([4, 5]))
+    yield 'intake: weight again', take_line(names, b'weight', dirs, weights), (8, names)
+    for state in (first, second, names, first._replace(stage='weight or cell names')):
+        yield 'intake: an end in the stage ' + state.stage, take_end(state), (14, state)
+    for row in (2, 3, 2 ** 64 - 1):
+        outside = first._replace(row=row)
+        for line in (b'', b'1', b'0', b'weight', b'row,col,dir', b'1\n', b'1' * 81):
+            yield 'intake: waits for row %d' % row, take_line(outside, line, dirs, weights), (9, outside)
+        yield 'intake: 1 before 9', take_line(outside._replace(rows=0), b'1', dirs, weights)[0], 1
+        yield 'intake: 2 before 9', take_line(outside._replace(depth=19), b'1', dirs, weights)[0], 2
+        yield 'intake: 3 before 9, directions', take_line(outside, b'1', dirs[:1], weights)[0], 3
+        yield 'intake: 3 before 9, weights', take_line(outside, b'1', dirs, weights[:1])[0], 3
+        yield 'intake: an end, waiting for row %d' % row, take_end(outside), (14, outside)
 
 
 def main():
     files = list(file_checks())
     checks = files + [('there are stored cases', len(files) > 0, True)]
-    checks += [*flow_checks(), *sheet_checks(), *sample_checks(), *index_checks(), *lookup_checks(), *intake_checks()]
+    checks += [*flow_checks(), *sheet_checks(), *sample_checks(), *weight_checks(), *index_checks(), *lookup_checks()]
+    checks += [*intake_checks(), *intake_weight_checks()]
     failures = [check for check in checks if check[1] != check[2]]
     for name, got, expected in failures:
         print(f'{name}: expected {expected!r:.200}, got {got!r:.200}')

@@ -86,6 +86,7 @@ def endless():
     with open('/dev/zero', 'rb') as zeros:
         expect('zero bytes without end', label(stdin=zeros) == Ended(b'refused,place\n8,1\n', b'', 1))
     beginnings = {b'rows,cols,depth\n3,4,2\nrow,col,dir\n0,0,16\nbad\n': b'8,5', b'rows,cols,depth\n0,4,2\n': b'1,2',
+                  b'rows,cols,depth\n3,4,2\nweight\n1\n0\n': b'17,5', b'rows,cols,depth\n1,4,2\nweight\n1\n1\n': b'8,5',
                   b'rows,cols,depth\n3,4,2\nrow,col,dir\n' + b'7' * 81: b'8,4'}
     for beginning, answer in beginnings.items():
         source, sink = os.pipe()

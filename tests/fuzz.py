@@ -4,18 +4,22 @@
 The input goes through a pipe in pieces cut at odd places. Seeded: the same --seed and --files make the same files.
 Prints each difference with the file that shows it, and at the end 'N passed, M failed'."""
 import argparse
+import collections
 import os
 import random
 import subprocess
 import sys
 import time
 
+sys.dont_write_bytecode = True
 sys.path.insert(0, os.path.dirname(os.path.abspath(__file__)))
 import reference
+import weights
 
 CODES = list(reference.STEPS)
 SIZE_NAMES = [b'rows', b'cols', b'depth']
 CELL_NAMES = [b'row', b'col', b'dir']
+WEIGHT = b'weight'
 
 
 # Sheets, as lists of direction bytes.
@@ -113,6 +117,12 @@ SHAPES = [grown, grown, grown, comb, snake, northwest, by_chance, spoiled, spoil
 # Fields that are put in place of others, good and bad.
 ODD_FIELDS = [b'0', b'00', b'01', b'19', b'256', b'257', b'99999', b'100000', b'3', b'128', b'255', b'', b'-1', b'+1',
               b'1 ', b' 1', b' ', b'        99999', b'         1', b'        100000', b' 00', b' 01', b'\t1']
+ODD_WEIGHTS = [b'0', b'1', b'1000', b'1001', b'65535', b'65536', b'65537', b'66536', b'99999', b'100000', b'00001',
+               b'01', b'1,1', b'1,', b',1', b'', b'-1', b'1.5', b'1 ', b' 1', b'        1000', b'         1000',
+               b'        1001', b'        0', b'1\t', WEIGHT]
+ODD_WEIGHT_NAMES = [b' weight', b'weight ', b'Weight', b'WEIGHT', b'weights', b'weigh', b'weight,', b',weight',
+                    b'weight,weight', b'weight,row', b'weight,weight,weight', b'row,col,weight', b'row,weight,dir',
+                    b'row,col,dir,weight', b'rows,cols,depth']
 
 
 def line(values):
@@ -134,7 +144,48 @@ def sheet_lines(rng):
             cells.append(dict(zip(CELL_NAMES, (cell // cols, cell % cols, code))))
     if rng.random() < 0.3:
         rng.shuffle(cells)
-    return [line(size_names), line(sizes[name] for name in size_names), line(cell_names)] + [line(cell[name] for name in cell_names) for cell in cells]
+    before = [line(size_names), line(sizes[name] for name in size_names)]
+    after = [line(cell_names)] + [line(cell[name] for name in cell_names) for cell in cells]
+    if rng.random() < 0.55:
+        return before + after
+    return with_weights(rng, before, weights.made(rng, rows, cols, dirs), after)
+
+
+def with_weights(rng, before, row_weights, after):
+    """The lines of a sheet with its weights; some of these damaged, some in a wrong place, some the end of the file."""
+    lines = [WEIGHT] + [b'%d' % weight for weight in row_weights]
+    if rng.random() < 0.25:
+        lines = damaged_weights(rng, lines)
+    kind = rng.random()
+    if kind < 0.03:
+        others = before + after
+        at = rng.choice([0, 1, 3, len(others), rng.randint(0, len(others))])
+        return others[:at] + lines + others[at:]
+    if kind < 0.06:
+        return before + lines[:rng.choice([0, 1, len(lines), rng.randint(0, len(lines))])]
+    return before + lines + after
+
+
+def damaged_weights(rng, lines):
+    """The names line `weight` and the lines of weights, with one thing wrong, or that may be wrong."""
+    lines = list(lines)
+    row = rng.choice([1, len(lines) - 1, rng.randrange(1, len(lines))])  # the line of some row
+    kind = rng.randrange(10)
+    if kind < 3:
+        lines[row] = b'%d' % rng.choice([0, 1001, rng.randint(1001, 99999), 65536 + rng.randint(1, 1000)])
+    elif kind < 5:
+        lines[row] = rng.choice(ODD_WEIGHTS)
+    elif kind == 5:
+        lines[0] = rng.choice(ODD_WEIGHT_NAMES)
+    elif kind == 6:
+        del lines[rng.choice([0, row])]
+    elif kind == 7:
+        lines.insert(row + 1, rng.choice(lines[1:]))
+    elif kind == 8:
+        lines.insert(rng.choice([0, row, row + 1, len(lines)]), WEIGHT)
+    else:
+        lines.append(lines.pop(0))
+    return lines
 
 
 def padded(rng, lines):
@@ -144,7 +195,7 @@ def padded(rng, lines):
     def value(text):
         return b' ' * (rng.choice([rng.randint(0, most), most]) if rng.random() < share else 0) + text
 
-    return [text if at in (0, 2) else b','.join(map(value, text.split(b','))) for at, text in enumerate(lines)]
+    return [text if text[:1].isalpha() else b','.join(map(value, text.split(b','))) for text in lines]
 
 
 def with_blanks(rng, text):
@@ -158,15 +209,22 @@ def with_blanks(rng, text):
     return b','.join(fields)
 
 
+def early_place(rng, lines):
+    """The place of a names line, of the sizes, of a weight, or of the first cell line."""
+    weight_lines = sum(b',' not in text for text in lines)
+    return rng.randrange(min(4 + weight_lines, len(lines)))
+
+
 def damaged(rng, lines):
     """Lines with one thing wrong, or that may be wrong."""
     lines = list(lines)
-    at = rng.randrange(len(lines)) if rng.random() < 0.6 else rng.randrange(min(4, len(lines)))
+    at = rng.randrange(len(lines)) if rng.random() < 0.6 else early_place(rng, lines)
     kind = rng.randrange(9)
     if kind == 0:
         lines[at] = lines[rng.randrange(len(lines))]
     elif kind == 1:
-        lines.insert(at, rng.choice([b'', b',', b'0,0,0', b'0,0,1', b'row,col,dir', b'rows,cols,depth', b'1' * 80, b'1' * 81, b' ']))
+        lines.insert(at, rng.choice([b'', b',', b'1', b'0,0,0', b'0,0,1', b'row,col,dir', b'rows,cols,depth', WEIGHT,
+                                     b'1' * 80, b'1' * 81, b' ']))
     elif kind == 2:
         del lines[at]
     elif kind == 3:
@@ -199,7 +257,7 @@ def a_file(rng):
     if rng.random() < 0.4:
         lines = padded(rng, lines)
     if rng.random() < 0.15:
-        at = rng.choice([0, 1, 1, 2, rng.randrange(len(lines))])
+        at = rng.choice([0, 1, early_place(rng, lines), early_place(rng, lines), rng.randrange(len(lines))])
         lines[at] = with_blanks(rng, lines[at])
     if rng.random() < 0.4:
         lines = damaged(rng, lines)
@@ -230,6 +288,26 @@ def run(program, rng, data):
     return out, err
 
 
+LISTING_KINDS = ['listings', 'with blanks', 'with weights', 'equal areas by weights',
+                 'another heaviest donor by weights']
+
+
+def kinds_of(data, answer):
+    """What is counted of a file: its answer; of a listing also blanks, weights, and what these change."""
+    if answer.startswith(b'refused'):
+        return [answer.split(b'\n')[1].split(b',')[0].decode()]
+    kinds = ['listings']
+    if b' ' in data:
+        kinds.append('with blanks')
+    if b'\n' + WEIGHT + b'\n' in data:
+        number, place, state, dirs, row_weights = reference.read_file(data)
+        areas = reference.label_intake(state, dirs, row_weights, *3 * [reference.WORK * reference.LENT])[2]
+        equal, other_heaviest = weights.effects(state.rows, state.cols, dirs, areas)
+        kinds.append('with weights')
+        kinds += ['equal areas by weights'] * equal + ['another heaviest donor by weights'] * other_heaviest
+    return kinds
+
+
 def main():
     parser = argparse.ArgumentParser(description=__doc__, formatter_class=argparse.RawDescriptionHelpFormatter)
     parser.add_argument('--files', type=int, default=1000)
@@ -237,23 +315,22 @@ def main():
     parser.add_argument('--program', default=os.path.join(os.path.dirname(os.path.abspath(__file__)), '..', 'target', 'bin', 'pfafstetter'))
     options = parser.parse_args()
     passed = failed = 0
-    kinds = {}
+    counts = collections.Counter()
     for number in range(options.files):
         rng = random.Random(options.seed * 1000003 + number)
         data = a_file(rng)
         expected = reference.report(data)
         out, err = run(options.program, rng, data)
-        kind = expected.split(b'\n')[1].split(b',')[0].decode() if expected.startswith(b'refused') else 'listing'
-        if kind == 'listing' and b' ' in data:
-            kind = 'listing of a file with blanks'
-        kinds[kind] = kinds.get(kind, 0) + 1
+        counts.update(kinds_of(data, expected))
         if out == expected and err == b'':
             passed += 1
             continue
         failed += 1
         if failed <= 5:
             print('file %d differs:\n input %r\n expected %r\n printed %r\n error %r' % (number, data[:2000], expected[:500], out[:500], err[:200]))
-    print('answers: ' + ', '.join('%s %d' % item for item in sorted(kinds.items())))
+    refusals = sorted(int(kind) for kind in counts if kind.isdigit())
+    print('refusals: ' + ', '.join('%d: %d' % (number, counts[str(number)]) for number in refusals))
+    print(', '.join('%s: %d' % (kind, counts[kind]) for kind in LISTING_KINDS))
     print('%d passed, %d failed' % (passed, failed))
     return 0 if failed == 0 and passed > 0 else 1
 

@@ -13,6 +13,7 @@ PROGRAM = os.path.join(HERE, '..', 'target', 'bin', 'pfafstetter')
 OPEN = [
     ('81 bytes without a line feed', bytes(81), b'refused,place\n8,1\n'),
     ('sizes out of bounds', b'rows,cols,depth\n0,4,2\n', b'refused,place\n1,2\n'),
+    ('a weight out of bounds', b'rows,cols,depth\n3,4,2\nweight\n1001\n', b'refused,place\n17,4\n'),
     ('81 bytes in the third line', b'rows,cols,depth\n3,4,2\n' + 81 * b'0', b'refused,place\n8,3\n'),
 ]
 

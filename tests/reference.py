@@ -10,22 +10,28 @@ OUTSIDE = 0
 MAX_SIDE = 256
 MAX_DEPTH = 18
 MAX_TAKEN = 4  # mouths taken from a unit
+MAX_WEIGHT = 1000
 LENT = 2048  # direction bytes that the program lends
+LENT_WEIGHTS = 256  # weights that the program lends
 WORK = 8  # work places for each cell
 MAX_BLANKS = 8  # blanks in front of a value
 
 SIZE_NAMES = [b'rows', b'cols', b'depth']
+WEIGHT_NAMES = [b'weight']
 CELL_NAMES = [b'row', b'col', b'dir']
 
 # The sheet.
 
-def size_refusal(rows, cols, depth, lent):
-    """The refusal of sizes by 1, 2, 3, with the count of lent direction bytes."""
+def size_refusal(rows, cols, depth, dirs_len, weights_len):
+    """The refusal of sizes by 1, 2, 3, with the counts of lent direction bytes and weights."""
     if not (1 <= rows <= MAX_SIDE and 1 <= cols <= MAX_SIDE):
         return 1
     if not 1 <= depth <= MAX_DEPTH:
         return 2
-    return 3 if lent < rows * cols else 0
+    return 3 if dirs_len < rows * cols or weights_len < rows else 0
+
+def is_weight(value):
+    return 1 <= value <= MAX_WEIGHT
 
 def step_end(rows, cols, dirs, cell):
     """The inside cell on which the step of an inside cell ends; None for an outlet."""
@@ -54,11 +60,11 @@ def upstream(donors, cells):
 
 # Areas, rivers, units.
 
-def areas_of(donors, drained):
-    """The area of each cell; `drained` holds the inside cells in the order of `upstream`."""
+def areas_of(cols, weights, donors, drained):
+    """The area of each cell; each row has a weight, and `drained` holds the inside cells in the order of `upstream`."""
     areas = [0] * len(donors)
     for cell in reversed(drained):
-        areas[cell] = 1 + sum(areas[donor] for donor in donors[cell])
+        areas[cell] = weights[cell // cols] + sum(areas[donor] for donor in donors[cell])
     return areas
 
 def river_list(donors, mouth):
@@ -90,9 +96,9 @@ def unit_cells(donors, unit):
 
 def labels_of(donors, areas, depth, outlet):
     """The label of each cell; 0 for outside cells."""
-    def weight(cell):  # heavier: the larger area, then the larger cell number
+    def order(cell):  # heavier: the larger area, then the larger cell number
         return areas[cell], cell
-    donors = [sorted(cells, key=weight) for cells in donors]
+    donors = [sorted(cells, key=order) for cells in donors]
     labels = [0] * len(donors)
     units = [(river_list(donors, outlet), 0, 0)]  # (unit, its digits as one number, count of digits)
     while units:
@@ -102,21 +108,23 @@ def labels_of(donors, areas, depth, outlet):
             for cell in unit_cells(donors, unit):
                 labels[cell] = digits
             continue
-        runs, mouths = split(unit, set(sorted(mouths, key=weight)[-MAX_TAKEN:]))
+        runs, mouths = split(unit, set(sorted(mouths, key=order)[-MAX_TAKEN:]))
         for place, run in enumerate(runs):
             units.append((run, 10 * digits + 2 * place + 1, count + 1))
         for place, mouth in enumerate(mouths):
             units.append((river_list(donors, mouth), 10 * digits + 2 * place + 2, count + 1))
     return labels
 
-def label(rows, cols, depth, dirs, areas_len, labels_len, work_len):
+def label(rows, cols, depth, dirs, weights, areas_len, labels_len, work_len):
     """Direct labelling: (number, place, areas, labels). Refused, areas and labels are None."""
-    number = size_refusal(rows, cols, depth, len(dirs))
+    number = size_refusal(rows, cols, depth, len(dirs), len(weights))
     n = rows * cols
     if number == 0 and (areas_len < n or labels_len < n or work_len < WORK * n):
         number = 3
     if number != 0:
         return number, 0, None, None
+    if not all(is_weight(weight) for weight in weights[:rows]):
+        return 17, 0, None, None
     for cell in range(n):
         if dirs[cell] != OUTSIDE and dirs[cell] not in STEPS:
             return 4, cell, None, None
@@ -129,7 +137,7 @@ def label(rows, cols, depth, dirs, areas_len, labels_len, work_len):
         return 6, min(set(inside) - set(drained)), None, None
     if len(outlets) > 1:
         return 7, outlets[1], None, None
-    areas = areas_of(donors, drained)
+    areas = areas_of(cols, weights, donors, drained)
     return 0, 0, areas, labels_of(donors, areas, depth, outlets[0])
 
 # The index of units, and the lookup in it.
@@ -162,9 +170,9 @@ def index_after(labelled, rows, cols, dirs, units_len, outlets_len, counts_len):
         return 3, 0, areas, labels, None
     return 0, 0, areas, labels, units
 
-def index(rows, cols, depth, dirs, areas_len, labels_len, work_len, units_len, outlets_len, counts_len):
+def index(rows, cols, depth, dirs, weights, areas_len, labels_len, work_len, units_len, outlets_len, counts_len):
     """Labels and indexes: (number, place, areas, labels, units). Refused, units are None; by labelling, the others too."""
-    labelled = label(rows, cols, depth, dirs, areas_len, labels_len, work_len)
+    labelled = label(rows, cols, depth, dirs, weights, areas_len, labels_len, work_len)
     return index_after(labelled, rows, cols, dirs, units_len, outlets_len, counts_len)
 
 def lookup(leading, labels):
@@ -201,11 +209,19 @@ def flow(depth, p, q):
 # The intake.
 
 class Intake(NamedTuple):
-    stage: str = 'size names'  # then 'sizes', 'cell names', 'cells', 'ended'
+    stage: str = 'size names'  # then 'sizes', 'weight or cell names', 'weights', 'cell names', 'cells', 'ended'
     rows: int = 0
     cols: int = 0
     depth: int = 0
     names: tuple = ()  # the names last accepted, in their order
+    row: int = 0  # in the stage 'weights' the row whose weight comes next
+
+# The names lines that a stage takes, each with the stage after it.
+NAMES_LINES = {
+    'size names': [(SIZE_NAMES, 'sizes')],
+    'weight or cell names': [(WEIGHT_NAMES, 'weights'), (CELL_NAMES, 'cells')],
+    'cell names': [(CELL_NAMES, 'cells')],
+}
 
 def is_value(text):
     """Is a field a value, with no more than the allowed blanks in front of it?"""
@@ -214,13 +230,29 @@ def is_value(text):
         return False
     return digits == b'0' or (digits.isdigit() and len(digits) <= 5 and digits[0] != ord('0'))
 
-def take_sizes(state, values, dirs):
+def take_names(state, fields):
+    for names, stage in NAMES_LINES[state.stage]:
+        if sorted(fields) == sorted(names):
+            return 0, state._replace(stage=stage, names=tuple(fields), row=0)
+    return 8, state
+
+def take_sizes(state, values, dirs, weights):
     rows, cols, depth = (values[name] for name in SIZE_NAMES)
-    number = size_refusal(rows, cols, depth, len(dirs))
+    number = size_refusal(rows, cols, depth, len(dirs), len(weights))
     if number != 0:
         return number, state
     dirs[:rows * cols] = bytes(rows * cols)
-    return 0, state._replace(stage='cell names', rows=rows, cols=cols, depth=depth)
+    weights[:rows] = [1] * rows
+    return 0, state._replace(stage='weight or cell names', rows=rows, cols=cols, depth=depth)
+
+def take_weight(state, values, weights):
+    weight, = (values[name] for name in WEIGHT_NAMES)
+    if not is_weight(weight):
+        return 17, state
+    weights[state.row] = weight
+    if state.row + 1 < state.rows:
+        return 0, state._replace(row=state.row + 1)
+    return 0, state._replace(stage='cell names', row=0)
 
 def take_cell(state, values, dirs):
     row, col, code = (values[name] for name in CELL_NAMES)
@@ -234,38 +266,48 @@ def take_cell(state, values, dirs):
     dirs[cell] = code
     return 0, state
 
-def take_line(state, line, dirs):
-    """Takes a line without its line feed: (number, next state). `dirs` is a bytearray."""
+def state_refusal(state, dirs, weights):
+    """The refusal of any line because of the state: 13; 1, 2, 3 for its sizes; 9 if it waits for a row outside them."""
     if state.stage == 'ended':
-        return 13, state
-    if state.stage in ('cell names', 'cells'):
-        number = size_refusal(state.rows, state.cols, state.depth, len(dirs))
-        if number != 0:
-            return number, state
-    fields = line.split(b',')
-    if len(line) > 80 or b'\n' in line or len(fields) != 3:
+        return 13
+    if state.stage in ('size names', 'sizes'):
+        return 0
+    number = size_refusal(state.rows, state.cols, state.depth, len(dirs), len(weights))
+    if number == 0 and state.stage == 'weights' and state.row >= state.rows:
+        return 9
+    return number
+
+def take_line(state, line, dirs, weights):
+    """Takes a line without its line feed: (number, next state). `dirs` is a bytearray, `weights` a list."""
+    number = state_refusal(state, dirs, weights)
+    if number != 0:
+        return number, state
+    if len(line) > 80 or b'\n' in line:
         return 8, state
-    if state.stage in ('size names', 'cell names'):
-        names, stage = (SIZE_NAMES, 'sizes') if state.stage == 'size names' else (CELL_NAMES, 'cells')
-        accepted = sorted(fields) == sorted(names)
-        return (0, state._replace(stage=stage, names=tuple(fields))) if accepted else (8, state)
-    if not all(is_value(field) for field in fields):
+    fields = line.split(b',')
+    if state.stage in NAMES_LINES:
+        return take_names(state, fields)
+    if len(fields) != len(state.names) or not all(is_value(field) for field in fields):
         return 8, state
     values = dict(zip(state.names, map(int, fields)))
-    return take_sizes(state, values, dirs) if state.stage == 'sizes' else take_cell(state, values, dirs)
+    if state.stage == 'sizes':
+        return take_sizes(state, values, dirs, weights)
+    if state.stage == 'weights':
+        return take_weight(state, values, weights)
+    return take_cell(state, values, dirs)
 
 def take_end(state):
     if state.stage == 'ended':
         return 13, state
     return (0, state._replace(stage='ended')) if state.stage == 'cells' else (14, state)
 
-def label_intake(state, dirs, areas_len, labels_len, work_len):
+def label_intake(state, dirs, weights, areas_len, labels_len, work_len):
     if state.stage != 'ended':
         return 15, 0, None, None
-    return label(state.rows, state.cols, state.depth, dirs, areas_len, labels_len, work_len)
+    return label(state.rows, state.cols, state.depth, dirs, weights, areas_len, labels_len, work_len)
 
-def index_intake(state, dirs, areas_len, labels_len, work_len, units_len, outlets_len, counts_len):
-    labelled = label_intake(state, dirs, areas_len, labels_len, work_len)
+def index_intake(state, dirs, weights, areas_len, labels_len, work_len, units_len, outlets_len, counts_len):
+    labelled = label_intake(state, dirs, weights, areas_len, labels_len, work_len)
     return index_after(labelled, state.rows, state.cols, dirs, units_len, outlets_len, counts_len)
 
 # The program.
@@ -282,17 +324,22 @@ def listing(cols, dirs, areas, labels):
     lines = [b'%d,%d,%d,%d\n' % (cell // cols, cell % cols, areas[cell], labels[cell]) for cell in cells]
     return b'row,col,area,label\n' + b''.join(lines)
 
+def read_file(data, lent=LENT):
+    """Takes the lines of a file and its end: (number, place, state, direction bytes, weights)."""
+    dirs, weights, state, lines = bytearray(lent), [0] * LENT_WEIGHTS, Intake(), lines_of(data)
+    for line_number, line in enumerate(lines, 1):
+        number, state = take_line(state, line, dirs, weights)
+        if number != 0:
+            return number, line_number, state, dirs, weights
+    number, state = take_end(state)
+    return number, len(lines) + 1, state, dirs, weights
+
 def report(data, lent=LENT):
     """What the program prints for the bytes of a file."""
-    dirs, state, lines = bytearray(lent), Intake(), lines_of(data)
-    for line_number, line in enumerate(lines, 1):
-        number, state = take_line(state, line, dirs)
-        if number != 0:
-            return refusal(number, line_number)
-    number, state = take_end(state)
+    number, place, state, dirs, weights = read_file(data, lent)
     if number != 0:
-        return refusal(number, len(lines) + 1)
-    number, place, areas, labels = label_intake(state, dirs, lent, lent, WORK * lent)
+        return refusal(number, place)
+    number, place, areas, labels = label_intake(state, dirs, weights, lent, lent, WORK * lent)
     return refusal(number, place) if number != 0 else listing(state.cols, dirs, areas, labels)
 
 if __name__ == '__main__':

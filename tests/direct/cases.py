@@ -2,8 +2,9 @@
 """Writes cases for tests/direct/direct.c to standard output: calls with what tests/reference.py expects of them.
 
 A case is a byte that names its call, then numbers of 8 bytes, lowest byte first, and slices.
-'L', labelling: rows, cols, depth and the lengths of directions, areas, labels and work places; these slices before the call; the answer
-(0, or refusal number + 256 x place); areas, labels and work places after it.
+'L', labelling: rows, cols, depth and the lengths of directions, weights, areas, labels and work places; these slices
+before the call; the answer (0, or refusal number + 256 x place); areas, labels and work places after it. Directions and
+weights must stay as they are.
 'I', the index: the same with three slices more, the labels, outlets and counts of units; accepted, the answer is 256 x the number of units.
 'P', a lookup: the leading digits, the length of the label slice, the slice, start and length before; the answer, start and length after.
 'F', the flow question: depth, p, q, the answer.
@@ -19,8 +20,10 @@ from array import array
 sys.dont_write_bytecode = True
 sys.path.insert(0, os.path.join(os.path.dirname(os.path.abspath(__file__)), '..'))
 import fuzz
+import lent_weights
 import lookups
 import reference
+import weights
 
 ANSWERS = {'No': 0, 'Yes': 1, 'Same': 2, 'Undecided': 3}
 PLACE = 256  # an answer is number + 256 x place
@@ -30,11 +33,12 @@ SAMPLE_A = [0, 4, 16, 8, 16, 16, 16, 16, 64, 64, 32, 64]
 
 # The kinds of cases of each call, and how many of each were made.
 ACCEPTED, REFUSED = 'accepted', 'refused by %d'
-LABEL_KINDS = [ACCEPTED] + [REFUSED % number for number in range(1, 8)]
+LABEL_KINDS = [ACCEPTED] + [REFUSED % number for number in (1, 2, 3, 17, 4, 5, 6, 7)]
 INDEX_KINDS = LABEL_KINDS + ['short ' + name for name in ('labels', 'outlets', 'counts', 'slices')] + ['longer slices', 'short slices unseen']
 tally = {
     'pf_label': dict.fromkeys(LABEL_KINDS, 0),
     'pf_index': dict.fromkeys(INDEX_KINDS, 0),
+    'weights': dict.fromkeys(lent_weights.KINDS, 0),
     'pf_lookup': dict.fromkeys(lookups.KINDS, 0),
     'pf_flow': dict.fromkeys([*ANSWERS] + [REFUSED % number for number in (2, 11, 12)], 0),
 }
@@ -42,7 +46,7 @@ tally = {
 
 def words(width, values):
     """Numbers of so many bytes as C lays them out."""
-    return array({4: 'I', 8: 'Q'}[width], values)
+    return array({2: 'H', 4: 'I', 8: 'Q'}[width], values)
 
 
 def numbers(values):
@@ -58,7 +62,7 @@ def written(places, values):
     return words(places.itemsize, values) + places[len(values):]
 
 
-# Sheets. A sheet is (rows, cols, depth); `lengths` are those of areas, labels and work places.
+# Sheets. A sheet is (rows, cols, depth); `lent` are its weights; `lengths` are those of areas, labels and work places.
 
 def labelled_places(sheet, labelled, areas, labels, work):
     """The slices of labelling after a call in which it gave `labelled`."""
@@ -70,28 +74,29 @@ def labelled_places(sheet, labelled, areas, labels, work):
     return [areas, labels, work]
 
 
-def write_case(out, call, sheet, dirs, before, answer, after):
-    out.write(call + numbers([*sheet, len(dirs), *map(len, before)]) + dirs)
+def write_case(out, call, sheet, dirs, lent, before, answer, after):
+    out.write(call + numbers([*sheet, len(dirs), len(lent), *map(len, before)]) + dirs + words(2, lent).tobytes())
     out.writelines(places.tobytes() for places in before)
     out.write(numbers([answer]))
     out.writelines(places.tobytes() for places in after)
 
 
-def label_case(out, rng, sheet, dirs, lengths, labelled):
+def label_case(out, rng, sheet, dirs, lent, lengths, labelled):
     number, place = labelled[:2]
     before = rubbish(rng, LABEL_WIDTHS, lengths)
-    write_case(out, b'L', sheet, dirs, before, number + PLACE * place, labelled_places(sheet, labelled, *before))
+    write_case(out, b'L', sheet, dirs, lent, before, number + PLACE * place, labelled_places(sheet, labelled, *before))
     tally['pf_label'][REFUSED % number if number else ACCEPTED] += 1
 
 
-def index_case(out, rng, sheet, dirs, lengths, index_lengths, labelled):
+def index_case(out, rng, sheet, dirs, lent, lengths, index_lengths, labelled):
     rows, cols, depth = sheet
     number, place, areas, labels, units = reference.index_after(labelled, rows, cols, dirs, *index_lengths)
     before = rubbish(rng, LABEL_WIDTHS + INDEX_WIDTHS, [*lengths, *index_lengths])
     after = labelled_places(sheet, labelled, *before[:3]) + before[3:]
     if number == 0:
         after[3:] = [written(places, values) for places, values in zip(before[3:], zip(*units))]
-    write_case(out, b'I', sheet, dirs, before, PLACE * len(units) if number == 0 else number + PLACE * place, after)
+    answer = PLACE * len(units) if number == 0 else number + PLACE * place
+    write_case(out, b'I', sheet, dirs, lent, before, answer, after)
     kinds = tally['pf_index']
     if labelled[0] == 0 and number == 3:
         count = len(reference.units_of(rows, cols, dirs, labels))
@@ -103,18 +108,20 @@ def index_case(out, rng, sheet, dirs, lengths, index_lengths, labelled):
         kinds['short slices unseen'] += number != 0 and max(index_lengths) == 0
 
 
-def sheet_cases(out, rng, rows, cols, depth, dirs, lengths=None, index_lengths=None):
+def sheet_cases(out, rng, rows, cols, depth, dirs, lent, lengths=None, index_lengths=None):
     """A labelling case and an index case of one sheet. Without lengths the slices of labelling are exact; without index lengths those of
     the index are chosen. Returns the labels of the inside cells and those of the units, none if labelling refused."""
     n = rows * cols
     sheet, dirs, lengths = (rows, cols, depth), bytes(dirs), lengths or [n, n, reference.WORK * n]
-    labelled = reference.label(rows, cols, depth, dirs, *lengths)
-    label_case(out, rng, sheet, dirs, lengths, labelled)
+    labelled = reference.label(rows, cols, depth, dirs, lent, *lengths)
+    for kind in lent_weights.kinds(sheet, dirs, lent, labelled):
+        tally['weights'][kind] += 1
+    label_case(out, rng, sheet, dirs, lent, lengths, labelled)
     inside, units = [], []
     if labelled[0] == 0:
         inside = [label for label, code in zip(labelled[3], dirs) if code != 0]
         units = [label for label, outlet, count in reference.units_of(rows, cols, dirs, labelled[3])]
-    index_case(out, rng, sheet, dirs, lengths, index_lengths or chosen_lengths(rng, len(units)), labelled)
+    index_case(out, rng, sheet, dirs, lent, lengths, index_lengths or chosen_lengths(rng, len(units)), labelled)
     return inside, units
 
 
@@ -144,11 +151,11 @@ def random_sheets(out, rng, count):
             dirs[rng.randrange(len(dirs))] = rng.randrange(256)
         n = rows * cols
         depth = rng.choice([1, 2, 3, 18, rng.randint(1, 18)])
-        lengths = None
+        lent, lengths = lent_weights.chosen(rng, rows, cols, dirs), None
         if rng.random() < 0.4:
             lengths = [length(rng, n), length(rng, n), length(rng, 8 * n)]
             dirs = dirs[:length(rng, n)] + [rng.randrange(256) for _ in range(max(0, length(rng, n) - n))]
-        inside, units = sheet_cases(out, rng, rows, cols, depth, dirs, lengths)
+        inside, units = sheet_cases(out, rng, rows, cols, depth, dirs, lent, lengths)
         for _ in range(3 if inside else 0):
             flow_case(out, depth, rng.choice(inside), rng.choice(inside))
         if units:
@@ -156,38 +163,74 @@ def random_sheets(out, rng, count):
     return indexes
 
 
-def boundaries(out, rng):
-    """Returns the label slices of the indexes of large sheets."""
+def size_boundaries(out, rng):
     for rows, cols, depth in [(0, 1, 1), (1, 0, 1), (257, 1, 1), (1, 257, 1), (256, 1, 1), (1, 256, 18), (1, 1, 0), (1, 1, 19), (1, 1, 1),
                               (2 ** 64 - 1, 1, 1), (1, 2 ** 64 - 1, 1), (2 ** 32, 2 ** 32, 1), (1, 1, 2 ** 64 - 1), (257, 1, 19), (0, 0, 0)]:
         n = rows * cols if rows <= 256 and cols <= 256 else 300
         dirs = [16 if cols and cell < cols else 64 for cell in range(n)]
-        sheet_cases(out, rng, rows, cols, depth, dirs, [n, n, 8 * n])
-    # Refused by labelling: the same whatever is lent for the index.
-    for index_lengths in ([0, 0, 0], [1, 1, 1], [5, 5, 5]):
-        for dirs in ([1], [0], [3], [255]):
-            sheet_cases(out, rng, 1, 1, 1, dirs, None, index_lengths)
-        for dirs in ([1, 16], [16, 1], [0, 0], [5, 0], [0, 5]):
-            sheet_cases(out, rng, 1, 2, 1, dirs, None, index_lengths)
-        sheet_cases(out, rng, 257, 1, 1, [4] * 257, None, index_lengths)
-        sheet_cases(out, rng, 1, 1, 19, [4], None, index_lengths)
-    for missing in range(4):
-        lengths = [12, 12, 12, 96]
+        for weight in (1, 0):
+            sheet_cases(out, rng, rows, cols, depth, dirs, [weight] * min(rows, 300), [n, n, 8 * n])
+    for missing in range(5):
+        lengths = [12, 3, 12, 12, 96]
         lengths[missing] -= 1
-        for index_lengths in ([0, 0, 0], [9, 9, 9], [12, 12, 12]):
-            sheet_cases(out, rng, 3, 4, 2, SAMPLE_A[:lengths[0]], lengths[1:], index_lengths)
-    for depth, count in [(1, 7), (2, 9), (18, 9)]:  # sample A and its number of units
+        for weight in (500, 1001):
+            for index_lengths in ([0, 0, 0], [9, 9, 9], [12, 12, 12]):
+                dirs, lent = SAMPLE_A[:lengths[0]], [weight] * lengths[1]
+                sheet_cases(out, rng, 3, 4, 2, dirs, lent, lengths[2:], index_lengths)
+
+
+def weight_boundaries(out, rng):
+    for rows in (1, 2, 3, 6):
+        dirs = fuzz.comb(rng, rows, 4)
+        for lent in lent_weights.edges(rng, rows, 4, dirs):
+            sheet_cases(out, rng, rows, 4, 18, dirs, lent)
+        dirs[-4:] = [0] * 4  # the last row has no inside cell
+        for lent in lent_weights.edges(rng, rows, 4, dirs):
+            sheet_cases(out, rng, rows, 4, 18, dirs, lent)
+
+
+def confluences(out, rng, count):
+    """Sheets with weights that make two donors of a cell equal, where such weights are found."""
+    for _ in range(count):
+        rows, cols = rng.randint(3, 20), rng.randint(3, 20)
+        dirs = rng.choice([fuzz.grown, fuzz.northwest])(rng, rows, cols)
+        lent = weights.equal_areas(rng, rows, cols, dirs)
+        sheet_cases(out, rng, rows, cols, rng.choice([1, 2, 3, 18]), dirs, lent)
+
+
+def refused_sheets(out, rng):
+    """Refused by labelling: the same whatever is lent for the index."""
+    for index_lengths in ([0, 0, 0], [1, 1, 1], [5, 5, 5]):
+        for weight in (1, 1000, 0, 1001, 65535):
+            for dirs in ([1], [0], [3], [255]):
+                sheet_cases(out, rng, 1, 1, 1, dirs, [weight], None, index_lengths)
+            for dirs in ([1, 16], [16, 1], [0, 0], [5, 0], [0, 5]):
+                sheet_cases(out, rng, 1, 2, 1, dirs, [weight], None, index_lengths)
+            sheet_cases(out, rng, 257, 1, 1, [4] * 257, [weight] * 257, None, index_lengths)
+            sheet_cases(out, rng, 1, 1, 19, [4], [weight], None, index_lengths)
+
+
+def index_boundaries(out, rng):
+    for depth, count in [(1, 7), (2, 9), (18, 9)]:  # sample A, whose rows weigh the same, and its number of units
+        lent = [rng.choice([1, 7, 1000])] * 3
         for index_lengths in ([count] * 3, [count + 1] * 3, [count - 1] * 3, [0] * 3):
-            sheet_cases(out, rng, 3, 4, depth, SAMPLE_A, None, index_lengths)
+            sheet_cases(out, rng, 3, 4, depth, SAMPLE_A, lent, None, index_lengths)
         for place in range(3):
             for other in (0, 1, count - 1, count + 1, 5 * count):
                 index_lengths = [count] * 3
                 index_lengths[place] = other
-                sheet_cases(out, rng, 3, 4, depth, SAMPLE_A, None, index_lengths)
+                sheet_cases(out, rng, 3, 4, depth, SAMPLE_A, lent, None, index_lengths)
+
+
+def large_sheets(out, rng):
+    """Returns the label slices of their indexes."""
+    kinds = [weights.all_largest, weights.any_weights, weights.equal_areas, weights.all_one]
     indexes = []
-    for shape in (fuzz.snake, fuzz.comb, fuzz.northwest, fuzz.grown, fuzz.by_chance):
-        for depth in (1, 3, 18):
-            inside, units = sheet_cases(out, rng, 256, 256, depth, shape(rng, 256, 256), None, [256 * 256] * 3)
+    for at, shape in enumerate([fuzz.snake, fuzz.comb, fuzz.northwest, fuzz.grown, fuzz.by_chance]):
+        for turn, depth in enumerate((1, 3, 18)):
+            dirs = shape(rng, 256, 256)
+            lent = kinds[(at + turn) % len(kinds)](rng, 256, 256, dirs)
+            inside, units = sheet_cases(out, rng, 256, 256, depth, dirs, lent, None, [256 * 256] * 3)
             indexes += [units] if len(units) > lookups.LARGE else []
     return indexes
 
@@ -231,8 +274,11 @@ def main():
     options = parser.parse_args()
     rng = random.Random(options.seed)
     out = sys.stdout.buffer
-    large_indexes = boundaries(out, rng)
+    for part in (size_boundaries, weight_boundaries, refused_sheets, index_boundaries):
+        part(out, rng)
+    large_indexes = large_sheets(out, rng)
     indexes = random_sheets(out, rng, options.sheets)
+    confluences(out, rng, options.sheets // 4)
     flow_questions(out, rng, options.sheets)
     lookup_questions(out, rng, options.lookups, indexes, large_indexes)
     out.flush()

@@ -54,25 +54,30 @@ static int as_expected(uint64_t which, struct lent *lent) {
     return good;
 }
 
-/* A call of pf_label, or of pf_index, which has three slices more. */
+/* A call of pf_label, or of pf_index, which has three slices more. Directions and weights must stay as they are. */
 static int sheet_case(uint64_t which, int is_index) {
-    struct lent lent[] = {{.name = "directions", .width = 1}, {.name = "areas", .width = 4}, {.name = "labels", .width = 8},
+    enum { DIRS, WEIGHTS, AREAS, LABELS, WORK, UNITS, OUTLETS, COUNTS, OF_INDEX, READ_ONLY = AREAS, OF_LABEL = UNITS };
+    struct lent lent[] = {{.name = "directions", .width = 1}, {.name = "weights", .width = 2},
+                          {.name = "areas", .width = 4}, {.name = "labels", .width = 8},
                           {.name = "work places", .width = 4}, {.name = "labels of units", .width = 8},
                           {.name = "outlets of units", .width = 4}, {.name = "counts of units", .width = 4}};
-    int count = is_index ? 7 : 4, good;
+    int count = is_index ? OF_INDEX : OF_LABEL, good;
     uint64_t rows = number(), cols = number(), depth = number(), expected, answer;
     for (int i = 0; i < count; i++) lent[i].length = number();
     for (int i = 0; i < count; i++) lent[i].places = slice(lent[i].width * lent[i].length);
     expected = number();
-    lent[0].expected = copy(lent[0].places, lent[0].length);
-    for (int i = 1; i < count; i++) lent[i].expected = slice(lent[i].width * lent[i].length);
+    for (int i = 0; i < READ_ONLY; i++) lent[i].expected = copy(lent[i].places, lent[i].width * lent[i].length);
+    for (int i = READ_ONLY; i < count; i++) lent[i].expected = slice(lent[i].width * lent[i].length);
     if (is_index)
-        answer = pf_index(rows, cols, depth, lent[0].places, lent[0].length, lent[1].places, lent[1].length, lent[2].places, lent[2].length,
-                          lent[3].places, lent[3].length, lent[4].places, lent[4].length, lent[5].places, lent[5].length, lent[6].places,
-                          lent[6].length);
+        answer = pf_index(rows, cols, depth, lent[DIRS].places, lent[DIRS].length, lent[WEIGHTS].places,
+                          lent[WEIGHTS].length, lent[AREAS].places, lent[AREAS].length, lent[LABELS].places,
+                          lent[LABELS].length, lent[WORK].places, lent[WORK].length, lent[UNITS].places,
+                          lent[UNITS].length, lent[OUTLETS].places, lent[OUTLETS].length, lent[COUNTS].places,
+                          lent[COUNTS].length);
     else
-        answer = pf_label(rows, cols, depth, lent[0].places, lent[0].length, lent[1].places, lent[1].length, lent[2].places, lent[2].length,
-                          lent[3].places, lent[3].length);
+        answer = pf_label(rows, cols, depth, lent[DIRS].places, lent[DIRS].length, lent[WEIGHTS].places,
+                          lent[WEIGHTS].length, lent[AREAS].places, lent[AREAS].length, lent[LABELS].places,
+                          lent[LABELS].length, lent[WORK].places, lent[WORK].length);
     good = answer == expected;
     if (!good)
         printf("case %" PRIu64 ", %s: %" PRIu64 " x %" PRIu64 ", depth %" PRIu64 ": answer %" PRIu64 ", expected %" PRIu64 "\n", which,

@@ -1,4 +1,5 @@
-// The tests of checks 1, 2 and 4 to 7: sizes, depth, and the first cell in reading order that a check looks for.
+// The tests of checks 1, 2, 17 and 4 to 7: sizes, depth, weights, and the first cell in reading order that a check looks
+// for.
 pub mod codes;
 
 use sheet::Found;
@@ -7,7 +8,7 @@ ghost use Prim.Native.Nat.{_+_, _*_, _≤_};
 ghost use lib.ListN.{length};
 ghost use Rattle.sheet.specs.Sheet.{grid, first};
 ghost use Rattle.directions.specs.Sizes.{OnSheet, Sized};
-ghost use Rattle.sheet.specs.Refusal.{within, sizesFit, depthFits};
+ghost use Rattle.sheet.specs.Refusal.{within, sizesFit, depthFits, weightFits, weightsFit};
 ghost use Rattle.checks.specs.Search.{isTarget};
 
 // What a search in reading order looks for: an inside cell, an inside cell that a search upstream did not reach, an
@@ -94,4 +95,27 @@ pub fn depth_fits(depth: usize) -> bool
     ensures { λ r. ⌜ r ≡ depthFits depth ⌝ }
 {
     is_within(18, depth)
+}
+
+// A weight: 1 to 1000.
+pub fn weight_fits(weight: u32) -> bool
+    ensures { λ r. ⌜ r ≡ weightFits weight ⌝ }
+{
+    is_within(1000, weight as usize)
+}
+
+// The weights of the rows, one each. Those past the rows are not looked at.
+pub fn weights_fit(weights: &[u16], rows: usize) -> bool
+    requires { ⌜ rows ≤ length (now weights) ⌝ }
+    ensures { λ r. ⌜ r ≡ weightsFit rows (now (weights .entry)) ⌝ }
+{
+    let mut row = 0;
+    while row < rows {
+        if weight_fits(weights[row] as u32) {
+            row += 1;
+        } else {
+            return false;
+        }
+    }
+    true
 }

@@ -16,7 +16,7 @@ use Rattle.claims.specs.Basin.{Ends, Forest}
 use Rattle.claims.specs.Bounds.{sum, ComesToOutlet, NeverComes, FuelIsEnough}
 use Rattle.claims.proofs.Lawful.{passes-true}
 use Rattle.claims.proofs.Counts.{count-mono, not-true}
-use Rattle.claims.proofs.Sums.{sum-mono, sum-has, count-sum}
+use Rattle.claims.proofs.Sums.{sum-mono, sum-has, sum-same as sum-over-same, count-sum}
 use Rattle.claims.proofs.Fuel.{passes-self, ends-within, reaches-ends, ends-reaches, ends-at, at-ends, ends-end}
 use Rattle.claims.proofs.Fuel.{passes-enough}
 use Rattle.claims.proofs.Areas.{area-sum}
@@ -124,29 +124,30 @@ module _ (S : Sheet) where
           → cond b (sumOver (cells G) (drainsInto G c) (weight S)) 0 ≡ sumOver (cells G) (drainsInto G c) (weight S)
       go b e = rw e
 
-  weight-some : (c : ℕ) → 1 ≤ weight S c
-  unfolding weight
-  weight-some c = omega arith
-
-  -- where every weight is 1, areas count cells
-  pub area-count : (c : ℕ) → inside G c ≡ true → area S c ≡ count (cells G) (drainsInto G c)
-  unfolding weight
-  area-count c i = area-inside c i ∙ sym (count-sum (cells G) (drainsInto G c))
-
-  pub area-least : (c : ℕ) → inside G c ≡ true → 1 ≤ area S c
-  area-least c i =
+  pub area-least : ((c : ℕ) → inside G c ≡ true → 1 ≤ weight S c) → (c : ℕ) → inside G c ≡ true → 1 ≤ area S c
+  area-least some c i =
       omega (
         arith,
         area-inside c i,
-        weight-some c,
+        some c i,
         sum-has (cells G) (drainsInto G c) (weight S) c (drains-itself G c i) (inside-lt G c i),
       )
 
   pub area-most : (c : ℕ) → inside G c ≡ true → area S c ≤ sumOver (cells G) (inside G) (weight S)
   area-most c i = rw (area-inside c i) (sum-mono (cells G) (inside G) (drainsInto G c) (weight S) (drains-inside G c))
 
-  pub area-most-cells : (c : ℕ) → inside G c ≡ true → area S c ≤ count (cells G) (inside G)
-  area-most-cells c i = rw (area-count c i) (count-mono (cells G) (inside G) (drainsInto G c) (drains-inside G c))
+  -- where every cell has the weight 1, areas count cells
+  pub area-count : ((c : ℕ) → c < cells G → weight S c ≡ 1) → (c : ℕ) → inside G c ≡ true
+      → area S c ≡ count (cells G) (drainsInto G c)
+  area-count ones c i =
+      area-inside c i
+      ∙ sum-over-same (cells G) (drainsInto G c) (drainsInto G c) (weight S) (λ q. 1) (λ q l. refl) ones
+      ∙ sym (count-sum (cells G) (drainsInto G c))
+
+  pub area-count-most : ((c : ℕ) → c < cells G → weight S c ≡ 1) → (c : ℕ) → inside G c ≡ true
+      → area S c ≤ count (cells G) (inside G)
+  area-count-most ones c i =
+      rw (area-count ones c i) (count-mono (cells G) (inside G) (drainsInto G c) (drains-inside G c))
 
   pub area-adds : Forest (network S) (λ c. inside G c ≡ true) → (c : ℕ) → inside G c ≡ true
       → area S c ≡ weight S c + sum (area S) (donors (network S) c)

@@ -1,5 +1,5 @@
 -- What it says of a sheet that the outcome accepts it: every check is passed, and its cells are a basin with one
--- outlet. checks 1 to 7, passed
+-- outlet.
 use mathlib.Core.Path.{_≡_, refl, sym, _∙_}
 use mathlib.Core.Bool.{Bool, true, false, cond, not, true≢false}
 use Prim.Native.Nat.{ℕ, suc, _≤_, _<_}
@@ -16,7 +16,8 @@ use Rattle.sheet.specs.Water.{reachesOutlet, Passes, here, there}
 use Rattle.sheet.specs.Label.{outlet}
 use Rattle.sheet.specs.River.{networkBy}
 use Rattle.sheet.specs.Refusal.{sizesFit, depthFits, slicesFit, badCode, undrained, outletFrom, firstAfter}
-use Rattle.sheet.specs.Refusal.{secondOutlet, refusedAt, refusedIfNone, outcomeOn, outcome, Lent}
+use Rattle.sheet.specs.Refusal.{secondOutlet, refusedAt, refusedIfNone, weightsFit, outcomeOn, outcomeFrom17, outcome}
+use Rattle.sheet.specs.Refusal.{Lent}
 use Rattle.sheet.specs.Sheet.{cells, inside, next, goesNowhere, isOutlet, first, Grid, Sheet}
 use Rattle.sheet.proofs.First.{NoneBelow, none-first, at-first, first-same, FirstAt}
 use Rattle.sheet.proofs.Cells.{inside-lt, next-goes}
@@ -25,10 +26,12 @@ use Rattle.claims.proofs.Units.{one-outlet}
 use Rattle.claims.proofs.Heavier.{heavier-counts}
 use Rattle.claims.proofs.Fuel.{reaches-ends, ends-at}
 
+-- checks 1 to 3, 17 and 4 to 7, passed
 pub record Passed (S : Sheet) (L : Lent) : Type 0 where
   pub sizes : sizesFit (S .grid .rows) (S .grid .cols) ≡ true
   pub depth : depthFits (S .depth) ≡ true
-  pub slices : slicesFit (S .grid) L ≡ true
+  pub slices : slicesFit S L ≡ true
+  pub weights : weightsFit (S .grid .rows) (S .weights) ≡ true
   pub rest : outcomeOn (S .grid) ≡ Accepted
 
 -- checks 4 to 7, by what they look for
@@ -42,13 +45,19 @@ if-passed : (n : ℕ) (b : Bool) {x : Outcome} → cond b x (Refused n 0) ≡ Ac
 if-passed n true e = (refl, e)
 if-passed n false e = let z : _≡_ {A = ℕ} 0 1 = cc in absurd (omega arith)
 
+pub accepted-from-17 : (S : Sheet) → outcomeFrom17 S ≡ Accepted
+    → (weightsFit (S .grid .rows) (S .weights) ≡ true) × (outcomeOn (S .grid) ≡ Accepted)
+unfolding outcomeFrom17
+accepted-from-17 S e = if-passed 17 (weightsFit (S .grid .rows) (S .weights)) e
+
 pub accepted-passed : (S : Sheet) (L : Lent) → outcome S L ≡ Accepted → Passed S L
 unfolding outcome
 accepted-passed S L e =
     let a = if-passed 1 (sizesFit (S .grid .rows) (S .grid .cols)) e in
     let b = if-passed 2 (depthFits (S .depth)) (a .1) in
-    let c = if-passed 3 (slicesFit (S .grid) L) (b .1) in
-    record { sizes = a .0; depth = b .0; slices = c .0; rest = c .1 }
+    let c = if-passed 3 (slicesFit S L) (b .1) in
+    let w = accepted-from-17 S (c .1) in
+    record { sizes = a .0; depth = b .0; slices = c .0; weights = w .0; rest = w .1 }
 
 not-found : (n : ℕ) (f : Found) {rest : Outcome} → refusedAt n f rest ≡ Accepted → (f ≡ Nothing) × (rest ≡ Accepted)
 unfolding refusedAt

@@ -2,7 +2,8 @@
 use mathlib.Core.Path.{_≡_, refl, sym, _∙_, ap}
 use mathlib.Core.Bool.{Bool, true, false, cond, true≢false}
 use mathlib.Core.Logic.{_⊎_, inl, inr, _≢_}
-use Prim.Native.Nat.{ℕ, zero, suc, _+_, _<_, _≤_}
+use Prim.Native.Nat.{ℕ, zero, suc, _+_, _*_, _<_, _≤_}
+use native.Mathlib.Nat.{suc-mul}
 use native.Mathlib.Decide.{ℕ-discrete}
 use native.Mathlib.Omega.{arith}
 use lib.Dec.{eqb}
@@ -89,11 +90,11 @@ sum-mono (suc n) t u f h = go (u n) (t n) (h n) (sum-mono n t u f h)
 pub sum-most : (n : ℕ) (t : ℕ → Bool) (f : ℕ → ℕ) → sumOver n t f ≤ sumOver n (λ q. true) f
 sum-most n t f = sum-mono n (λ q. true) t f (λ q e. refl)
 
--- values of at most 1 add up to at most n
-pub sum-ones : (n : ℕ) (f : ℕ → ℕ) → ((q : ℕ) → q < n → f q ≤ 1) → sumOver n (λ q. true) f ≤ n
+-- values of at most m each
+pub sum-each : (n m : ℕ) (f : ℕ → ℕ) → ((q : ℕ) → q < n → f q ≤ m) → sumOver n (λ q. true) f ≤ n * m
 unfolding sumOver
-sum-ones zero f h = omega arith
-sum-ones (suc n) f h = omega (arith, sum-ones n f (λ q l. h q (omega arith)), h n (omega arith))
+sum-each zero m f h = omega arith
+sum-each (suc n) m f h = omega (arith, sum-each n m f (λ q l. h q (omega arith)), h n (omega arith), suc-mul n m)
 
 sum-none : (n c : ℕ) (f : ℕ → ℕ) → n ≤ c → sumOver n (λ q. eqb q c) f ≡ 0
 unfolding sumOver

@@ -3,7 +3,7 @@
 use mathlib.Core.Path.{_≡_, refl, sym, _∙_, ap}
 use mathlib.Core.Bool.{Bool, true, false, cond}
 use mathlib.Core.List.{List}
-use Prim.Native.Nat.{ℕ}
+use Prim.Native.Nat.{ℕ, _<_, _≤_}
 use native.Mathlib.Omega.{arith}
 use lib.Dec.{eqb, leb}
 use borrow.Author.Tests.{eqb-true, eqb-false, le-leb}
@@ -14,21 +14,25 @@ use Rattle.sheet.specs.declared.Flow.the-variants.{Same}
 use Rattle.sheet.specs.Water.{Passes, DrainsTo}
 use Rattle.sheet.specs.Flow.{answerUnequal}
 use Rattle.sheet.specs.Label.{number, labelDigits, labelAt}
-use Rattle.sheet.specs.Area.{area}
+use Rattle.sheet.specs.Area.{sumOver, weight, area}
 use Rattle.sheet.specs.River.{network, least}
 use Rattle.sheet.specs.Refusal.{outcome, written, lentAfter, Lent}
-use Rattle.sheet.specs.Sheet.{next, Sheet}
+use Rattle.sheet.specs.Sheet.{cells, inside, next, Sheet}
+use Rattle.sheet.proofs.Cells.{cells-most, inside-lt, row-lt}
+use Rattle.sheet.proofs.Within.{cols-some, rows-cols-most}
+use Rattle.sheet.proofs.Weights.{cell-weight}
 use Rattle.claims.specs.Demand.{Inside, digitsAt, DemandThreeOf, OutletRuleOf, Shares, DemandThree, OutletRule}
 use Rattle.claims.specs.Flow.{asked, FlowMeaning}
-use Rattle.claims.specs.Bounds.{RiversAreWhole, AreaBounds, LabelBounds}
+use Rattle.claims.specs.Bounds.{RiversAreWhole, mostArea, AreaBounds, Unweighted, UnweightedAreas, LabelBounds}
 use Rattle.claims.specs.Parting.{PartAt, RuleAt}
 use Rattle.claims.proofs.Lawful.{yes, no}
 use Rattle.claims.proofs.Rivers.{river-whole}
 use Rattle.claims.proofs.DigitRule.{cell-rule}
 use Rattle.claims.proofs.Units.{drains-map, one-outlet}
 use Rattle.claims.proofs.Basins.{lawful, outlet-rule-holds, demand-three-holds, passes-rule}
-use Rattle.claims.proofs.GridLaws.{area-least, area-most, area-most-cells, area-adds}
-use Rattle.claims.proofs.Written.{the-basin, label-written, digits-written, label-from-outlet}
+use Rattle.claims.proofs.Sums.{sum-most, sum-each}
+use Rattle.claims.proofs.GridLaws.{area-least, area-most, area-count, area-count-most, area-adds}
+use Rattle.claims.proofs.Written.{checks, the-basin, label-written, digits-written, label-from-outlet}
 use Rattle.claims.proofs.Written.{digits-from-outlet, is-label, label-fits}
 use Rattle.claims.proofs.FlowMeaning.{the-answer, answer-at, Answered, answered-yes, answered-undecided}
 use Rattle.claims.proofs.FlowMeaning.{answered-no}
@@ -80,20 +84,29 @@ module _ (next : ℕ → Next) {inside : ℕ → Type 0} {digits written : ℕ �
         (D .rule p q i j o (drains-from-written (digits p) o (rw (same p i) at d)) k (rw (same p i, same q j) at t));
   }
 
--- every mouth counts
-counts : (S : Sheet) (v : ℕ) → Inside S v → leb (least S) (area S v) ≡ true
-unfolding least
-counts S v i = le-leb 1 (area S v) (area-least S v i)
-
 -- ---- demand 3 and the outlet rule
 module _ (S : Sheet) (L : Lent) (accepted : outcome S L ≡ Accepted) where
+  -- the weight of a cell
+  own-weight : (c : ℕ) → c < cells (S .grid) → (1 ≤ weight S c) × (weight S c ≤ 1000)
+  own-weight =
+      let p = checks S L accepted in
+      cell-weight S (cols-some (S .grid .rows) (S .grid .cols) (p .sizes)) (p .weights)
+
+  least-area : (c : ℕ) → Inside S c → 1 ≤ area S c
+  least-area = area-least S (λ c i. (own-weight c (inside-lt (S .grid) c i)) .0)
+
+  -- every mouth counts
+  counts : (v : ℕ) → Inside S v → leb (least S) (area S v) ≡ true
+  unfolding least
+  counts v i = le-leb 1 (area S v) (least-area v i)
+
   -- demand 3, whole
   pub demand-three : DemandThreeOf S (lentAfter S L .labels)
   unfolding network
   demand-three =
       same-demand (next (S .grid)) (digits-from-outlet S L accepted) (S .depth) (labelAt (lentAfter S L .labels))
       (λ p q i j e. label-from-outlet S L accepted p i ∙ ap number e ∙ sym (label-from-outlet S L accepted q j))
-      (demand-three-holds (the-basin S L accepted) (counts S) (S .depth))
+      (demand-three-holds (the-basin S L accepted) counts (S .depth))
 
   pub outlet-rule : OutletRuleOf S (lentAfter S L .labels)
   unfolding network
@@ -169,8 +182,26 @@ module _ (S : Sheet) (L : Lent) (accepted : outcome S L ≡ Accepted) where
 
   pub area-bounds : AreaBounds S
   area-bounds = record {
-    least = area-least S;
+    least = least-area;
     most = area-most S;
-    most-cells = area-most-cells S;
+    most-of-all = all-weights;
     donors-add = area-adds S (the-basin S L accepted .forest);
   }
+    where
+      all-weights : sumOver (cells (S .grid)) (inside (S .grid)) (weight S) ≤ mostArea
+      all-weights =
+          let m = rows-cols-most (S .grid .rows) (S .grid .cols) (checks S L accepted .sizes) in
+          omega (
+            arith,
+            cells-most (m .0) (m .1),
+            sum-most (cells (S .grid)) (inside (S .grid)) (weight S),
+            sum-each (cells (S .grid)) 1000 (weight S) (λ c l. (own-weight c l) .1),
+          )
+
+-- ---- sheets without weights
+pub unweighted-areas : (S : Sheet) → 0 < S .grid .cols → Unweighted S → UnweightedAreas S
+unfolding weight
+unweighted-areas S some ones = record { counts = area-count S each; most = area-count-most S each }
+  where
+    each : (c : ℕ) → c < cells (S .grid) → weight S c ≡ 1
+    each c l = ones _ (row-lt some l)

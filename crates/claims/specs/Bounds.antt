@@ -6,7 +6,8 @@ use mathlib.Core.Logic.{_↔_}
 use Prim.Native.Nat.{ℕ, suc, _+_, _≤_, _<_, _^_}
 use Rattle.sheet.specs.Sheet.{Grid, Sheet, cells, inside, next, isOutlet}
 use Rattle.sheet.specs.Water.{Passes, passes, reachesOutlet}
-use Rattle.sheet.specs.Area.{count, sumOver, weight, area}
+use lib.ListN.{getD}
+use Rattle.sheet.specs.Area.{count, sumOver, drainsInto, weight, area}
 use Rattle.sheet.specs.River.{network, donors, riverWithin, river}
 use Rattle.sheet.specs.Label.{outletOf, labelAt}
 use Rattle.sheet.specs.Refusal.{undrained}
@@ -39,14 +40,26 @@ unfoldable pub sum : (ℕ → ℕ) → List ℕ → ℕ
 sum f [] = 0
 sum f (u ∷ us) = f u + sum f us
 
+-- "it can reach 65,536,000"
+abbrev pub mostArea : ℕ
+mostArea = 65536000
+
 -- the areas of an accepted sheet
 pub record AreaBounds (S : Sheet) : Type 0 where
   pub least : (c : ℕ) → Inside S c → 1 ≤ area S c
-  -- the weights of all inside cells together, and, each being 1, the number of inside cells
+  -- the weights of all inside cells together, which are at most 256 × 256 × 1000
   pub most : (c : ℕ) → Inside S c → area S c ≤ sumOver (cells (S .grid)) (inside (S .grid)) (weight S)
-  pub most-cells : (c : ℕ) → Inside S c → area S c ≤ count (cells (S .grid)) (inside (S .grid))
+  pub most-of-all : sumOver (cells (S .grid)) (inside (S .grid)) (weight S) ≤ mostArea
   -- a cell's own weight, and the areas of its donors
   pub donors-add : (c : ℕ) → Inside S c → area S c ≡ weight S c + sum (area S) (donors (network S) c)
+
+-- "without weights each is 1": each area is then the count of inside cells, itself included, whose water passes it
+abbrev pub Unweighted : Sheet → Type 0
+Unweighted S = (row : ℕ) → row < S .grid .rows → getD (S .weights) row 0 ≡ 1
+
+pub record UnweightedAreas (S : Sheet) : Type 0 where
+  pub counts : (c : ℕ) → Inside S c → area S c ≡ count (cells (S .grid)) (drainsInto (S .grid) c)
+  pub most : (c : ℕ) → Inside S c → area S c ≤ count (cells (S .grid)) (inside (S .grid))
 
 -- the labels that were written for a sheet: no digit is 0, there are no more than the depth, and 64 bits hold them
 pub record LabelBounds (S : Sheet) (labels : List ℕ) : Type 0 where

@@ -14,7 +14,7 @@ use Rattle.sheet.specs.declared.Next.{Next}
 use Rattle.sheet.specs.declared.Next.the-variants.{Outlet, To}
 use Rattle.sheet.specs.Sheet.{Grid, Sheet, cells, dirAt, inside, next}
 use Rattle.sheet.specs.Water.{passes, Passes, here, there}
-use Rattle.sheet.specs.Area.{sumOver, drainsInto, area}
+use Rattle.sheet.specs.Area.{sumOver, drainsInto, weight, area}
 use Rattle.sheet.specs.Label.{listFrom, areasOf}
 use Rattle.sheet.specs.Refusal.{written}
 use Rattle.sheet.proofs.Cells.{inside-is, next-outside, next-to-lt, next-goes}
@@ -22,9 +22,9 @@ use Rattle.claims.proofs.Counts.{not-true}
 use Rattle.claims.proofs.Lawful.{passes-true}
 use Rattle.upstream.specs.Work.{sizesPart, rankOf, numbered, nextOfNumber, withSizes}
 use Rattle.upstream.specs.Search.{Drained}
-use Rattle.drainage.specs.Total.{total, nextIn, valueAt, Gathers, totalsIn, ownValue, ownValues, ones, size}
+use Rattle.drainage.specs.Total.{total, nextIn, valueAt, Gathers, totalsIn, ownValue, ownValues, ones, size, rowWeight}
 use Rattle.drainage.specs.Total.{sizesOf}
-use Rattle.claims.proofs.Sums.{sum-alike, sum-zero, sum-ones, count-sum}
+use Rattle.claims.proofs.Sums.{sum-alike, sum-zero, sum-each, count-sum}
 use Rattle.upstream.proofs.Queues.{reached-yes, reached-no}
 use Rattle.upstream.proofs.Upstream.{receiver-of, way-inside}
 use Rattle.sheet.proofs.Lists.{length-list}
@@ -104,14 +104,16 @@ module _ (G : Grid) where
         go true i = sum-alike (cells G) test (drainsInto G c) (ownValues (G .dirs) f) f (λ q h. own-drains c q h)
         go false i = sum-zero (cells G) test (ownValues (G .dirs) f) (λ q h. none i q (test q) refl)
 
-  -- with 1 for each cell it is the size, and the area of any sheet with this grid
+  -- with 1 for each cell it is the size
   sum-size : (c : ℕ) → sumInto G ones c ≡ size G c
   unfolding sumInto size
   sum-size c = rw (count-sum (cells G) (drainsInto G c)) refl
 
-  sum-area : (S : Sheet) → S .grid ≡ G → (c : ℕ) → sumInto G ones c ≡ area S c
-  unfolding sumInto area
-  sum-area S e c = rw e refl
+  -- with the weights of the rows it is the area of any sheet with this grid and these weights
+  sum-area : (weights : List ℕ) (S : Sheet) → S .grid ≡ G → S .weights ≡ weights → (c : ℕ)
+      → sumInto G (rowWeight (G .cols) weights) c ≡ area S c
+  unfolding sumInto area weight
+  sum-area weights S e w c = rw (e, w) refl
 
 -- ---- the slices
 
@@ -119,50 +121,59 @@ pub sizes-long : (G : Grid) → length (sizesOf G) ≡ cells G
 unfolding sizesOf
 sizes-long G = length-list (size G) 0 (cells G)
 
-module _ {G : Grid} {work : List ℕ} {queued : ℕ} (d : Drained G work queued) (old : List ℕ) where
-  -- what the cells add by themselves to counts
+module _ {G : Grid} {work : List ℕ} {queued : ℕ} (d : Drained G work queued) (f : ℕ → ℕ) (old : List ℕ) where
+  -- what the cells add by themselves, of values f
   abbrev own : List ℕ
-  own = filled (ownValues (G .dirs) ones) (cells G) old
+  own = filled (ownValues (G .dirs) f) (cells G) old
 
-  totals-are : (c : ℕ) → c < cells G → total (cells G) (nextIn (cells G) work) (valueAt own) c ≡ sumInto G ones c
+  totals-are : (c : ℕ) → c < cells G → total (cells G) (nextIn (cells G) work) (valueAt own) c ≡ sumInto G f c
   totals-are c l =
       total-same (λ q r h e. next-to-lt G q e) (next-in d) (valueAt own) c
-      ∙ total-alike (cells G) (next G) (valueAt own) (ownValues (G .dirs) ones) c
-      (λ q h. filled-at (ownValues (G .dirs) ones) (cells G) old q h)
-      ∙ total-own G ones c l
+      ∙ total-alike (cells G) (next G) (valueAt own) (ownValues (G .dirs) f) c
+      (λ q h. filled-at (ownValues (G .dirs) f) (cells G) old q h)
+      ∙ total-own G f c l
 
   -- the totals, where g gives them
-  totals-written : (g : ℕ → ℕ) → ((c : ℕ) → sumInto G ones c ≡ g c)
+  totals-written : (g : ℕ → ℕ) → ((c : ℕ) → sumInto G f c ≡ g c)
       → written (totalsIn (cells G) work (valueAt own)) own ≡ written (listFrom g 0 (cells G)) old
   unfolding totalsIn
   totals-written g same =
       ap (λ (l : List ℕ). written l own)
       (list-same (total (cells G) (nextIn (cells G) work) (valueAt own)) g (cells G) (λ c l. totals-are c l ∙ same c))
       ∙ ap (λ (l : List ℕ). listFrom g 0 (cells G) ++ l)
-      (rw (length-list g 0 (cells G)) (filled-kept (ownValues (G .dirs) ones) (cells G) old))
+      (rw (length-list g 0 (cells G)) (filled-kept (ownValues (G .dirs) f) (cells G) old))
 
-  pub sizes-written : written (totalsIn (cells G) work (valueAt own)) own ≡ written (sizesOf G) old
-  unfolding sizesOf
-  sizes-written = totals-written (size G) (sum-size G)
-
-  pub areas-written : (S : Sheet) → S .grid ≡ G
-      → written (totalsIn (cells G) work (valueAt own)) own ≡ written (areasOf S) old
-  unfolding areasOf
-  areas-written S e =
-      totals-written (area S) (sum-area G S e) ∙ ap (λ (H : Grid). written (listFrom (area S) 0 (cells H)) old) (sym e)
-
-  -- own counts are small enough to be gathered
-  pub own-gathers : cells G ≤ 65536 → cells G ≤ length old → Gathers (cells G) work queued own
-  own-gathers small room = record {
+  -- values of at most 1000 each are small enough to be gathered
+  pub own-gathers : ((c : ℕ) → c < cells G → f c ≤ 1000) → cells G ≤ 65536 → cells G ≤ length old
+      → Gathers (cells G) work queued own
+  own-gathers each small room = record {
     queue = d .searched .upstream .queue;
-    room = omega (arith, filled-long (ownValues (G .dirs) ones) (cells G) old room);
-    fits =
-        omega (
-          arith,
-          sum-ones (cells G) (valueAt own)
-              (λ q l. rw (filled-at (ownValues (G .dirs) ones) (cells G) old q l) (own-most (dirAt G q) 1)),
-        );
+    room = omega (arith, filled-long (ownValues (G .dirs) f) (cells G) old room);
+    fits = omega (arith, sum-each (cells G) 1000 (valueAt own) own-each);
   }
+    where
+      own-each : (q : ℕ) → q < cells G → valueAt own q ≤ 1000
+      own-each q l =
+          omega (
+            arith,
+            filled-at (ownValues (G .dirs) f) (cells G) old q l,
+            own-most (dirAt G q) (f q),
+            each q l,
+          )
+
+pub sizes-written : {G : Grid} {work : List ℕ} {queued : ℕ} (d : Drained G work queued) (old : List ℕ)
+    → written (totalsIn (cells G) work (valueAt (own d ones old))) (own d ones old) ≡ written (sizesOf G) old
+unfolding sizesOf
+sizes-written {G} d old = totals-written d ones old (size G) (sum-size G)
+
+pub areas-written : {G : Grid} {work : List ℕ} {queued : ℕ} (d : Drained G work queued) (weights old : List ℕ)
+    (S : Sheet) → S .grid ≡ G → S .weights ≡ weights
+    → written (totalsIn (cells G) work (valueAt (own d (rowWeight (G .cols) weights) old)))
+    (own d (rowWeight (G .cols) weights) old) ≡ written (areasOf S) old
+unfolding areasOf
+areas-written {G} d weights old S e w =
+    totals-written d (rowWeight (G .cols) weights) old (area S) (sum-area G weights S e w)
+    ∙ ap (λ (H : Grid). written (listFrom (area S) 0 (cells H)) old) (sym e)
 
 -- a slice that is written twice
 pub written-over : (new former old : List ℕ) → length former ≡ length new

@@ -2,7 +2,7 @@
 use mathlib.Core.Path.{_≡_}
 use mathlib.Core.Bool.{Bool, true, cond}
 use mathlib.Core.List.{List}
-use Prim.Native.Nat.{ℕ, zero, suc, _+_, _*_, _≤_, _<_, _^_}
+use Prim.Native.Nat.{ℕ, zero, suc, _+_, _*_, _/_, _≤_, _<_, _^_}
 use lib.Dec.{eqb}
 use lib.ListN.{getD, length, set}
 use Rattle.sheet.specs.declared.Next.{Next}
@@ -11,6 +11,7 @@ use Rattle.sheet.specs.Sheet.{Grid, cells, inside}
 use Rattle.sheet.specs.Water.{passes}
 use Rattle.sheet.specs.Area.{count, sumOver, drainsInto}
 use Rattle.sheet.specs.Label.{listFrom}
+use Rattle.sheet.specs.Refusal.{weightsFit}
 use Rattle.upstream.specs.Work.{sizesPart, isReached, receiverOf, nextOfNumber}
 use Rattle.upstream.specs.Search.{Queue}
 
@@ -61,6 +62,15 @@ ownValues dirs f c = ownValue (getD dirs c 0) (f c)
 -- the values of a count
 abbrev pub ones : ℕ → ℕ
 ones c = 1
+
+-- the weight of a cell's row
+abbrev pub rowWeight : ℕ → List ℕ → ℕ → ℕ
+rowWeight cols weights c = getD weights (c / cols) 0
+
+-- a weight for each row, and each fits
+pub record Weighted (rows : ℕ) (weights : List ℕ) : Type 0 where
+  pub room : rows ≤ length weights
+  pub fit : weightsFit rows weights ≡ true
 
 -- "size" of an inside cell: the count of inside cells whose water passes it; outside cells have size 0
 unfoldable pub size : Grid → ℕ → ℕ

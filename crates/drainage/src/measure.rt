@@ -10,24 +10,42 @@ ghost use Rattle.sheet.specs.Label.{areasOf, listFrom};
 ghost use Rattle.sheet.specs.Refusal.{written};
 ghost use Rattle.upstream.specs.Work.{positionsPart, receiverOf, withSizes};
 ghost use Rattle.upstream.specs.Search.{Drained};
-ghost use Rattle.drainage.specs.Total.{Gathers, Adds, added, totalsIn, valueAt, ownValue, ownValues, ones};
-ghost use Rattle.drainage.specs.Total.{sizesOf};
+ghost use Rattle.drainage.specs.Total.{Gathers, Adds, added, totalsIn, valueAt, ownValue, ownValues};
+ghost use Rattle.drainage.specs.Total.{rowWeight, Weighted, sizesOf};
 
-// What a cell counts by itself.
-fn own_count(code: u8) -> u32
-    ensures { λ r. ⌜ r ≡ ownValue code 1 ⌝ }
+// What a cell adds by itself: the value inside, 0 outside.
+fn own_value(code: u8, value: u32) -> u32
+    ensures { λ r. ⌜ r ≡ ownValue code value ⌝ }
 {
-    if code == 0 { 0 } else { 1 }
+    if code == 0 { 0 } else { value }
 }
 
-// Each cell's own count: 1 for an inside cell, 0 for each other.
-fn own_counts(dirs: &[u8], n: usize, totals: &mut [u32])
+// What each of the first n cells adds by itself, of one value for all.
+fn own_values(dirs: &[u8], value: u32, n: usize, totals: &mut [u32])
     requires { ⌜ (n ≤ length (now dirs)) × (n ≤ length (now totals)) ⌝ }
     ensures { λ _. ⌜ now (totals .exit)
-        ≡ written (listFrom (ownValues (now (dirs .entry)) ones) 0 n) (now (totals .entry)) ⌝ }
+        ≡ written (listFrom (ownValues (now (dirs .entry)) (λ c. value)) 0 n) (now (totals .entry)) ⌝ }
 {
     for c in 0..n {
-        totals[c] = own_count(dirs[c]);
+        totals[c] = own_value(dirs[c], value);
+    }
+}
+
+// What each cell adds by itself to areas: the weight of its row.
+fn own_weights(dirs: &[u8], rows: usize, cols: usize, weights: &[u16], totals: &mut [u32])
+    requires { ⌜ Sized rows cols (now dirs) × (rows ≤ length (now weights)) × (rows * cols ≤ length (now totals)) ⌝ }
+    ensures { λ _. ⌜ now (totals .exit)
+        ≡ written (listFrom (ownValues (now (dirs .entry)) (rowWeight cols (now (weights .entry)))) 0 (rows * cols))
+        (now (totals .entry)) ⌝ }
+{
+    for row in 0..rows {
+        let first = row * cols;
+        own_values(
+            &dirs[first..],
+            weights[row] as u32,
+            cols,
+            &mut totals[first..],
+        );
     }
 }
 
@@ -56,16 +74,23 @@ fn gather(work: &[u32], n: usize, queued: usize, totals: &mut [u32])
     }
 }
 
-// The areas of a drained sheet: of any sheet with this grid.
-fn areas(dirs: &[u8], rows: usize, cols: usize, work: &[u32], queued: usize, areas: &mut [u32])
+// The areas of a drained sheet: of any sheet with this grid and these weights.
+fn areas(
+    dirs: &[u8],
+    rows: usize,
+    cols: usize,
+    weights: &[u16],
+    work: &[u32],
+    queued: usize,
+    areas: &mut [u32],
+)
     requires { ⌜ Sized rows cols (now dirs) × Drained (grid rows cols (now dirs)) (now work) queued
-        × (rows * cols ≤ length (now areas)) ⌝ }
-    ensures { λ _. ⌜ ((S : Sheet) → S .grid ≡ grid rows cols (now (dirs .entry))
+        × Weighted rows (now weights) × (rows * cols ≤ length (now areas)) ⌝ }
+    ensures { λ _. ⌜ ((S : Sheet) → S .grid ≡ grid rows cols (now (dirs .entry)) → S .weights ≡ now (weights .entry)
         → now (areas .exit) ≡ written (areasOf S) (now (areas .entry))) ⌝ }
 {
-    let n = rows * cols;
-    own_counts(dirs, n, areas);
-    gather(work, n, queued, areas);
+    own_weights(dirs, rows, cols, weights, areas);
+    gather(work, rows * cols, queued, areas);
 }
 
 // Copies the first n places.
@@ -87,7 +112,7 @@ fn sizes(dirs: &[u8], rows: usize, cols: usize, work: &mut [u32], queued: usize,
         × (now (areas .exit) ≡ written (sizesOf (grid rows cols (now (dirs .entry)))) (now (areas .entry))) ⌝ }
 {
     let n = rows * cols;
-    own_counts(dirs, n, areas);
+    own_values(dirs, 1, n, areas);
     gather(work, n, queued, areas);
     let from = parts::SIZES * n;
     copy(areas, n, &mut work[from..]);
@@ -98,17 +123,19 @@ pub fn measure(
     dirs: &[u8],
     rows: usize,
     cols: usize,
+    weights: &[u16],
     work: &mut [u32],
     queued: usize,
     lent_areas: &mut [u32],
 )
     requires { ⌜ Sized rows cols (now dirs) × Drained (grid rows cols (now dirs)) (now work) queued
-        × (rows * cols ≤ length (now «lent_areas»)) × (positionsPart * (rows * cols) ≤ length (now work)) ⌝ }
+        × Weighted rows (now weights) × (rows * cols ≤ length (now «lent_areas»))
+        × (positionsPart * (rows * cols) ≤ length (now work)) ⌝ }
     ensures { λ _. ⌜ (now (work .exit)
         ≡ withSizes (rows * cols) (sizesOf (grid rows cols (now (dirs .entry)))) (now (work .entry)))
-        × ((S : Sheet) → S .grid ≡ grid rows cols (now (dirs .entry))
+        × ((S : Sheet) → S .grid ≡ grid rows cols (now (dirs .entry)) → S .weights ≡ now (weights .entry)
         → now («lent_areas» .exit) ≡ written (areasOf S) (now («lent_areas» .entry))) ⌝ }
 {
     sizes(dirs, rows, cols, work, queued, lent_areas);
-    areas(dirs, rows, cols, work, queued, lent_areas);
+    areas(dirs, rows, cols, weights, work, queued, lent_areas);
 }

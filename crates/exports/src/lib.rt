@@ -23,24 +23,25 @@ fn outcome_code(outcome: Outcome) -> u64
     }
 }
 
-// Labels a sheet.
+// Labels a sheet; `weights` has one for each row.
 #[no_mangle]
 pub extern "C" fn pf_label(
     rows: usize,
     cols: usize,
     depth: usize,
     dirs: &[u8],
+    weights: &[u16],
     areas: &mut [u32],
     labels: &mut [u64],
     work: &mut [u32],
 ) -> u64
-    ensures outcome { λ r. ⌜ r ≡ outcomeCode (outcome (sheet rows cols depth (now (dirs .entry)))
+    ensures outcome { λ r. ⌜ r ≡ outcomeCode (outcome (sheet rows cols depth (now (dirs .entry)) (now (weights .entry)))
         (lent (now (areas .entry)) (now (labels .entry)) (now (work .entry)))) ⌝ }
     ensures lent { λ _. ⌜ lent (now (areas .exit)) (now (labels .exit)) (now (work .exit))
-        ≡ lentAfter (sheet rows cols depth (now (dirs .entry)))
+        ≡ lentAfter (sheet rows cols depth (now (dirs .entry)) (now (weights .entry)))
         (lent (now (areas .entry)) (now (labels .entry)) (now (work .entry))) ⌝ }
 {
-    outcome_code(labelling::label(rows, cols, depth, dirs, areas, labels, work))
+    outcome_code(labelling::label(rows, cols, depth, dirs, weights, areas, labels, work))
 }
 
 // 256 × the number of units; else the refusal's number + 256 × its place.
@@ -61,6 +62,7 @@ pub extern "C" fn pf_index(
     cols: usize,
     depth: usize,
     dirs: &[u8],
+    weights: &[u16],
     areas: &mut [u32],
     labels: &mut [u64],
     work: &mut [u32],
@@ -68,14 +70,14 @@ pub extern "C" fn pf_index(
     outlets: &mut [u32],
     counts: &mut [u32],
 ) -> u64
-    ensures answer { λ r. ⌜ r ≡ indexedCode (indexed (sheet rows cols depth (now (dirs .entry)))
+    ensures answer { λ r. ⌜ r ≡ indexedCode (indexed (sheet rows cols depth (now (dirs .entry)) (now (weights .entry)))
         (lent (now (areas .entry)) (now (labels .entry)) (now (work .entry)))
         (lentIndex (now (units .entry)) (now (outlets .entry)) (now (counts .entry)))) ⌝ }
     ensures lent { λ _. ⌜ lent (now (areas .exit)) (now (labels .exit)) (now (work .exit))
-        ≡ lentAfter (sheet rows cols depth (now (dirs .entry)))
+        ≡ lentAfter (sheet rows cols depth (now (dirs .entry)) (now (weights .entry)))
         (lent (now (areas .entry)) (now (labels .entry)) (now (work .entry))) ⌝ }
     ensures index { λ _. ⌜ lentIndex (now (units .exit)) (now (outlets .exit)) (now (counts .exit))
-        ≡ indexAfter (sheet rows cols depth (now (dirs .entry)))
+        ≡ indexAfter (sheet rows cols depth (now (dirs .entry)) (now (weights .entry)))
         (lent (now (areas .entry)) (now (labels .entry)) (now (work .entry)))
         (lentIndex (now (units .entry)) (now (outlets .entry)) (now (counts .entry))) ⌝ }
 {
@@ -84,6 +86,7 @@ pub extern "C" fn pf_index(
         cols,
         depth,
         dirs,
+        weights,
         areas,
         labels,
         work,

@@ -1,17 +1,21 @@
 -- Worked indexes, computed from the definitions.
 use mathlib.Core.Path.{_≡_, refl}
-use mathlib.Core.List.{[], _∷_}
+use mathlib.Core.List.{List, [], _∷_}
 use Prim.Native.Nat.{ℕ, _*_}
 use lib.ListN.{replicate}
 use Rattle.sheet.specs.Sheet.{Grid, Sheet, grid}
-use Rattle.sheet.specs.Refusal.{Lent}
+use Rattle.sheet.specs.Refusal.{Lent, lentAfter}
 use Rattle.sheet.specs.Cases.{sampleA, confluences}
 use Rattle.index.specs.declared.Indexed.the-variants.{Units, Refused}
 use Rattle.index.specs.Units.{withLabel, distinctLabels, unitEntry, units}
 use Rattle.index.specs.Index.{LentIndex, lentIndex, indexed, indexAfter}
 
+-- a sheet with weights, and one without: each is then 1
+abbrev weightedSheet : Grid → ℕ → List ℕ → Sheet
+weightedSheet G depth weights = record { grid = G; depth = depth; weights = weights }
+
 abbrev sheet : Grid → ℕ → Sheet
-sheet G depth = record { grid = G; depth = depth }
+sheet G depth = weightedSheet G depth (replicate (G .rows) 1)
 
 -- what is lent for n cells, and for so many units, each place holding 7
 abbrev lentFor : ℕ → Lent
@@ -74,3 +78,55 @@ none-written = refl
 pub sample-a-accepted : indexed (sheet sampleA 2) (lentFor 12) (lentUnits 9) ≡ Units 9
 unfolding indexed
 sample-a-accepted = refl
+
+-- ---- weights
+
+-- the outlet is cell 2; cell 0, to which cell 1 flows, and cell 4 flow into it
+abbrev twoStreams : Grid
+twoStreams = grid 3 2 (4 ∷ 16 ∷ 16 ∷ 0 ∷ 64 ∷ 0 ∷ [])
+
+-- without weights the river is the stream of two cells
+pub without-weights : units (sheet twoStreams 1) ≡ unitEntry 1 2 1 ∷ unitEntry 2 4 1 ∷ unitEntry 3 0 2 ∷ []
+unfolding units
+without-weights = refl
+
+-- with weights it is cell 4, whose area is 5: labels and outlets are others, and counts are still of cells
+pub weights-choose : units (weightedSheet twoStreams 1 (1 ∷ 1 ∷ 5 ∷ []))
+    ≡ unitEntry 1 2 1 ∷ unitEntry 2 0 2 ∷ unitEntry 3 4 1 ∷ []
+unfolding units
+weights-choose = refl
+
+-- of equal areas, 2 and 2, the larger cell number is the river
+pub equal-areas : units (weightedSheet twoStreams 1 (1 ∷ 1 ∷ 2 ∷ []))
+    ≡ unitEntry 1 2 1 ∷ unitEntry 2 0 2 ∷ unitEntry 3 4 1 ∷ []
+unfolding units
+equal-areas = refl
+
+pub weighted-after : indexAfter (weightedSheet twoStreams 1 (1 ∷ 1 ∷ 5 ∷ [])) (lentFor 6) (lentUnits 4)
+    ≡ lentIndex (1 ∷ 2 ∷ 3 ∷ 7 ∷ []) (2 ∷ 0 ∷ 4 ∷ 7 ∷ []) (1 ∷ 2 ∷ 1 ∷ 7 ∷ [])
+unfolding indexAfter
+weighted-after = refl
+
+-- refused by 17 no place of the index, no area and no label is written, and the work places are 0
+pub weight-refused : indexed (weightedSheet twoStreams 1 (1 ∷ 0 ∷ 1 ∷ [])) (lentFor 6) (lentUnits 3) ≡ Refused 17 0
+unfolding indexed
+weight-refused = refl
+
+pub weight-refused-index : indexAfter (weightedSheet twoStreams 1 (1 ∷ 0 ∷ 1 ∷ [])) (lentFor 6) (lentUnits 3)
+    ≡ lentUnits 3
+unfolding indexAfter
+weight-refused-index = refl
+
+pub weight-refused-lent : lentAfter (weightedSheet twoStreams 1 (1 ∷ 0 ∷ 1 ∷ [])) (lentFor 6)
+    ≡ record { areas = replicate 6 7; labels = replicate 6 7; work = replicate 48 0 }
+unfolding lentAfter
+weight-refused-lent = refl
+
+-- 3 for too few weights is tested before 17, and 3 for too few places of the index after it
+pub slices-first : indexed (weightedSheet twoStreams 1 (1 ∷ 0 ∷ [])) (lentFor 6) (lentUnits 3) ≡ Refused 3 0
+unfolding indexed
+slices-first = refl
+
+pub weight-first : indexed (weightedSheet twoStreams 1 (1 ∷ 1 ∷ 1001 ∷ [])) (lentFor 6) (lentUnits 0) ≡ Refused 17 0
+unfolding indexed
+weight-first = refl

@@ -32,9 +32,8 @@ use Rattle.claims.proofs.Written.{checks, one-to-nine, at-most-depth, label-wri
 use Rattle.claims.proofs.Theorems.{demand-three}
 use Rattle.intake.specs.declared.Intake.{Intake}
 use Rattle.intake.specs.declared.Sizes.{Sizes}
-use Rattle.intake.specs.Intake.{endedSizes}
-use Rattle.labelling.specs.Labelling.{sheet}
-use Rattle.labelling.specs.FromIntake.{lentWith, intakeLent}
+use Rattle.intake.specs.Intake.{LentSheet, endedSizes}
+use Rattle.labelling.specs.FromIntake.{sheetOf, lentWith, intakeLent}
 use Rattle.lookup.specs.Lookup.{greatestDepth, startOf, lengthOf, lookupAnswer}
 use Rattle.lookup.specs.Exactly.{PairsRise, LookupFinds}
 use Rattle.lookup.proofs.Rising.{pairs-rising}
@@ -301,23 +300,21 @@ directly S L I L′ I′ count c =
     let f = index-filled S L I count (c .answer) in
     rw (c .lent, c .index, c .answer, f .all-units) (means S L (f .accepted) I)
 
-from-sizes : (i : Intake) (sizes : Option Sizes) (dirs : List ℕ) (L : Lent) (I : LentIndex) (L′ : Lent) (I′ : LentIndex)
-    (count : ℕ) → endedSizes (i .stage) ≡ sizes → indexedWith sizes dirs L I ≡ Units count
-    → L′ ≡ lentWith sizes dirs L → I′ ≡ indexWith sizes dirs L I → IndexMeaningFrom i dirs (L′ .labels) count I′
+from-sizes : (i : Intake) (sizes : Option Sizes) (T : LentSheet) (L : Lent) (I : LentIndex) (L′ : Lent) (I′ : LentIndex)
+    (count : ℕ) → endedSizes (i .stage) ≡ sizes → indexedWith sizes T L I ≡ Units count
+    → L′ ≡ lentWith sizes T L → I′ ≡ indexWith sizes T L I → IndexMeaningFrom i T (L′ .labels) count I′
 unfolding indexedWith lentWith indexWith
-from-sizes i none dirs L I L′ I′ count e a f g = let z : _≡_ {A = ℕ} 0 1 = cc in absurd (omega arith)
-from-sizes i (some z) dirs L I L′ I′ count e a f g = record {
+from-sizes i none T L I L′ I′ count e a f g = let z : _≡_ {A = ℕ} 0 1 = cc in absurd (omega arith)
+from-sizes i (some z) T L I L′ I′ count e a f g = record {
   sizes = z;
   ended = e;
-  meaning =
-      directly (sheet (z .rows) (z .cols) (z .depth) dirs) L I L′ I′ count
-      (record { answer = a; lent = f; index = g });
+  holds = directly (sheetOf z T) L I L′ I′ count (record { answer = a; lent = f; index = g });
 }
 
 pub index-meaning-whole : IndexMeaningWhole
 unfolding intakeIndexed intakeLent intakeIndexAfter
 index-meaning-whole = record {
   directly = directly;
-  from-intake = λ i dirs L I L′ I′ count c.
-      from-sizes i (endedSizes (i .stage)) dirs L I L′ I′ count refl (c .answer) (c .lent) (c .index);
+  from-intake = λ i T L I L′ I′ count c.
+      from-sizes i (endedSizes (i .stage)) T L I L′ I′ count refl (c .answer) (c .lent) (c .index);
 }

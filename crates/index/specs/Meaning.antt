@@ -1,7 +1,6 @@
 -- What the index as the call wrote it says of an accepted sheet.
 use mathlib.Core.Path.{_≡_}
 use mathlib.Core.Bool.{true}
-use mathlib.Core.Option.{some}
 use mathlib.Core.List.{List}
 -- some of these only must-fail edits need
 use Prim.Native.Nat.{ℕ, _+_, _≤_, _<_}
@@ -17,10 +16,9 @@ use Rattle.claims.specs.Dictionary.{isBefore}
 use Rattle.claims.specs.Bounds.{sum}
 use Rattle.claims.specs.Demand.{OneOutlet, Inside, digitsAt}
 use Rattle.intake.specs.declared.Intake.{Intake}
-use Rattle.intake.specs.declared.Sizes.{Sizes}
-use Rattle.intake.specs.Intake.{endedSizes}
-use Rattle.labelling.specs.Labelling.{sheet}
+use Rattle.intake.specs.Intake.{LentSheet}
 use Rattle.labelling.specs.FromIntake.{intakeLent}
+use Rattle.labelling.specs.Demand.{OfIntake}
 use Rattle.lookup.specs.Lookup.{greatestDepth}
 use Rattle.lookup.specs.Exactly.{LookupFinds}
 use Rattle.index.specs.declared.Indexed.the-variants.{Units}
@@ -76,21 +74,19 @@ pub record IndexedDirectly (S : Sheet) (L : Lent) (I : LentIndex) (L′ : Lent) 
   pub index : I′ ≡ indexAfter S L I
 
 -- and that of `index_intake`
-pub record IndexedFrom (i : Intake) (dirs : List ℕ) (L : Lent) (I : LentIndex) (L′ : Lent) (I′ : LentIndex) (units : ℕ)
+pub record IndexedFrom (i : Intake) (T : LentSheet) (L : Lent) (I : LentIndex) (L′ : Lent) (I′ : LentIndex) (units : ℕ)
     : Type 0 where
-  pub answer : intakeIndexed i dirs L I ≡ Units units
-  pub lent : L′ ≡ intakeLent i dirs L
-  pub index : I′ ≡ intakeIndexAfter i dirs L I
+  pub answer : intakeIndexed i T L I ≡ Units units
+  pub lent : L′ ≡ intakeLent i T L
+  pub index : I′ ≡ intakeIndexAfter i T L I
 
 -- about the sheet of an intake that had ended
-pub record IndexMeaningFrom (i : Intake) (dirs labels : List ℕ) (units : ℕ) (I : LentIndex) : Type 0 where
-  pub sizes : Sizes
-  pub ended : endedSizes (i .stage) ≡ some sizes
-  pub meaning : IndexMeaning (sheet (sizes .rows) (sizes .cols) (sizes .depth) dirs) labels units I
+abbrev pub IndexMeaningFrom : Intake → LentSheet → List ℕ → ℕ → LentIndex → Type 0
+IndexMeaningFrom i T labels units I = OfIntake (λ S written. IndexMeaning S written units I) i T labels
 
 -- what the index says, for all accepted sheets, however it was filled
 pub record IndexMeaningWhole : Type 1 where
   pub directly : (S : Sheet) (L : Lent) (I : LentIndex) (L′ : Lent) (I′ : LentIndex) (units : ℕ)
       → IndexedDirectly S L I L′ I′ units → IndexMeaning S (L′ .labels) units I′
-  pub from-intake : (i : Intake) (dirs : List ℕ) (L : Lent) (I : LentIndex) (L′ : Lent) (I′ : LentIndex) (units : ℕ)
-      → IndexedFrom i dirs L I L′ I′ units → IndexMeaningFrom i dirs (L′ .labels) units I′
+  pub from-intake : (i : Intake) (T : LentSheet) (L : Lent) (I : LentIndex) (L′ : Lent) (I′ : LentIndex) (units : ℕ)
+      → IndexedFrom i T L I L′ I′ units → IndexMeaningFrom i T (L′ .labels) units I′

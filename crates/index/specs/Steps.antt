@@ -5,7 +5,7 @@ use Prim.Native.Nat.{ℕ, _+_, _*_, _-_, _^_, _≤_, _<_}
 use lib.ListN.{length, getD, drop, replicate}
 use Rattle.sheet.specs.Sheet.{Sheet, cells}
 use Rattle.sheet.specs.Label.{areasOf, labelsOf, labelAt}
-use Rattle.sheet.specs.Refusal.{Lent, outcomeOn, ifAccepted}
+use Rattle.sheet.specs.Refusal.{Lent, outcomeFrom17, ifAccepted}
 use Rattle.directions.specs.Sizes.{mostCells}
 use Rattle.upstream.specs.Work.{cellsPart}
 use Rattle.order.specs.Places.{cellsIn}
@@ -46,8 +46,8 @@ pub record InOrder (n : ℕ) (work labels : List ℕ) (queued : ℕ) : Type 0 wh
 -- what the call leaves of a sheet that passed checks 1 to 3: L and I were lent, and L′ and I′ are what the slices hold
 -- then
 pub record IndexedFitting (S : Sheet) (L L′ : Lent) (I I′ : LentIndex) (r : Indexed) : Type 0 where
-  pub answer : r ≡ indexedOn (outcomeOn (S .grid)) (length (units S)) I
-  pub areas : L′ .areas ≡ ifAccepted (outcomeOn (S .grid)) (areasOf S) (L .areas)
-  pub labels : L′ .labels ≡ ifAccepted (outcomeOn (S .grid)) (labelsOf S) (L .labels)
+  pub answer : r ≡ indexedOn (outcomeFrom17 S) (length (units S)) I
+  pub areas : L′ .areas ≡ ifAccepted (outcomeFrom17 S) (areasOf S) (L .areas)
+  pub labels : L′ .labels ≡ ifAccepted (outcomeFrom17 S) (labelsOf S) (L .labels)
   pub work : L′ .work ≡ replicate (8 * cells (S .grid)) 0
   pub index : I′ ≡ ifIndexed r (units S) I

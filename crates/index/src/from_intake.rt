@@ -4,6 +4,7 @@ use crate::index;
 use intake::Intake;
 use intake::Stage;
 ghost use mathlib.Core.Path.{_≡_};
+ghost use Rattle.intake.specs.Intake.{lentSheet};
 ghost use Rattle.labelling.specs.Labelling.{lent};
 ghost use Rattle.labelling.specs.FromIntake.{intakeLent};
 ghost use Rattle.index.specs.Index.{lentIndex, indexedValues};
@@ -14,6 +15,7 @@ ghost use Rattle.index.specs.FromIntake.{intakeIndexed, intakeIndexAfter
 pub fn index_intake(
     intake: Intake,
     dirs: &[u8],
+    weights: &[u16],
     areas: &mut [u32],
     labels: &mut [u64],
     work: &mut [u32],
@@ -21,18 +23,18 @@ pub fn index_intake(
     outlets: &mut [u32],
     counts: &mut [u32],
 ) -> Indexed
-    ensures answer { λ r. ⌜ r ≡ intakeIndexed intake (now (dirs .entry))
+    ensures answer { λ r. ⌜ r ≡ intakeIndexed intake (lentSheet (now (dirs .entry)) (now (weights .entry)))
         (lent (now (areas .entry)) (now (labels .entry)) (now (work .entry)))
         (lentIndex (now (units .entry)) (now (outlets .entry)) (now (counts .entry))) ⌝ }
     ensures values { λ r. ⌜ indexedValues r
-        ≡ indexedValues (intakeIndexed intake (now (dirs .entry))
+        ≡ indexedValues (intakeIndexed intake (lentSheet (now (dirs .entry)) (now (weights .entry)))
         (lent (now (areas .entry)) (now (labels .entry)) (now (work .entry)))
         (lentIndex (now (units .entry)) (now (outlets .entry)) (now (counts .entry)))) ⌝ }
     ensures lent { λ _. ⌜ lent (now (areas .exit)) (now (labels .exit)) (now (work .exit))
-        ≡ intakeLent intake (now (dirs .entry))
+        ≡ intakeLent intake (lentSheet (now (dirs .entry)) (now (weights .entry)))
         (lent (now (areas .entry)) (now (labels .entry)) (now (work .entry))) ⌝ }
     ensures index { λ _. ⌜ lentIndex (now (units .exit)) (now (outlets .exit)) (now (counts .exit))
-        ≡ intakeIndexAfter intake (now (dirs .entry))
+        ≡ intakeIndexAfter intake (lentSheet (now (dirs .entry)) (now (weights .entry)))
         (lent (now (areas .entry)) (now (labels .entry)) (now (work .entry)))
         (lentIndex (now (units .entry)) (now (outlets .entry)) (now (counts .entry))) ⌝ }
 {
@@ -40,6 +42,8 @@ pub fn index_intake(
     match stage {
         Stage::WaitingForSizeNames => Indexed::Refused(15, 0),
         Stage::WaitingForSizes(_) => Indexed::Refused(15, 0),
+        Stage::WaitingForWeightOrCellNames(_) => Indexed::Refused(15, 0),
+        Stage::WaitingForWeight(_, _) => Indexed::Refused(15, 0),
         Stage::WaitingForCellNames(_) => Indexed::Refused(15, 0),
         Stage::TakingCells(_, _) => Indexed::Refused(15, 0),
         Stage::Ended(sizes) => {
@@ -48,6 +52,7 @@ pub fn index_intake(
                 sizes.cols,
                 sizes.depth,
                 dirs,
+                weights,
                 areas,
                 labels,
                 work,

@@ -57,6 +57,7 @@ fn index_fitting(
     cols: usize,
     depth: usize,
     dirs: &[u8],
+    weights: &[u16],
     areas: &mut [u32],
     labels: &mut [u64],
     work: &mut [u32],
@@ -64,16 +65,16 @@ fn index_fitting(
     outlets: &mut [u32],
     counts: &mut [u32],
 ) -> Indexed
-    requires { ⌜ Fitting (sheet rows cols depth (now dirs)) (lent (now areas) (now labels) (now work)) ⌝ }
-    requires { ⌜ firstChecks (sheet rows cols depth (now dirs)) (lent (now areas) (now labels) (now work))
+    requires { ⌜ Fitting (sheet rows cols depth (now dirs) (now weights)) (lent (now areas) (now labels) (now work)) ⌝ }
+    requires { ⌜ firstChecks (sheet rows cols depth (now dirs) (now weights)) (lent (now areas) (now labels) (now work))
         ≡ Outcome.Accepted ⌝ }
-    ensures { λ r. ⌜ IndexedFitting (sheet rows cols depth (now (dirs .entry)))
+    ensures { λ r. ⌜ IndexedFitting (sheet rows cols depth (now (dirs .entry)) (now (weights .entry)))
         (lent (now (areas .entry)) (now (labels .entry)) (now (work .entry)))
         (lent (now (areas .exit)) (now (labels .exit)) (now (work .exit)))
         (lentIndex (now (units .entry)) (now (outlets .entry)) (now (counts .entry)))
         (lentIndex (now (units .exit)) (now (outlets .exit)) (now (counts .exit))) r ⌝ }
 {
-    let found = labelling::label_in_order(rows, cols, depth, dirs, areas, labels, work);
+    let found = labelling::label_in_order(rows, cols, depth, dirs, weights, areas, labels, work);
     let answer = index_in_order(found, rows * cols, work, labels, units, outlets, counts);
     labelling::clear_places(work);
     answer
@@ -87,6 +88,7 @@ pub fn index(
     cols: usize,
     depth: usize,
     dirs: &[u8],
+    weights: &[u16],
     areas: &mut [u32],
     labels: &mut [u64],
     work: &mut [u32],
@@ -94,18 +96,18 @@ pub fn index(
     outlets: &mut [u32],
     counts: &mut [u32],
 ) -> Indexed
-    ensures answer { λ r. ⌜ r ≡ indexed (sheet rows cols depth (now (dirs .entry)))
+    ensures answer { λ r. ⌜ r ≡ indexed (sheet rows cols depth (now (dirs .entry)) (now (weights .entry)))
         (lent (now (areas .entry)) (now (labels .entry)) (now (work .entry)))
         (lentIndex (now (units .entry)) (now (outlets .entry)) (now (counts .entry))) ⌝ }
     ensures values { λ r. ⌜ indexedValues r
-        ≡ indexedValues (indexed (sheet rows cols depth (now (dirs .entry)))
+        ≡ indexedValues (indexed (sheet rows cols depth (now (dirs .entry)) (now (weights .entry)))
         (lent (now (areas .entry)) (now (labels .entry)) (now (work .entry)))
         (lentIndex (now (units .entry)) (now (outlets .entry)) (now (counts .entry)))) ⌝ }
     ensures lent { λ _. ⌜ lent (now (areas .exit)) (now (labels .exit)) (now (work .exit))
-        ≡ lentAfter (sheet rows cols depth (now (dirs .entry)))
+        ≡ lentAfter (sheet rows cols depth (now (dirs .entry)) (now (weights .entry)))
         (lent (now (areas .entry)) (now (labels .entry)) (now (work .entry))) ⌝ }
     ensures index { λ _. ⌜ lentIndex (now (units .exit)) (now (outlets .exit)) (now (counts .exit))
-        ≡ indexAfter (sheet rows cols depth (now (dirs .entry)))
+        ≡ indexAfter (sheet rows cols depth (now (dirs .entry)) (now (weights .entry)))
         (lent (now (areas .entry)) (now (labels .entry)) (now (work .entry)))
         (lentIndex (now (units .entry)) (now (outlets .entry)) (now (counts .entry))) ⌝ }
 {
@@ -114,6 +116,7 @@ pub fn index(
         cols,
         depth,
         dirs.len(),
+        weights.len(),
         areas.len(),
         labels.len(),
         work.len(),
@@ -125,6 +128,7 @@ pub fn index(
                 cols,
                 depth,
                 dirs,
+                weights,
                 areas,
                 labels,
                 &mut work[..places],

@@ -1,7 +1,7 @@
 -- The definitions tried by computation: document 01's sample A line by line, one line for each refusal, and the
 -- boundaries.
 use mathlib.Core.Path.{_≡_, refl}
-use mathlib.Core.List.{List, [], _∷_}
+use mathlib.Core.List.{List, [], _∷_, _++_}
 use Prim.Native.Nat.{ℕ}
 use lib.ListN.{replicate}
 use Rattle.decimal.specs.Ascii.{ascii}
@@ -9,10 +9,12 @@ use Rattle.lines.specs.declared.columns.Column.the-variants.{Rows, Cols, Depth,
 use Rattle.names.specs.Columns.{sizeColumns, cellColumns}
 use Rattle.intake.specs.declared.Sizes.{Sizes}
 use Rattle.intake.specs.declared.Stage.{Stage}
-use Rattle.intake.specs.declared.Stage.the-variants.{WaitingForSizeNames, WaitingForSizes, WaitingForCellNames}
-use Rattle.intake.specs.declared.Stage.the-variants.{TakingCells, Ended}
+use Rattle.intake.specs.declared.Stage.the-variants.{WaitingForSizeNames, WaitingForSizes}
+use Rattle.intake.specs.declared.Stage.the-variants.{WaitingForWeightOrCellNames, WaitingForWeight}
+use Rattle.intake.specs.declared.Stage.the-variants.{WaitingForCellNames, TakingCells, Ended}
 use Rattle.intake.specs.declared.Intake.{Intake}
-use Rattle.intake.specs.Intake.{After, accepted, refused, accept, refuse, lineAfter, endTaken, newIntake}
+use Rattle.intake.specs.Intake.{LentSheet, lentSheet, After, accepted, refused, accept, refuse, lineAfter}
+use Rattle.intake.specs.Intake.{endTaken, newIntake}
 
 abbrev pub sizesOf : ℕ → ℕ → ℕ → Sizes
 sizesOf rows cols depth = record { rows = rows; cols = cols; depth = depth }
@@ -23,6 +25,12 @@ in-stage stage = record { stage = stage }
 -- the stages of a sheet of 3 by 4 cells to depth 2, with the columns in the order of sample A
 abbrev pub atSizes : Stage
 atSizes = WaitingForSizes sizeColumns
+
+abbrev pub atNames : Stage
+atNames = WaitingForWeightOrCellNames (sizesOf 3 4 2)
+
+abbrev pub atWeight : ℕ → Stage
+atWeight row = WaitingForWeight (sizesOf 3 4 2) row
 
 abbrev pub atCellNames : Stage
 atCellNames = WaitingForCellNames (sizesOf 3 4 2)
@@ -36,10 +44,10 @@ atEnd = Ended (sizesOf 3 4 2)
 -- ---- sample A
 
 -- what lines leave, one after the other
-unfoldable pub trace : Intake → List ℕ → List (List ℕ) → List After
+unfoldable pub trace : Intake → LentSheet → List (List ℕ) → List After
 unfolding lineAfter
-trace i dirs [] = []
-trace i dirs (line ∷ lines) = let a : After = lineAfter i line dirs in a ∷ trace (a .taken .intake) (a .dirs) lines
+trace i lent [] = []
+trace i lent (line ∷ lines) = let a : After = lineAfter i line lent in a ∷ trace (a .taken .intake) (a .lent) lines
 
 abbrev pub sampleA : List (List ℕ)
 sampleA =
@@ -59,185 +67,204 @@ sampleA =
     ∷ ascii "2,3,64"
     ∷ []
 
--- 12 bytes for the sheet, and one more, which no line changes
-pub sample-A : trace newIntake (replicate 13 7) sampleA ≡
-    accept atSizes (replicate 13 7)
-    ∷ accept atCellNames (0 ∷ 0 ∷ 0 ∷ 0 ∷ 0 ∷ 0 ∷ 0 ∷ 0 ∷ 0 ∷ 0 ∷ 0 ∷ 0 ∷ 7 ∷ [])
-    ∷ accept atCells (0 ∷ 0 ∷ 0 ∷ 0 ∷ 0 ∷ 0 ∷ 0 ∷ 0 ∷ 0 ∷ 0 ∷ 0 ∷ 0 ∷ 7 ∷ [])
-    ∷ accept atCells (0 ∷ 4 ∷ 0 ∷ 0 ∷ 0 ∷ 0 ∷ 0 ∷ 0 ∷ 0 ∷ 0 ∷ 0 ∷ 0 ∷ 7 ∷ [])
-    ∷ accept atCells (0 ∷ 4 ∷ 16 ∷ 0 ∷ 0 ∷ 0 ∷ 0 ∷ 0 ∷ 0 ∷ 0 ∷ 0 ∷ 0 ∷ 7 ∷ [])
-    ∷ accept atCells (0 ∷ 4 ∷ 16 ∷ 8 ∷ 0 ∷ 0 ∷ 0 ∷ 0 ∷ 0 ∷ 0 ∷ 0 ∷ 0 ∷ 7 ∷ [])
-    ∷ accept atCells (0 ∷ 4 ∷ 16 ∷ 8 ∷ 16 ∷ 0 ∷ 0 ∷ 0 ∷ 0 ∷ 0 ∷ 0 ∷ 0 ∷ 7 ∷ [])
-    ∷ accept atCells (0 ∷ 4 ∷ 16 ∷ 8 ∷ 16 ∷ 16 ∷ 0 ∷ 0 ∷ 0 ∷ 0 ∷ 0 ∷ 0 ∷ 7 ∷ [])
-    ∷ accept atCells (0 ∷ 4 ∷ 16 ∷ 8 ∷ 16 ∷ 16 ∷ 16 ∷ 0 ∷ 0 ∷ 0 ∷ 0 ∷ 0 ∷ 7 ∷ [])
-    ∷ accept atCells (0 ∷ 4 ∷ 16 ∷ 8 ∷ 16 ∷ 16 ∷ 16 ∷ 16 ∷ 0 ∷ 0 ∷ 0 ∷ 0 ∷ 7 ∷ [])
-    ∷ accept atCells (0 ∷ 4 ∷ 16 ∷ 8 ∷ 16 ∷ 16 ∷ 16 ∷ 16 ∷ 64 ∷ 0 ∷ 0 ∷ 0 ∷ 7 ∷ [])
-    ∷ accept atCells (0 ∷ 4 ∷ 16 ∷ 8 ∷ 16 ∷ 16 ∷ 16 ∷ 16 ∷ 64 ∷ 64 ∷ 0 ∷ 0 ∷ 7 ∷ [])
-    ∷ accept atCells (0 ∷ 4 ∷ 16 ∷ 8 ∷ 16 ∷ 16 ∷ 16 ∷ 16 ∷ 64 ∷ 64 ∷ 32 ∷ 0 ∷ 7 ∷ [])
-    ∷ accept atCells (0 ∷ 4 ∷ 16 ∷ 8 ∷ 16 ∷ 16 ∷ 16 ∷ 16 ∷ 64 ∷ 64 ∷ 32 ∷ 64 ∷ 7 ∷ [])
+-- Without weights each is 1. There are 12 bytes and 3 weights for the sheet, and one more of each, which no line
+-- changes.
+abbrev pub ones : List ℕ → LentSheet
+ones dirs = lentSheet dirs (1 ∷ 1 ∷ 1 ∷ 8 ∷ [])
+
+pub sample-A : trace newIntake (lentSheet (replicate 13 7) (replicate 4 8)) sampleA ≡
+    accept atSizes (lentSheet (replicate 13 7) (replicate 4 8))
+    ∷ accept atNames (ones (0 ∷ 0 ∷ 0 ∷ 0 ∷ 0 ∷ 0 ∷ 0 ∷ 0 ∷ 0 ∷ 0 ∷ 0 ∷ 0 ∷ 7 ∷ []))
+    ∷ accept atCells (ones (0 ∷ 0 ∷ 0 ∷ 0 ∷ 0 ∷ 0 ∷ 0 ∷ 0 ∷ 0 ∷ 0 ∷ 0 ∷ 0 ∷ 7 ∷ []))
+    ∷ accept atCells (ones (0 ∷ 4 ∷ 0 ∷ 0 ∷ 0 ∷ 0 ∷ 0 ∷ 0 ∷ 0 ∷ 0 ∷ 0 ∷ 0 ∷ 7 ∷ []))
+    ∷ accept atCells (ones (0 ∷ 4 ∷ 16 ∷ 0 ∷ 0 ∷ 0 ∷ 0 ∷ 0 ∷ 0 ∷ 0 ∷ 0 ∷ 0 ∷ 7 ∷ []))
+    ∷ accept atCells (ones (0 ∷ 4 ∷ 16 ∷ 8 ∷ 0 ∷ 0 ∷ 0 ∷ 0 ∷ 0 ∷ 0 ∷ 0 ∷ 0 ∷ 7 ∷ []))
+    ∷ accept atCells (ones (0 ∷ 4 ∷ 16 ∷ 8 ∷ 16 ∷ 0 ∷ 0 ∷ 0 ∷ 0 ∷ 0 ∷ 0 ∷ 0 ∷ 7 ∷ []))
+    ∷ accept atCells (ones (0 ∷ 4 ∷ 16 ∷ 8 ∷ 16 ∷ 16 ∷ 0 ∷ 0 ∷ 0 ∷ 0 ∷ 0 ∷ 0 ∷ 7 ∷ []))
+    ∷ accept atCells (ones (0 ∷ 4 ∷ 16 ∷ 8 ∷ 16 ∷ 16 ∷ 16 ∷ 0 ∷ 0 ∷ 0 ∷ 0 ∷ 0 ∷ 7 ∷ []))
+    ∷ accept atCells (ones (0 ∷ 4 ∷ 16 ∷ 8 ∷ 16 ∷ 16 ∷ 16 ∷ 16 ∷ 0 ∷ 0 ∷ 0 ∷ 0 ∷ 7 ∷ []))
+    ∷ accept atCells (ones (0 ∷ 4 ∷ 16 ∷ 8 ∷ 16 ∷ 16 ∷ 16 ∷ 16 ∷ 64 ∷ 0 ∷ 0 ∷ 0 ∷ 7 ∷ []))
+    ∷ accept atCells (ones (0 ∷ 4 ∷ 16 ∷ 8 ∷ 16 ∷ 16 ∷ 16 ∷ 16 ∷ 64 ∷ 64 ∷ 0 ∷ 0 ∷ 7 ∷ []))
+    ∷ accept atCells (ones (0 ∷ 4 ∷ 16 ∷ 8 ∷ 16 ∷ 16 ∷ 16 ∷ 16 ∷ 64 ∷ 64 ∷ 32 ∷ 0 ∷ 7 ∷ []))
+    ∷ accept atCells (ones (0 ∷ 4 ∷ 16 ∷ 8 ∷ 16 ∷ 16 ∷ 16 ∷ 16 ∷ 64 ∷ 64 ∷ 32 ∷ 64 ∷ 7 ∷ []))
     ∷ []
 unfolding trace
 sample-A = refl
 
 -- ---- one line
 
--- the cell 1 has a code
+-- the cell 1 has a code, and there are weights for one more row
 abbrev pub bytes : List ℕ
 bytes = 0 ∷ 4 ∷ 0 ∷ 0 ∷ 0 ∷ 0 ∷ 0 ∷ 0 ∷ 0 ∷ 0 ∷ 0 ∷ 0 ∷ []
 
+abbrev pub weights : List ℕ
+weights = 5 ∷ 6 ∷ 7 ∷ 8 ∷ []
+
+abbrev pub lent : LentSheet
+lent = lentSheet bytes weights
+
+-- the same after accepted sizes
+abbrev pub cleared : LentSheet
+cleared = ones (replicate 12 0)
+
+-- n bytes and as many weights, all 7
+abbrev pub sevens : ℕ → LentSheet
+sevens n = lentSheet (replicate n 7) (replicate n 7)
+
 -- 1: rows or columns outside 1 to 256
-pub rows-0 : lineAfter (in-stage atSizes) (ascii "0,4,2") bytes ≡ refuse atSizes bytes 1
+pub rows-0 : lineAfter (in-stage atSizes) (ascii "0,4,2") lent ≡ refuse atSizes lent 1
 unfolding lineAfter
 rows-0 = refl
 
-pub cols-0 : lineAfter (in-stage atSizes) (ascii "3,0,2") bytes ≡ refuse atSizes bytes 1
+pub cols-0 : lineAfter (in-stage atSizes) (ascii "3,0,2") lent ≡ refuse atSizes lent 1
 unfolding lineAfter
 cols-0 = refl
 
-pub rows-256 : lineAfter (in-stage atSizes) (ascii "256,1,2") (replicate 256 7) ≡ accept
-    (WaitingForCellNames (sizesOf 256 1 2)) (replicate 256 0)
+pub rows-256 : lineAfter (in-stage atSizes) (ascii "256,1,2") (sevens 256) ≡ accept
+    (WaitingForWeightOrCellNames (sizesOf 256 1 2)) (lentSheet (replicate 256 0) (replicate 256 1))
 unfolding lineAfter
 rows-256 = refl
 
-pub rows-257 : lineAfter (in-stage atSizes) (ascii "257,1,2") (replicate 257 7) ≡ refuse atSizes (replicate 257 7) 1
+pub rows-257 : lineAfter (in-stage atSizes) (ascii "257,1,2") (sevens 257) ≡ refuse atSizes (sevens 257) 1
 unfolding lineAfter
 rows-257 = refl
 
-pub cols-256 : lineAfter (in-stage atSizes) (ascii "1,256,2") (replicate 256 7) ≡ accept
-    (WaitingForCellNames (sizesOf 1 256 2)) (replicate 256 0)
+pub cols-256 : lineAfter (in-stage atSizes) (ascii "1,256,2") (sevens 256) ≡ accept
+    (WaitingForWeightOrCellNames (sizesOf 1 256 2)) (lentSheet (replicate 256 0) (1 ∷ replicate 255 7))
 unfolding lineAfter
 cols-256 = refl
 
-pub cols-257 : lineAfter (in-stage atSizes) (ascii "1,257,2") (replicate 257 7) ≡ refuse atSizes (replicate 257 7) 1
+pub cols-257 : lineAfter (in-stage atSizes) (ascii "1,257,2") (sevens 257) ≡ refuse atSizes (sevens 257) 1
 unfolding lineAfter
 cols-257 = refl
 
 -- 2: depth outside 1 to 18
-pub depth-0 : lineAfter (in-stage atSizes) (ascii "3,4,0") bytes ≡ refuse atSizes bytes 2
+pub depth-0 : lineAfter (in-stage atSizes) (ascii "3,4,0") lent ≡ refuse atSizes lent 2
 unfolding lineAfter
 depth-0 = refl
 
-pub depth-18 : lineAfter (in-stage atSizes) (ascii "3,4,18") bytes ≡ accept (WaitingForCellNames (sizesOf 3 4 18))
-    (replicate 12 0)
+pub depth-18 : lineAfter (in-stage atSizes) (ascii "3,4,18") lent ≡ accept
+    (WaitingForWeightOrCellNames (sizesOf 3 4 18)) cleared
 unfolding lineAfter
 depth-18 = refl
 
-pub depth-19 : lineAfter (in-stage atSizes) (ascii "3,4,19") bytes ≡ refuse atSizes bytes 2
+pub depth-19 : lineAfter (in-stage atSizes) (ascii "3,4,19") lent ≡ refuse atSizes lent 2
 unfolding lineAfter
 depth-19 = refl
 
-pub one-before-two : lineAfter (in-stage atSizes) (ascii "257,4,19") bytes ≡ refuse atSizes bytes 1
+pub one-before-two : lineAfter (in-stage atSizes) (ascii "257,4,19") lent ≡ refuse atSizes lent 1
 unfolding lineAfter
 one-before-two = refl
 
--- 3: too few direction bytes
-pub cells-2048 : lineAfter (in-stage atSizes) (ascii "32,64,2") (replicate 2048 7) ≡ accept
-    (WaitingForCellNames (sizesOf 32 64 2)) (replicate 2048 0)
+-- 3: too few direction bytes or weights
+pub cells-2048 : lineAfter (in-stage atSizes) (ascii "32,64,2")
+    (lentSheet (replicate 2048 7) (replicate 256 7)) ≡ accept (WaitingForWeightOrCellNames (sizesOf 32 64 2))
+    (lentSheet (replicate 2048 0) (replicate 32 1 ++ replicate 224 7))
 unfolding lineAfter
 cells-2048 = refl
 
-pub cells-2080 : lineAfter (in-stage atSizes) (ascii "32,65,2") (replicate 2048 7) ≡ refuse atSizes (replicate 2048 7) 3
+pub cells-2080 : lineAfter (in-stage atSizes) (ascii "32,65,2") (sevens 2048) ≡ refuse atSizes (sevens 2048) 3
 unfolding lineAfter
 cells-2080 = refl
 
-pub two-before-three : lineAfter (in-stage atSizes) (ascii "32,65,19") bytes ≡ refuse atSizes bytes 2
+pub two-before-three : lineAfter (in-stage atSizes) (ascii "32,65,19") lent ≡ refuse atSizes lent 2
 unfolding lineAfter
 two-before-three = refl
 
 -- 4: a direction that is none of the nine codes; 257 is no byte
-pub no-code : lineAfter (in-stage atCells) (ascii "0,0,3") bytes ≡ refuse atCells bytes 4
+pub no-code : lineAfter (in-stage atCells) (ascii "0,0,3") lent ≡ refuse atCells lent 4
 unfolding lineAfter
 no-code = refl
 
-pub no-code-257 : lineAfter (in-stage atCells) (ascii "0,0,257") bytes ≡ refuse atCells bytes 4
+pub no-code-257 : lineAfter (in-stage atCells) (ascii "0,0,257") lent ≡ refuse atCells lent 4
 unfolding lineAfter
 no-code-257 = refl
 
-pub four-before-ten : lineAfter (in-stage atCells) (ascii "0,1,3") bytes ≡ refuse atCells bytes 4
+pub four-before-ten : lineAfter (in-stage atCells) (ascii "0,1,3") lent ≡ refuse atCells lent 4
 unfolding lineAfter
 four-before-ten = refl
 
 -- 8: a line that breaks the rules of its stage
 pub no-size-names : lineAfter (in-stage WaitingForSizeNames)
-    (ascii "row,col,dir") bytes ≡ refuse WaitingForSizeNames bytes 8
+    (ascii "row,col,dir") lent ≡ refuse WaitingForSizeNames lent 8
 unfolding lineAfter
 no-size-names = refl
 
-pub two-sizes : lineAfter (in-stage atSizes) (ascii "3,4") bytes ≡ refuse atSizes bytes 8
+pub two-sizes : lineAfter (in-stage atSizes) (ascii "3,4") lent ≡ refuse atSizes lent 8
 unfolding lineAfter
 two-sizes = refl
 
-pub no-cell-names : lineAfter (in-stage atCellNames) (ascii "rows,cols,depth") bytes ≡ refuse atCellNames bytes 8
+pub no-cell-names : lineAfter (in-stage atCellNames) (ascii "rows,cols,depth") lent ≡ refuse atCellNames lent 8
 unfolding lineAfter
 no-cell-names = refl
 
-pub two-values : lineAfter (in-stage atCells) (ascii "0,1") bytes ≡ refuse atCells bytes 8
+pub two-values : lineAfter (in-stage atCells) (ascii "0,1") lent ≡ refuse atCells lent 8
 unfolding lineAfter
 two-values = refl
 
-pub value-100000 : lineAfter (in-stage atCells) (ascii "100000,0,1") bytes ≡ refuse atCells bytes 8
+pub value-100000 : lineAfter (in-stage atCells) (ascii "100000,0,1") lent ≡ refuse atCells lent 8
 unfolding lineAfter
 value-100000 = refl
 
 -- blanks in front of a value, up to eight
-pub eight-blanks-sizes : lineAfter (in-stage atSizes) (ascii "        3,        4,        2") bytes ≡ accept
-    (WaitingForCellNames (sizesOf 3 4 2)) (replicate 12 0)
+pub eight-blanks-sizes : lineAfter (in-stage atSizes) (ascii "        3,        4,        2") lent ≡ accept
+    atNames cleared
 unfolding lineAfter
 eight-blanks-sizes = refl
 
-pub nine-blanks-sizes : lineAfter (in-stage atSizes) (ascii "3,         4,2") bytes ≡ refuse atSizes bytes 8
+pub nine-blanks-sizes : lineAfter (in-stage atSizes) (ascii "3,         4,2") lent ≡ refuse atSizes lent 8
 unfolding lineAfter
 nine-blanks-sizes = refl
 
-pub eight-blanks-cell : lineAfter (in-stage atCells) (ascii "        0,        0,        1") bytes ≡ lineAfter
-    (in-stage atCells) (ascii "0,0,1") bytes
+pub eight-blanks-cell : lineAfter (in-stage atCells) (ascii "        0,        0,        1") lent ≡ lineAfter
+    (in-stage atCells) (ascii "0,0,1") lent
 unfolding lineAfter
 eight-blanks-cell = refl
 
-pub nine-blanks-cell : lineAfter (in-stage atCells) (ascii "0,0,         1") bytes ≡ refuse atCells bytes 8
+pub nine-blanks-cell : lineAfter (in-stage atCells) (ascii "0,0,         1") lent ≡ refuse atCells lent 8
 unfolding lineAfter
 nine-blanks-cell = refl
 
-pub names-blank : lineAfter (in-stage atCellNames) (ascii "row, col,dir") bytes ≡ refuse atCellNames bytes 8
+pub names-blank : lineAfter (in-stage atCellNames) (ascii "row, col,dir") lent ≡ refuse atCellNames lent 8
 unfolding lineAfter
 names-blank = refl
 
-pub byte-10 : lineAfter (in-stage atCells) (ascii "0,0,1\n") bytes ≡ refuse atCells bytes 8
+pub byte-10 : lineAfter (in-stage atCells) (ascii "0,0,1\n") lent ≡ refuse atCells lent 8
 unfolding lineAfter
 byte-10 = refl
 
 -- 9: a row or column outside the sheet
-pub row-3 : lineAfter (in-stage atCells) (ascii "3,0,1") bytes ≡ refuse atCells bytes 9
+pub row-3 : lineAfter (in-stage atCells) (ascii "3,0,1") lent ≡ refuse atCells lent 9
 unfolding lineAfter
 row-3 = refl
 
-pub col-4 : lineAfter (in-stage atCells) (ascii "0,4,1") bytes ≡ refuse atCells bytes 9
+pub col-4 : lineAfter (in-stage atCells) (ascii "0,4,1") lent ≡ refuse atCells lent 9
 unfolding lineAfter
 col-4 = refl
 
-pub value-99999 : lineAfter (in-stage atCells) (ascii "99999,0,1") bytes ≡ refuse atCells bytes 9
+pub value-99999 : lineAfter (in-stage atCells) (ascii "99999,0,1") lent ≡ refuse atCells lent 9
 unfolding lineAfter
 value-99999 = refl
 
-pub nine-before-four : lineAfter (in-stage atCells) (ascii "3,0,3") bytes ≡ refuse atCells bytes 9
+pub nine-before-four : lineAfter (in-stage atCells) (ascii "3,0,3") lent ≡ refuse atCells lent 9
 unfolding lineAfter
 nine-before-four = refl
 
 -- 10: a cell line for a cell whose byte is not 0, also with dir 0
-pub cell-again : lineAfter (in-stage atCells) (ascii "0,1,4") bytes ≡ refuse atCells bytes 10
+pub cell-again : lineAfter (in-stage atCells) (ascii "0,1,4") lent ≡ refuse atCells lent 10
 unfolding lineAfter
 cell-again = refl
 
-pub cell-again-0 : lineAfter (in-stage atCells) (ascii "0,1,0") bytes ≡ refuse atCells bytes 10
+pub cell-again-0 : lineAfter (in-stage atCells) (ascii "0,1,0") lent ≡ refuse atCells lent 10
 unfolding lineAfter
 cell-again-0 = refl
 
-pub cell-0 : lineAfter (in-stage atCells) (ascii "0,0,0") bytes ≡ accept atCells bytes
+pub cell-0 : lineAfter (in-stage atCells) (ascii "0,0,0") lent ≡ accept atCells lent
 unfolding lineAfter
 cell-0 = refl
 
 -- 13: a line or an end after the end
-pub line-after-end : lineAfter (in-stage atEnd) (ascii "0,0,1") bytes ≡ refuse atEnd bytes 13
+pub line-after-end : lineAfter (in-stage atEnd) (ascii "0,0,1") lent ≡ refuse atEnd lent 13
 unfolding lineAfter
 line-after-end = refl
 
@@ -254,7 +281,7 @@ pub end-of-size-names : endTaken (in-stage atSizes) ≡ refused atSizes 14
 unfolding endTaken
 end-of-size-names = refl
 
-pub end-of-sizes : endTaken (in-stage atCellNames) ≡ refused atCellNames 14
+pub end-of-sizes : endTaken (in-stage atNames) ≡ refused atNames 14
 unfolding endTaken
 end-of-sizes = refl
 
@@ -273,40 +300,40 @@ tooDeep = WaitingForCellNames (sizesOf 3 4 19)
 abbrev pub endedTooDeep : Stage
 endedTooDeep = Ended (sizesOf 3 4 19)
 
-pub one-before-eight : lineAfter (in-stage tooWide) (ascii "x") bytes ≡ refuse tooWide bytes 1
+pub one-before-eight : lineAfter (in-stage tooWide) (ascii "x") lent ≡ refuse tooWide lent 1
 unfolding lineAfter
 one-before-eight = refl
 
-pub two-before-eight : lineAfter (in-stage tooDeep) (ascii "row,col,dir") bytes ≡ refuse tooDeep bytes 2
+pub two-before-eight : lineAfter (in-stage tooDeep) (ascii "row,col,dir") lent ≡ refuse tooDeep lent 2
 unfolding lineAfter
 two-before-eight = refl
 
-pub three-before-eight : lineAfter (in-stage atCells) (ascii "x") (0 ∷ 0 ∷ []) ≡ refuse atCells (0 ∷ 0 ∷ []) 3
+pub three-before-eight : lineAfter (in-stage atCells) (ascii "x") (sevens 11) ≡ refuse atCells (sevens 11) 3
 unfolding lineAfter
 three-before-eight = refl
 
-pub thirteen-first : lineAfter (in-stage endedTooDeep) (ascii "x") bytes ≡ refuse endedTooDeep bytes 13
+pub thirteen-first : lineAfter (in-stage endedTooDeep) (ascii "x") lent ≡ refuse endedTooDeep lent 13
 unfolding lineAfter
 thirteen-first = refl
 
 -- ---- columns in another order; a column twice gives the first of the two, and a missing one 0
 
-pub names-turned : lineAfter newIntake (ascii "depth,rows,cols") bytes ≡ accept
-    (WaitingForSizes (record { first = Depth; second = Rows; third = Cols })) bytes
+pub names-turned : lineAfter newIntake (ascii "depth,rows,cols") lent ≡ accept
+    (WaitingForSizes (record { first = Depth; second = Rows; third = Cols })) lent
 unfolding lineAfter
 names-turned = refl
 
 pub sizes-turned : lineAfter (in-stage (WaitingForSizes (record { first = Depth; second = Rows; third = Cols })))
-    (ascii "2,3,4") bytes ≡ accept atCellNames (replicate 12 0)
+    (ascii "2,3,4") lent ≡ accept atNames cleared
 unfolding lineAfter
 sizes-turned = refl
 
-pub cell-names-turned : lineAfter (in-stage atCellNames) (ascii "dir,row,col") bytes ≡ accept
-    (TakingCells (sizesOf 3 4 2) (record { first = Dir; second = Row; third = Col })) bytes
+pub cell-names-turned : lineAfter (in-stage atCellNames) (ascii "dir,row,col") lent ≡ accept
+    (TakingCells (sizesOf 3 4 2) (record { first = Dir; second = Row; third = Col })) lent
 unfolding lineAfter
 cell-names-turned = refl
 
 pub column-twice : lineAfter (in-stage (WaitingForSizes (record { first = Rows; second = Rows; third = Cols })))
-    (ascii "3,4,1") bytes ≡ refuse (WaitingForSizes (record { first = Rows; second = Rows; third = Cols })) bytes 2
+    (ascii "3,4,1") lent ≡ refuse (WaitingForSizes (record { first = Rows; second = Rows; third = Cols })) lent 2
 unfolding lineAfter
 column-twice = refl

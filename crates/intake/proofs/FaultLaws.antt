@@ -1,19 +1,26 @@
--- Laws of the faults of sizes and cells: what holds where there is none.
-use mathlib.Core.Path.{_≡_, refl}
+-- Laws of the faults of sizes, states, weights and cells: what holds where there is none.
+use mathlib.Core.Path.{_≡_, refl, sym, _∙_}
 use mathlib.Core.Bool.{Bool, true, false, cond}
 use mathlib.Core.List.{List, [], _∷_}
-use Prim.Native.Nat.{ℕ, _<_, _≤_}
+use Prim.Native.Nat.{ℕ, zero, suc, _<_, _≤_}
 use native.Mathlib.Omega.{arith}
 use lib.Dec.{leb, ltb, eqb}
-use borrow.Author.Tests.{leb-true, ltb-true, eqb-true}
+use lib.ListN.{length}
+use borrow.Author.Tests.{leb-true, ltb-true, lt-ltb, le-ltb, eqb-true, eq-eqb, ne-eqb}
+use Rattle.lines.specs.declared.columns.Columns.{Columns}
 use Rattle.sheet.specs.declared.Step.{Step}
 use Rattle.sheet.specs.Direction.{steps, stepIn, stepOf, isCode, cellNumber}
-use Rattle.sheet.specs.Refusal.{both, within, sizesFit, depthFits}
+use Rattle.sheet.specs.Refusal.{both, within, sizesFit, depthFits, weightFits}
 use Rattle.sheet.proofs.Cells.{cells-most, cell-lt}
 use Rattle.sheet.proofs.Within.{both-true, within-both}
+use Rattle.directions.specs.Sizes.{Sized}
 use Rattle.intake.specs.declared.Sizes.{Sizes}
 use Rattle.intake.specs.declared.Cell.{Cell}
-use Rattle.intake.specs.Faults.{cellCount, sizesFault, onSheet, cellFault}
+use Rattle.intake.specs.declared.Stage.{Stage}
+use Rattle.intake.specs.declared.Stage.the-variants.{WaitingForWeight, TakingCells}
+use Rattle.intake.specs.Faults.{cellCount, lentEnough, sizesFault, rowFault, weightFault, onSheet}
+use Rattle.intake.specs.Faults.{cellFault}
+use Rattle.intake.specs.Intake.{stateFault}
 
 -- a fault that is not given: its test is passed, and so are the later ones
 passed : (t : Bool) (rest number : ℕ) → 0 < number → cond t rest number ≡ 0 → (t ≡ true) × (rest ≡ 0)
@@ -22,35 +29,90 @@ passed false rest number some e = absurd (omega arith)
 
 -- ---- sizes
 
--- sizes within document 01's bounds, with a direction byte lent for each cell
-pub record Fits (z : Sizes) (lent : ℕ) : Type 0 where
+-- sizes within document 01's bounds, with a direction byte lent for each cell and a weight for each row
+pub record Fits (z : Sizes) (dirs weights : ℕ) : Type 0 where
   pub rows-some : 1 ≤ z .rows
   pub rows-most : z .rows ≤ 256
   pub cols-some : 1 ≤ z .cols
   pub cols-most : z .cols ≤ 256
   pub depth-some : 1 ≤ z .depth
   pub depth-most : z .depth ≤ 18
-  pub lent-enough : cellCount z ≤ lent
+  pub dirs-enough : cellCount z ≤ dirs
+  pub weights-enough : z .rows ≤ weights
 
-pub sizes-fit : (z : Sizes) (lent : ℕ) → sizesFault z lent ≡ 0 → Fits z lent
-unfolding sizesFault sizesFit depthFits
-sizes-fit z lent e =
-    let one = passed (sizesFit (z .rows) (z .cols)) _ 1 (omega arith) e in
-    let two = passed (depthFits (z .depth)) _ 2 (omega arith) (one .1) in
-    let three = passed (leb (cellCount z) lent) _ 3 (omega arith) (two .1) in
-    let fit = both-true (within 256 (z .rows)) (within 256 (z .cols)) (one .0) in
-    let rows = within-both 256 (z .rows) (fit .0) in
-    let cols = within-both 256 (z .cols) (fit .1) in
-    let depth = within-both 18 (z .depth) (two .0) in
-    record {
-      rows-some = rows .0;
-      rows-most = rows .1;
-      cols-some = cols .0;
-      cols-most = cols .1;
-      depth-some = depth .0;
-      depth-most = depth .1;
-      lent-enough = leb-true (cellCount z) lent (three .0);
-    }
+module _ (z : Sizes) (dirs weights : ℕ) where
+  pub sizes-fit : sizesFault z dirs weights ≡ 0 → Fits z dirs weights
+  unfolding sizesFault sizesFit depthFits lentEnough
+  sizes-fit e =
+      let one = passed (sizesFit (z .rows) (z .cols)) _ 1 (omega arith) e in
+      let two = passed (depthFits (z .depth)) _ 2 (omega arith) (one .1) in
+      let three = passed (lentEnough z dirs weights) _ 3 (omega arith) (two .1) in
+      let fit = both-true (within 256 (z .rows)) (within 256 (z .cols)) (one .0) in
+      let rows = within-both 256 (z .rows) (fit .0) in
+      let cols = within-both 256 (z .cols) (fit .1) in
+      let depth = within-both 18 (z .depth) (two .0) in
+      let lent = both-true (leb (cellCount z) dirs) (leb (z .rows) weights) (three .0) in
+      record {
+        rows-some = rows .0;
+        rows-most = rows .1;
+        cols-some = cols .0;
+        cols-most = cols .1;
+        depth-some = depth .0;
+        depth-most = depth .1;
+        dirs-enough = leb-true (cellCount z) dirs (lent .0);
+        weights-enough = leb-true (z .rows) weights (lent .1);
+      }
+
+  -- a row is judged after the sizes
+  module _ (row : ℕ) where
+    row-fault-is : rowFault z row dirs weights
+        ≡ cond (eqb (sizesFault z dirs weights) 0) (cond (ltb row (z .rows)) 0 9) (sizesFault z dirs weights)
+    unfolding rowFault sizesFault
+    row-fault-is =
+        go (sizesFit (z .rows) (z .cols)) (depthFits (z .depth)) (lentEnough z dirs weights)
+        (cond (ltb row (z .rows)) 0 9)
+      where
+        go : (one two three : Bool) (rest : ℕ) → cond one (cond two (cond three rest 3) 2) 1
+            ≡ cond (eqb (cond one (cond two (cond three 0 3) 2) 1) 0) rest (cond one (cond two (cond three 0 3) 2) 1)
+        go true true true rest = refl
+        go true true false rest = refl
+        go true false three rest = refl
+        go false two three rest = refl
+
+    pub row-within : sizesFault z dirs weights ≡ 0 → row < z .rows → rowFault z row dirs weights ≡ 0
+    row-within e l = row-fault-is ∙ rw (eq-eqb _ 0 e, lt-ltb row (z .rows) l)
+
+    pub row-outside : sizesFault z dirs weights ≡ 0 → z .rows ≤ row → rowFault z row dirs weights ≡ 9
+    row-outside e l = row-fault-is ∙ rw (eq-eqb _ 0 e, le-ltb row (z .rows) l)
+
+    pub row-sizes : (sizesFault z dirs weights ≡ 0 → ⊥) → rowFault z row dirs weights ≡ sizesFault z dirs weights
+    row-sizes n = row-fault-is ∙ rw (ne-eqb _ 0 n)
+
+    pub row-good : rowFault z row dirs weights ≡ 0 → (sizesFault z dirs weights ≡ 0) × (row < z .rows)
+    row-good e = go (sizesFault z dirs weights) refl (sym row-fault-is ∙ e)
+      where
+        go : (fault : ℕ) → sizesFault z dirs weights ≡ fault
+            → cond (eqb fault 0) (cond (ltb row (z .rows)) 0 9) fault ≡ 0
+            → (sizesFault z dirs weights ≡ 0) × (row < z .rows)
+        go zero is e = (is, ltb-true row (z .rows) (passed (ltb row (z .rows)) 0 9 (omega arith) e .0))
+        go (suc n) is e = absurd (omega (arith, rw (ne-eqb (suc n) 0 (λ z. omega arith)) at e))
+
+-- sizes that fit, as steps that know no depth and no weights ask for them
+pub fits-sized : {z : Sizes} {dirs : List ℕ} {weights : ℕ} → Fits z (length dirs) weights
+    → Sized (z .rows) (z .cols) dirs
+fits-sized f = record {
+  rows-most = f .rows-most;
+  cols-most = f .cols-most;
+  cols-some = f .cols-some;
+  long = f .dirs-enough;
+}
+
+-- ---- weights
+
+-- a weight without a fault is from 1 to 1000
+pub weight-good : (weight : ℕ) → weightFault weight ≡ 0 → weightFits weight ≡ true
+unfolding weightFault
+weight-good weight e = passed (weightFits weight) 0 17 (omega arith) e .0
 
 -- ---- codes
 
@@ -84,18 +146,19 @@ code-none dir h = go (isCode dir) refl
 -- ---- a cell
 
 -- a cell whose direction byte is lent, with a small number
-pub record Placed (z : Sizes) (x : Cell) (lent : ℕ) : Type 0 where
-  pub byte-lent : cellNumber (z .cols) (x .row) (x .col) < lent
+pub record Placed (z : Sizes) (x : Cell) (dirs : List ℕ) : Type 0 where
+  pub byte-lent : cellNumber (z .cols) (x .row) (x .col) < length dirs
   pub number-small : cellNumber (z .cols) (x .row) (x .col) < 65536
 
-pub on-sheet-placed : (z : Sizes) (x : Cell) (lent : ℕ) → Fits z lent → onSheet z x ≡ true → Placed z x lent
+pub on-sheet-placed : (z : Sizes) (x : Cell) (dirs : List ℕ) → Sized (z .rows) (z .cols) dirs → onSheet z x ≡ true
+    → Placed z x dirs
 unfolding onSheet
-on-sheet-placed z x lent f e =
+on-sheet-placed z x dirs f e =
     let on = both-true (ltb (x .row) (z .rows)) (ltb (x .col) (z .cols)) e in
     let number : cellNumber (z .cols) (x .row) (x .col) < cellCount z = cell-lt (ltb-true (x .row) (z .rows) (on .0))
     (ltb-true (x .col) (z .cols) (on .1)) in
     let count : cellCount z ≤ 65536 = cells-most (f .rows-most) (f .cols-most) in
-    record { byte-lent = omega (arith, f .lent-enough); number-small = omega arith }
+    record { byte-lent = omega (arith, f .long); number-small = omega arith }
 
 -- a cell without a fault stands on the sheet and has a code
 pub cell-good : (z : Sizes) (x : Cell) (dirs : List ℕ) → cellFault z x dirs ≡ 0 → (onSheet z x ≡ true) × (x .dir ≤ 128)
@@ -104,3 +167,19 @@ cell-good z x dirs e =
     let nine = passed (onSheet z x) _ 9 (omega arith) e in
     let four = passed (isCode (x .dir)) _ 4 (omega arith) (nine .1) in
     (nine .0, code-most (x .dir) (four .0))
+
+-- ---- states
+
+-- a state without a fault that waits for the weight of a row: a row of its sheet, whose weight is lent
+pub waits-for-row : {stage : Stage} (z : Sizes) (row dirs weights : ℕ) → stage ≡ WaitingForWeight z row
+    → stateFault stage dirs weights ≡ 0 → (row < z .rows) × (z .rows ≤ weights)
+unfolding stateFault
+waits-for-row z row dirs weights is e =
+    let good = row-good z dirs weights row (rw is at e) in
+    (good .1, sizes-fit z dirs weights (good .0) .weights-enough)
+
+-- one that takes cells: a sheet whose direction bytes are lent
+pub takes-cells : {stage : Stage} (z : Sizes) (c : Columns) (dirs : List ℕ) (weights : ℕ) → stage ≡ TakingCells z c
+    → stateFault stage (length dirs) weights ≡ 0 → Sized (z .rows) (z .cols) dirs
+unfolding stateFault
+takes-cells z c dirs weights is e = fits-sized (sizes-fit z (length dirs) weights (rw is at e))

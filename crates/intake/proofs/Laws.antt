@@ -1,162 +1,234 @@
--- Laws of the intake, for every state, line and slice: what a refused line leaves, what an accepted line leaves, and
--- the sizes that a state holds.
+-- Laws of the intake, for every state, line and lent slices: what a refused line leaves, what an accepted line leaves,
+-- and the sizes that a state holds.
 use mathlib.Core.Path.{_≡_, refl, sym, ap, _∙_, subst}
+use mathlib.Core.Bool.{Bool, true, false, cond}
 use mathlib.Core.List.{List}
 use mathlib.Core.Logic.{_⊎_, inl, inr}
-use Prim.Native.Nat.{ℕ, zero, suc, _<_, _≤_}
+use Prim.Native.Nat.{ℕ, zero, suc, _+_, _<_, _≤_}
 use native.Mathlib.Omega.{arith}
+use borrow.Author.Tests.{ltb-true}
+use lib.Dec.{ltb}
 use lib.ListN.{length, length-append, length-replicate, length-drop, length-set}
 use Rattle.names.specs.declared.NamesLine.{NamesLine}
 use Rattle.names.specs.declared.NamesLine.the-variants.{Columns as Named, Bad as BadNames}
 use Rattle.lines.specs.declared.columns.Columns.{Columns}
 use Rattle.lines.specs.declared.values.ValuesLine.{ValuesLine}
 use Rattle.lines.specs.declared.values.ValuesLine.the-variants.{Values as Valued, Bad as BadValues}
-use Rattle.names.specs.Columns.{sizeColumns, cellColumns}
+use Rattle.names.specs.Columns.{sizeColumns, weightColumns, cellColumns}
 use Rattle.names.specs.Names.{namesLine}
+use Rattle.lines.specs.Columns.{columnCount, weightCount}
 use Rattle.lines.specs.Values.{valuesLine}
 use Rattle.intake.specs.declared.Sizes.{Sizes}
 use Rattle.intake.specs.declared.Cell.{Cell}
 use Rattle.intake.specs.declared.Stage.{Stage}
-use Rattle.intake.specs.declared.Stage.the-variants.{WaitingForSizeNames, WaitingForSizes, WaitingForCellNames}
-use Rattle.intake.specs.declared.Stage.the-variants.{TakingCells, Ended}
+use Rattle.intake.specs.declared.Stage.the-variants.{WaitingForSizeNames, WaitingForSizes}
+use Rattle.intake.specs.declared.Stage.the-variants.{WaitingForWeightOrCellNames, WaitingForWeight}
+use Rattle.intake.specs.declared.Stage.the-variants.{WaitingForCellNames, TakingCells, Ended}
 use Rattle.intake.specs.declared.Intake.{Intake}
 use Rattle.intake.specs.declared.TakenOutcome.the-variants.{Accepted, Refused}
-use Rattle.intake.specs.Faults.{sizesIn, cellIn, cellCount, sizesFault, cellFault}
-use Rattle.intake.specs.Intake.{takenValues, After, accept, refuse, unless, sizesWritten, cellWritten}
-use Rattle.intake.specs.Intake.{onSizeNames, onSizes, onCellNames, onCells, stateFault, lineIn, lineAfter, endIn}
-use Rattle.intake.specs.Intake.{endTaken, newIntake}
-use Rattle.intake.proofs.FaultLaws.{Fits, sizes-fit}
+use Rattle.intake.specs.Faults.{sizesIn, cellIn, sizesFault, rowFault, weightFault, cellFault}
+use Rattle.intake.specs.Intake.{takenValues, LentSheet, After, keep, accept, refuse, unless, firstSet}
+use Rattle.intake.specs.Intake.{sizesWritten, weightWritten, cellWritten, onSizeNames, onSizes, onCellNames}
+use Rattle.intake.specs.Intake.{onWeightOrCellNames, afterWeights, onWeight, onCells, stateFault, lineIn}
+use Rattle.intake.specs.Intake.{lineAfter, endIn, endTaken, newIntake}
+use Rattle.intake.proofs.FaultLaws.{Fits, sizes-fit, row-within, row-good}
 use Rattle.intake.proofs.LineLaws.{unless-none, unless-some}
 
--- the stages in document 01's order
+-- the stages in the order of a file with weights
 abbrev pub stageNumber : Stage → ℕ
 stageNumber WaitingForSizeNames = 0
 stageNumber (WaitingForSizes c) = 1
-stageNumber (WaitingForCellNames z) = 2
-stageNumber (TakingCells z c) = 3
-stageNumber (Ended z) = 4
+stageNumber (WaitingForWeightOrCellNames z) = 2
+stageNumber (WaitingForWeight z row) = 3
+stageNumber (WaitingForCellNames z) = 4
+stageNumber (TakingCells z c) = 5
+stageNumber (Ended z) = 6
 
--- 1, 2, 3 of the sizes that a stage holds, if it holds any, ended or not
-abbrev pub heldFault : Stage → ℕ → ℕ
-heldFault WaitingForSizeNames lent = 0
-heldFault (WaitingForSizes c) lent = 0
-heldFault (WaitingForCellNames z) lent = sizesFault z lent
-heldFault (TakingCells z c) lent = sizesFault z lent
-heldFault (Ended z) lent = sizesFault z lent
+-- the fault of a state, by what is lent
+abbrev pub faultOf : Stage → LentSheet → ℕ
+faultOf stage lent = stateFault stage (length (lent .dirs)) (length (lent .weights))
 
--- a refusal returns the state that it got, and writes no byte
-pub record Refusal (stage : Stage) (dirs : List ℕ) (a : After) : Type 0 where
+-- The fault of what a stage holds, ended or not: 1, 2, 3 of the sizes, if it holds any, then 9 of the row whose weight
+-- it waits for.
+abbrev pub heldFault : Stage → ℕ → ℕ → ℕ
+heldFault WaitingForSizeNames dirs weights = 0
+heldFault (WaitingForSizes c) dirs weights = 0
+heldFault (WaitingForWeightOrCellNames z) dirs weights = sizesFault z dirs weights
+heldFault (WaitingForWeight z row) dirs weights = rowFault z row dirs weights
+heldFault (WaitingForCellNames z) dirs weights = sizesFault z dirs weights
+heldFault (TakingCells z c) dirs weights = sizesFault z dirs weights
+heldFault (Ended z) dirs weights = sizesFault z dirs weights
+
+abbrev pub heldFaultOf : Stage → LentSheet → ℕ
+heldFaultOf stage lent = heldFault stage (length (lent .dirs)) (length (lent .weights))
+
+-- as many direction bytes and as many weights
+pub record AsLong (new lent : LentSheet) : Type 0 where
+  pub dirs-long : length (new .dirs) ≡ length (lent .dirs)
+  pub weights-long : length (new .weights) ≡ length (lent .weights)
+
+-- a refusal returns the state that it got, and writes nothing
+pub record Refusal (stage : Stage) (lent : LentSheet) (a : After) : Type 0 where
   pub number : ℕ
   pub number-some : 0 < number
-  pub is : a ≡ refuse stage dirs number
+  pub is : a ≡ refuse stage lent number
 
--- an accepted line goes back no stage, keeps the length of the slice, and leaves sizes that fit it
-pub record Acceptance (stage : Stage) (dirs : List ℕ) (a : After) : Type 0 where
+-- an accepted line goes back no stage, keeps the lengths of the slices, and leaves a state without a fault
+pub record Acceptance (stage : Stage) (lent : LentSheet) (a : After) : Type 0 where
   pub next : Stage
-  pub new : List ℕ
+  pub new : LentSheet
   pub is : a ≡ accept next new
   pub onward : stageNumber stage ≤ stageNumber next
-  pub as-long : length new ≡ length dirs
-  pub fits : heldFault next (length dirs) ≡ 0
+  pub as-long : AsLong new lent
+  pub fits : heldFaultOf next lent ≡ 0
 
-abbrev pub Answer : Stage → List ℕ → After → Type 0
-Answer stage dirs a = Refusal stage dirs a ⊎ Acceptance stage dirs a
+abbrev pub Answer : Stage → LentSheet → After → Type 0
+Answer stage lent a = Refusal stage lent a ⊎ Acceptance stage lent a
 
-sizes-written-length : (z : Sizes) (dirs : List ℕ) → cellCount z ≤ length dirs
-    → length (sizesWritten z dirs) ≡ length dirs
+first-set-length : (n x : ℕ) (places : List ℕ) → n ≤ length places → length (firstSet n x places) ≡ length places
+first-set-length n x places h = simp (length-append, length-replicate, length-drop) (omega arith)
+
+same-long : (lent : LentSheet) → AsLong lent lent
+same-long lent = record { dirs-long = refl; weights-long = refl }
+
+sizes-written-long : (z : Sizes) (lent : LentSheet) → Fits z (length (lent .dirs)) (length (lent .weights))
+    → AsLong (sizesWritten z lent) lent
 unfolding sizesWritten
-sizes-written-length z dirs h = simp (length-append, length-replicate, length-drop) (omega arith)
+sizes-written-long z lent f = record {
+  dirs-long = first-set-length _ 0 (lent .dirs) (f .dirs-enough);
+  weights-long = first-set-length _ 1 (lent .weights) (f .weights-enough);
+}
 
-cell-written-length : (z : Sizes) (x : Cell) (dirs : List ℕ) → length (cellWritten z x dirs) ≡ length dirs
+weight-written-long : (row weight : ℕ) (lent : LentSheet) → AsLong (weightWritten row weight lent) lent
+unfolding weightWritten
+weight-written-long row weight lent = record { dirs-long = refl; weights-long = simp length-set }
+
+cell-written-long : (z : Sizes) (x : Cell) (lent : LentSheet) → AsLong (cellWritten z x lent) lent
 unfolding cellWritten
-cell-written-length z x dirs = simp length-set
+cell-written-long z x lent = record { dirs-long = simp length-set; weights-long = refl }
 
-module _ (stage : Stage) (dirs : List ℕ) where
-  refuses : (number : ℕ) → 0 < number → Answer stage dirs (refuse stage dirs number)
+module _ (stage : Stage) (lent : LentSheet) where
+  refuses : (number : ℕ) → 0 < number → Answer stage lent (refuse stage lent number)
   refuses number some = inl (record { number = number; number-some = some; is = refl })
 
-  accepts : (next : Stage) (new : List ℕ) → stageNumber stage ≤ stageNumber next → length new ≡ length dirs
-      → heldFault next (length dirs) ≡ 0 → Answer stage dirs (accept next new)
+  accepts : (next : Stage) (new : LentSheet) → stageNumber stage ≤ stageNumber next → AsLong new lent
+      → heldFaultOf next lent ≡ 0 → Answer stage lent (accept next new)
   accepts next new onward as-long fits =
       inr (record { next = next; new = new; is = refl; onward = onward; as-long = as-long; fits = fits })
 
-  unless-answer : (fault : ℕ) (next : After) → (fault ≡ 0 → Answer stage dirs next)
-      → Answer stage dirs (unless fault stage dirs next)
-  unless-answer zero next h = subst (Answer stage dirs) (sym (unless-none stage dirs next refl)) (h refl)
+  unless-answer : (fault : ℕ) (next : After) → (fault ≡ 0 → Answer stage lent next)
+      → Answer stage lent (unless fault stage lent next)
+  unless-answer zero next h = subst (Answer stage lent) (sym (unless-none stage lent next refl)) (h refl)
   unless-answer (suc n) next h =
-      subst (Answer stage dirs) (sym (unless-some {fault = suc n} stage dirs next (λ e. omega arith)))
+      subst (Answer stage lent) (sym (unless-some {fault = suc n} stage lent next (λ e. omega arith)))
       (refuses (suc n) (omega arith))
 
-sizes-answer : (c : Columns) (v : ValuesLine) (dirs : List ℕ) → Answer (WaitingForSizes c) dirs (onSizes c v dirs)
+sizes-answer : (c : Columns) (v : ValuesLine) (lent : LentSheet) → Answer (WaitingForSizes c) lent (onSizes c v lent)
 unfolding onSizes
-sizes-answer c BadValues dirs = refuses _ _ 8 (omega arith)
-sizes-answer c (Valued v) dirs =
+sizes-answer c BadValues lent = refuses _ _ 8 (omega arith)
+sizes-answer c (Valued v) lent =
     let z : Sizes = sizesIn c v in
-    let next : After = accept (WaitingForCellNames z) (sizesWritten z dirs) in
-    unless-answer (WaitingForSizes c) dirs (sizesFault z (length dirs)) next
-    (λ e. accepts _ _ _ _ (omega arith) (sizes-written-length z dirs (sizes-fit z (length dirs) e .lent-enough)) e)
+    let next : After = accept (WaitingForWeightOrCellNames z) (sizesWritten z lent) in
+    unless-answer (WaitingForSizes c) lent (sizesFault z (length (lent .dirs)) (length (lent .weights))) next
+    (λ e. accepts _ _ _ _ (omega arith) (sizes-written-long z lent (sizes-fit z _ _ e)) e)
 
-cells-answer : (z : Sizes) (c : Columns) (v : ValuesLine) (dirs : List ℕ) → sizesFault z (length dirs) ≡ 0
-    → Answer (TakingCells z c) dirs (onCells z c v dirs)
+cell-names-answer : (stage : Stage) (z : Sizes) (n : NamesLine) (lent : LentSheet) → stageNumber stage ≤ 5
+    → sizesFault z (length (lent .dirs)) (length (lent .weights)) ≡ 0
+    → Answer stage lent (keep lent (onCellNames stage z n))
+unfolding onCellNames
+cell-names-answer stage z (Named c) lent h good = accepts _ _ _ _ h (same-long lent) good
+cell-names-answer stage z BadNames lent h good = refuses _ _ 8 (omega arith)
+
+weight-answer : (z : Sizes) (row : ℕ) (v : ValuesLine) (lent : LentSheet)
+    → rowFault z row (length (lent .dirs)) (length (lent .weights)) ≡ 0
+    → Answer (WaitingForWeight z row) lent (onWeight z row v lent)
+unfolding onWeight afterWeights
+weight-answer z row BadValues lent good = refuses _ _ 8 (omega arith)
+weight-answer z row (Valued v) lent good =
+    unless-answer (WaitingForWeight z row) lent (weightFault (v .first))
+    (accept (afterWeights z (row + 1)) (weightWritten row (v .first) lent))
+    (λ e. go (ltb (row + 1) (z .rows)) refl)
+  where
+    sizes : sizesFault z (length (lent .dirs)) (length (lent .weights)) ≡ 0
+    sizes = row-good z _ _ row good .0
+
+    go : (t : Bool) → ltb (row + 1) (z .rows) ≡ t
+        → Answer (WaitingForWeight z row) lent
+        (accept (cond t (WaitingForWeight z (row + 1)) (WaitingForCellNames z)) (weightWritten row (v .first) lent))
+    go true h =
+        accepts _ _ _ _ (omega arith) (weight-written-long row (v .first) lent)
+        (row-within z _ _ (row + 1) sizes (ltb-true (row + 1) (z .rows) h))
+    go false h = accepts _ _ _ _ (omega arith) (weight-written-long row (v .first) lent) sizes
+
+cells-answer : (z : Sizes) (c : Columns) (v : ValuesLine) (lent : LentSheet)
+    → sizesFault z (length (lent .dirs)) (length (lent .weights)) ≡ 0
+    → Answer (TakingCells z c) lent (onCells z c v lent)
 unfolding onCells
-cells-answer z c BadValues dirs good = refuses _ _ 8 (omega arith)
-cells-answer z c (Valued v) dirs good =
+cells-answer z c BadValues lent good = refuses _ _ 8 (omega arith)
+cells-answer z c (Valued v) lent good =
     let x : Cell = cellIn c v in
-    let next : After = accept (TakingCells z c) (cellWritten z x dirs) in
-    unless-answer (TakingCells z c) dirs (cellFault z x dirs) next
-    (λ e. accepts _ _ _ _ (omega arith) (cell-written-length z x dirs) good)
+    let next : After = accept (TakingCells z c) (cellWritten z x lent) in
+    unless-answer (TakingCells z c) lent (cellFault z x (lent .dirs)) next
+    (λ e. accepts _ _ _ _ (omega arith) (cell-written-long z x lent) good)
 
-line-in-answer : (stage : Stage) (line dirs : List ℕ) → stateFault stage (length dirs) ≡ 0
-    → Answer stage dirs (lineIn stage line dirs)
+line-in-answer : (stage : Stage) (line : List ℕ) (lent : LentSheet) → faultOf stage lent ≡ 0
+    → Answer stage lent (lineIn stage line lent)
 unfolding lineIn stateFault
-line-in-answer WaitingForSizeNames line dirs good = go (namesLine sizeColumns line)
+line-in-answer WaitingForSizeNames line lent good = go (namesLine sizeColumns line)
   where
-    go : (n : NamesLine) → Answer WaitingForSizeNames dirs (record { taken = onSizeNames n; dirs = dirs })
-    go (Named c) = accepts _ _ _ _ (omega arith) refl refl
+    go : (n : NamesLine) → Answer WaitingForSizeNames lent (keep lent (onSizeNames n))
+    go (Named c) = accepts _ _ _ _ (omega arith) (same-long lent) refl
     go BadNames = refuses _ _ 8 (omega arith)
-line-in-answer (WaitingForSizes c) line dirs good = sizes-answer c (valuesLine line) dirs
-line-in-answer (WaitingForCellNames z) line dirs good = go (namesLine cellColumns line)
+line-in-answer (WaitingForSizes c) line lent good = sizes-answer c (valuesLine columnCount line) lent
+line-in-answer (WaitingForWeightOrCellNames z) line lent good = go (namesLine weightColumns line)
   where
-    go : (n : NamesLine) → Answer (WaitingForCellNames z) dirs (record { taken = onCellNames z n; dirs = dirs })
-    go (Named c) = accepts _ _ _ _ (omega arith) refl good
-    go BadNames = refuses _ _ 8 (omega arith)
-line-in-answer (TakingCells z c) line dirs good = cells-answer z c (valuesLine line) dirs good
-line-in-answer (Ended z) line dirs good = refuses _ _ 13 (omega arith)
+    go : (n : NamesLine) → Answer (WaitingForWeightOrCellNames z) lent
+        (keep lent (onWeightOrCellNames z n (namesLine cellColumns line)))
+    go (Named c) =
+        accepts _ _ _ _ (omega arith) (same-long lent)
+        (row-within z _ _ 0 good (sizes-fit z _ _ good .rows-some))
+    go BadNames = cell-names-answer _ z (namesLine cellColumns line) lent (omega arith) good
+line-in-answer (WaitingForWeight z row) line lent good = weight-answer z row (valuesLine weightCount line) lent good
+line-in-answer (WaitingForCellNames z) line lent good =
+    cell-names-answer (WaitingForCellNames z) z (namesLine cellColumns line) lent (omega arith) good
+line-in-answer (TakingCells z c) line lent good = cells-answer z c (valuesLine columnCount line) lent good
+line-in-answer (Ended z) line lent good = refuses _ _ 13 (omega arith)
 
-pub line-answer : (i : Intake) (line dirs : List ℕ) → Answer (i .stage) dirs (lineAfter i line dirs)
+pub line-answer : (i : Intake) (line : List ℕ) (lent : LentSheet) → Answer (i .stage) lent (lineAfter i line lent)
 unfolding lineAfter
-line-answer i line dirs = unless-answer _ _ _ _ (line-in-answer (i .stage) line dirs)
+line-answer i line lent = unless-answer _ _ _ _ (line-in-answer (i .stage) line lent)
 
 -- ---- one line
 
 pub accepted-not-refused : {n : ℕ} → Accepted ≡ Refused n → ⊥
 accepted-not-refused {n} e = let z : _≡_ {A = ℕ} 0 1 = cc in omega arith
 
-module _ (i : Intake) (line dirs : List ℕ) where
+module _ (i : Intake) (line : List ℕ) (lent : LentSheet) where
   -- "A refused line or end returns the state it got and writes no byte."
-  pub refused-line : {n : ℕ} → lineAfter i line dirs .taken .outcome ≡ Refused n
-      → lineAfter i line dirs ≡ refuse (i .stage) dirs n
-  refused-line {n} e = go (line-answer i line dirs)
+  pub refused-line : {n : ℕ} → lineAfter i line lent .taken .outcome ≡ Refused n
+      → lineAfter i line lent ≡ refuse (i .stage) lent n
+  refused-line {n} e = go (line-answer i line lent)
     where
-      go : Answer (i .stage) dirs (lineAfter i line dirs) → lineAfter i line dirs ≡ refuse (i .stage) dirs n
+      go : Answer (i .stage) lent (lineAfter i line lent) → lineAfter i line lent ≡ refuse (i .stage) lent n
       go (inl r) =
           let same : r .number ≡ n = cc (ap (λ (a : After). a .taken .outcome) (r .is)) in
-          r .is ∙ ap (refuse (i .stage) dirs) same
+          r .is ∙ ap (refuse (i .stage) lent) same
       go (inr a) = absurd (accepted-not-refused (sym (ap (λ (b : After). b .taken .outcome) (a .is)) ∙ e))
 
-  pub line-length : length (lineAfter i line dirs .dirs) ≡ length dirs
-  line-length = go (line-answer i line dirs)
+  -- the slices keep their lengths
+  pub line-long : AsLong (lineAfter i line lent .lent) lent
+  line-long = go (line-answer i line lent)
     where
-      go : Answer (i .stage) dirs (lineAfter i line dirs) → length (lineAfter i line dirs .dirs) ≡ length dirs
-      go (inl r) = ap (λ (b : After). length (b .dirs)) (r .is)
-      go (inr a) = ap (λ (b : After). length (b .dirs)) (a .is) ∙ a .as-long
+      go : Answer (i .stage) lent (lineAfter i line lent) → AsLong (lineAfter i line lent .lent) lent
+      go (inl r) = subst (λ (b : After). AsLong (b .lent) lent) (sym (r .is)) (same-long lent)
+      go (inr a) = subst (λ (b : After). AsLong (b .lent) lent) (sym (a .is)) (a .as-long)
 
   -- no refusal has the number 0, so the number tells the outcome
-  pub accepted-number : takenValues (lineAfter i line dirs .taken .outcome) .number ≡ 0
-      → lineAfter i line dirs .taken .outcome ≡ Accepted
-  accepted-number e = go (line-answer i line dirs)
+  pub accepted-number : takenValues (lineAfter i line lent .taken .outcome) .number ≡ 0
+      → lineAfter i line lent .taken .outcome ≡ Accepted
+  accepted-number e = go (line-answer i line lent)
     where
-      go : Answer (i .stage) dirs (lineAfter i line dirs) → lineAfter i line dirs .taken .outcome ≡ Accepted
+      go : Answer (i .stage) lent (lineAfter i line lent) → lineAfter i line lent .taken .outcome ≡ Accepted
       go (inl r) =
           absurd (omega (
             arith,
@@ -165,23 +237,23 @@ module _ (i : Intake) (line dirs : List ℕ) where
           ))
       go (inr a) = ap (λ (b : After). b .taken .outcome) (a .is)
 
-  module _ (e : lineAfter i line dirs .taken .outcome ≡ Accepted) where
-    acceptance : Acceptance (i .stage) dirs (lineAfter i line dirs)
-    acceptance = go (line-answer i line dirs)
+  module _ (e : lineAfter i line lent .taken .outcome ≡ Accepted) where
+    acceptance : Acceptance (i .stage) lent (lineAfter i line lent)
+    acceptance = go (line-answer i line lent)
       where
-        go : Answer (i .stage) dirs (lineAfter i line dirs) → Acceptance (i .stage) dirs (lineAfter i line dirs)
+        go : Answer (i .stage) lent (lineAfter i line lent) → Acceptance (i .stage) lent (lineAfter i line lent)
         go (inl r) = absurd (accepted-not-refused (sym e ∙ ap (λ (b : After). b .taken .outcome) (r .is)))
         go (inr a) = a
 
     -- an accepted line never goes back a stage
-    pub accepted-onward : stageNumber (i .stage) ≤ stageNumber (lineAfter i line dirs .taken .intake .stage)
+    pub accepted-onward : stageNumber (i .stage) ≤ stageNumber (lineAfter i line lent .taken .intake .stage)
     accepted-onward =
         subst (λ (b : After). stageNumber (i .stage) ≤ stageNumber (b .taken .intake .stage)) (sym (acceptance .is))
         (acceptance .onward)
 
-    pub accepted-fits : heldFault (lineAfter i line dirs .taken .intake .stage) (length dirs) ≡ 0
+    pub accepted-fits : heldFaultOf (lineAfter i line lent .taken .intake .stage) lent ≡ 0
     accepted-fits =
-        subst (λ (b : After). heldFault (b .taken .intake .stage) (length dirs) ≡ 0) (sym (acceptance .is))
+        subst (λ (b : After). heldFaultOf (b .taken .intake .stage) lent ≡ 0) (sym (acceptance .is))
         (acceptance .fits)
 
 -- ---- the end
@@ -190,6 +262,8 @@ refused-end-in : (s : Stage) {n : ℕ} → endIn s .outcome ≡ Refused n → en
 unfolding endIn
 refused-end-in WaitingForSizeNames e = refl
 refused-end-in (WaitingForSizes c) e = refl
+refused-end-in (WaitingForWeightOrCellNames z) e = refl
+refused-end-in (WaitingForWeight z row) e = refl
 refused-end-in (WaitingForCellNames z) e = refl
 refused-end-in (TakingCells z c) e = absurd (accepted-not-refused e)
 refused-end-in (Ended z) e = refl
@@ -199,44 +273,53 @@ unfolding endTaken
 refused-end i e = refused-end-in (i .stage) e
 
 -- the end changes no sizes
-end-holds : (s : Stage) (lent : ℕ) → heldFault (endIn s .intake .stage) lent ≡ heldFault s lent
+end-holds : (s : Stage) (lent : LentSheet) → heldFaultOf (endIn s .intake .stage) lent ≡ heldFaultOf s lent
 unfolding endIn
 end-holds WaitingForSizeNames lent = refl
 end-holds (WaitingForSizes c) lent = refl
+end-holds (WaitingForWeightOrCellNames z) lent = refl
+end-holds (WaitingForWeight z row) lent = refl
 end-holds (WaitingForCellNames z) lent = refl
 end-holds (TakingCells z c) lent = refl
 end-holds (Ended z) lent = refl
 
 -- ---- states reached
 
--- a state that is reached from a new one by accepted lines and an accepted end, and the bytes then
-pub data Reached : Intake → List ℕ → Type 0 where
-  at-start : (dirs : List ℕ) → Reached newIntake dirs
-  by-line : {i : Intake} {dirs : List ℕ} → Reached i dirs → (line : List ℕ)
-      → lineAfter i line dirs .taken .outcome ≡ Accepted → Reached (lineAfter i line dirs .taken .intake)
-      (lineAfter i line dirs .dirs)
-  by-end : {i : Intake} {dirs : List ℕ} → Reached i dirs → endTaken i .outcome ≡ Accepted
-      → Reached (endTaken i .intake) dirs
+-- a state that is reached from a new one by accepted lines and an accepted end, and what is lent then
+pub data Reached : Intake → LentSheet → Type 0 where
+  at-start : (lent : LentSheet) → Reached newIntake lent
+  by-line : {i : Intake} {lent : LentSheet} → Reached i lent → (line : List ℕ)
+      → lineAfter i line lent .taken .outcome ≡ Accepted → Reached (lineAfter i line lent .taken .intake)
+      (lineAfter i line lent .lent)
+  by-end : {i : Intake} {lent : LentSheet} → Reached i lent → endTaken i .outcome ≡ Accepted
+      → Reached (endTaken i .intake) lent
 
-pub reached-fits : {i : Intake} {dirs : List ℕ} → Reached i dirs → heldFault (i .stage) (length dirs) ≡ 0
+-- such a state has no fault: none of its lines gets 9 by its row
+pub reached-fits : {i : Intake} {lent : LentSheet} → Reached i lent → heldFaultOf (i .stage) lent ≡ 0
 unfolding endTaken
-reached-fits (at-start dirs) = refl
-reached-fits (by-line {i} {dirs} r line e) =
-    ap (heldFault (lineAfter i line dirs .taken .intake .stage)) (line-length i line dirs) ∙ accepted-fits i line dirs e
-reached-fits (by-end {i} {dirs} r e) = end-holds (i .stage) (length dirs) ∙ reached-fits r
+reached-fits (at-start lent) = refl
+reached-fits (by-line {i} {lent} r line e) =
+    let long = line-long i line lent in
+    rw (long .dirs-long, long .weights-long) (accepted-fits i line lent e)
+reached-fits (by-end {i} {lent} r e) = end-holds (i .stage) lent ∙ reached-fits r
 
 -- the sizes that a stage holds
 pub data Holds : Stage → Sizes → Type 0 where
+  weight-or-names : {z : Sizes} → Holds (WaitingForWeightOrCellNames z) z
+  weight-of-row : {z : Sizes} {row : ℕ} → Holds (WaitingForWeight z row) z
   names : {z : Sizes} → Holds (WaitingForCellNames z) z
   cells : {z : Sizes} {c : Columns} → Holds (TakingCells z c) z
   ended : {z : Sizes} → Holds (Ended z) z
 
-held : {s : Stage} {z : Sizes} (lent : ℕ) → Holds s z → heldFault s lent ≡ 0 → sizesFault z lent ≡ 0
+held : {s : Stage} {z : Sizes} (lent : LentSheet) → Holds s z → heldFaultOf s lent ≡ 0
+    → sizesFault z (length (lent .dirs)) (length (lent .weights)) ≡ 0
+held lent weight-or-names e = e
+held {z = z} lent (weight-of-row {row = row}) e = row-good z _ _ row e .0
 held lent names e = e
 held lent cells e = e
 held lent ended e = e
 
--- the sizes in a state that is reached are within document 01's bounds and fit the slice
-pub reached-sizes : {i : Intake} {dirs : List ℕ} {z : Sizes} → Reached i dirs → Holds (i .stage) z
-    → Fits z (length dirs)
-reached-sizes {i} {dirs} {z} r h = sizes-fit z (length dirs) (held (length dirs) h (reached-fits r))
+-- the sizes in a state that is reached are within document 01's bounds and fit the slices
+pub reached-sizes : {i : Intake} {lent : LentSheet} {z : Sizes} → Reached i lent → Holds (i .stage) z
+    → Fits z (length (lent .dirs)) (length (lent .weights))
+reached-sizes {i} {lent} {z} r h = sizes-fit z _ _ (held lent h (reached-fits r))

@@ -1,5 +1,7 @@
 pub mod Cases
+pub mod WeightCases
 pub mod FaultLaws
 pub mod LineLaws
 pub mod Laws
 pub mod BadLines
+pub mod Weights

@@ -1,54 +1,88 @@
--- Laws of size lines and cell lines, as a reader that has the sizes or the cell in hand uses them.
+-- Laws of size lines, weight lines and cell lines, as a reader that has the sizes, the weight or the cell in hand uses
+-- them.
 use mathlib.Core.Path.{_≡_, _∙_}
+use mathlib.Core.Bool.{true, false}
 use mathlib.Core.List.{List}
-use Prim.Native.Nat.{ℕ}
+use Prim.Native.Nat.{ℕ, _+_}
 use lib.ListN.{length}
 use borrow.Author.Tests.{eq-eqb, ne-eqb}
 use Rattle.lines.specs.declared.columns.Columns.{Columns}
 use Rattle.lines.specs.declared.values.Values.{Values}
 use Rattle.lines.specs.declared.values.ValuesLine.the-variants.{Values as Valued}
+use Rattle.sheet.specs.Refusal.{weightFits}
 use Rattle.intake.specs.declared.Sizes.{Sizes}
 use Rattle.intake.specs.declared.Cell.{Cell}
 use Rattle.intake.specs.declared.Stage.{Stage}
-use Rattle.intake.specs.declared.Stage.the-variants.{WaitingForSizes, WaitingForCellNames, TakingCells}
-use Rattle.intake.specs.Faults.{sizesIn, cellIn, sizesFault, cellFault}
-use Rattle.intake.specs.Intake.{After, accept, refuse, unless, sizesWritten, cellWritten, onSizes, onCells}
+use Rattle.intake.specs.declared.Stage.the-variants.{WaitingForSizes, WaitingForWeightOrCellNames}
+use Rattle.intake.specs.declared.Stage.the-variants.{WaitingForWeight, TakingCells}
+use Rattle.intake.specs.declared.Intake.{Intake}
+use Rattle.intake.specs.Faults.{sizesIn, cellIn, sizesFault, weightFault, cellFault}
+use Rattle.intake.specs.Intake.{LentSheet, After, accept, refuse, unless, sizesWritten, weightWritten}
+use Rattle.intake.specs.Intake.{cellWritten, onSizes, afterWeights, onWeight, onCells, stateFault, lineIn}
+use Rattle.intake.specs.Intake.{lineAfter}
 
-module _ {fault : ℕ} (stage : Stage) (dirs : List ℕ) (next : After) where
-  pub unless-none : fault ≡ 0 → unless fault stage dirs next ≡ next
+module _ {fault : ℕ} (stage : Stage) (lent : LentSheet) (next : After) where
+  pub unless-none : fault ≡ 0 → unless fault stage lent next ≡ next
   unfolding unless
   unless-none e = rw (eq-eqb fault 0 e)
 
-  pub unless-some : (fault ≡ 0 → ⊥) → unless fault stage dirs next ≡ refuse stage dirs fault
+  pub unless-some : (fault ≡ 0 → ⊥) → unless fault stage lent next ≡ refuse stage lent fault
   unfolding unless
   unless-some n = rw (ne-eqb fault 0 n)
 
 -- the sizes z of a size line
-module _ (c : Columns) (v : Values) (dirs : List ℕ) {z : Sizes} (is : z ≡ sizesIn c v) where
-  sizes-line : onSizes c (Valued v) dirs ≡ unless (sizesFault z (length dirs)) (WaitingForSizes c) dirs
-      (accept (WaitingForCellNames z) (sizesWritten z dirs))
+module _ (c : Columns) (v : Values) (lent : LentSheet) {z : Sizes} (is : z ≡ sizesIn c v) where
+  abbrev fault : ℕ
+  fault = sizesFault z (length (lent .dirs)) (length (lent .weights))
+
+  sizes-line : onSizes c (Valued v) lent ≡ unless fault (WaitingForSizes c) lent
+      (accept (WaitingForWeightOrCellNames z) (sizesWritten z lent))
   unfolding onSizes
   sizes-line = rw is
 
-  pub sizes-accepted : sizesFault z (length dirs) ≡ 0
-      → onSizes c (Valued v) dirs ≡ accept (WaitingForCellNames z) (sizesWritten z dirs)
+  pub sizes-accepted : fault ≡ 0
+      → onSizes c (Valued v) lent ≡ accept (WaitingForWeightOrCellNames z) (sizesWritten z lent)
   sizes-accepted e = sizes-line ∙ unless-none _ _ _ e
 
-  pub sizes-refused : (sizesFault z (length dirs) ≡ 0 → ⊥)
-      → onSizes c (Valued v) dirs ≡ refuse (WaitingForSizes c) dirs (sizesFault z (length dirs))
+  pub sizes-refused : (fault ≡ 0 → ⊥) → onSizes c (Valued v) lent ≡ refuse (WaitingForSizes c) lent fault
   sizes-refused n = sizes-line ∙ unless-some _ _ _ n
 
+-- the weight of a weight line
+module _ (z : Sizes) (row : ℕ) (v : Values) (lent : LentSheet) where
+  pub weight-accepted : weightFits (v .first) ≡ true
+      → onWeight z row (Valued v) lent ≡ accept (afterWeights z (row + 1)) (weightWritten row (v .first) lent)
+  unfolding onWeight weightFault
+  weight-accepted e = rw e
+
+  pub weight-refused : weightFits (v .first) ≡ false
+      → onWeight z row (Valued v) lent ≡ refuse (WaitingForWeight z row) lent 17
+  unfolding onWeight weightFault
+  weight-refused e = rw e
+
 -- the cell x of a cell line
-module _ (z : Sizes) (c : Columns) (v : Values) (dirs : List ℕ) {x : Cell} (is : x ≡ cellIn c v) where
-  cell-line : onCells z c (Valued v) dirs ≡ unless (cellFault z x dirs) (TakingCells z c) dirs
-      (accept (TakingCells z c) (cellWritten z x dirs))
+module _ (z : Sizes) (c : Columns) (v : Values) (lent : LentSheet) {x : Cell} (is : x ≡ cellIn c v) where
+  cell-line : onCells z c (Valued v) lent ≡ unless (cellFault z x (lent .dirs)) (TakingCells z c) lent
+      (accept (TakingCells z c) (cellWritten z x lent))
   unfolding onCells
   cell-line = rw is
 
-  pub cell-accepted : cellFault z x dirs ≡ 0
-      → onCells z c (Valued v) dirs ≡ accept (TakingCells z c) (cellWritten z x dirs)
+  pub cell-accepted : cellFault z x (lent .dirs) ≡ 0
+      → onCells z c (Valued v) lent ≡ accept (TakingCells z c) (cellWritten z x lent)
   cell-accepted e = cell-line ∙ unless-none _ _ _ e
 
-  pub cell-refused : (cellFault z x dirs ≡ 0 → ⊥)
-      → onCells z c (Valued v) dirs ≡ refuse (TakingCells z c) dirs (cellFault z x dirs)
+  pub cell-refused : (cellFault z x (lent .dirs) ≡ 0 → ⊥)
+      → onCells z c (Valued v) lent ≡ refuse (TakingCells z c) lent (cellFault z x (lent .dirs))
   cell-refused n = cell-line ∙ unless-some _ _ _ n
+
+-- a line in a state
+module _ (i : Intake) (line : List ℕ) (lent : LentSheet) where
+  pub line-good : stateFault (i .stage) (length (lent .dirs)) (length (lent .weights)) ≡ 0
+      → lineAfter i line lent ≡ lineIn (i .stage) line lent
+  unfolding lineAfter
+  line-good e = unless-none _ _ _ e
+
+  pub line-fault : (stateFault (i .stage) (length (lent .dirs)) (length (lent .weights)) ≡ 0 → ⊥)
+      → lineAfter i line lent
+      ≡ refuse (i .stage) lent (stateFault (i .stage) (length (lent .dirs)) (length (lent .weights)))
+  unfolding lineAfter
+  line-fault n = unless-some _ _ _ n

@@ -1,6 +1,7 @@
--- What refuses sizes and a cell line: tests in document 01's order, with its numbers; 0 is no fault.
+-- What refuses sizes, a state that waits for a weight, a weight line and a cell line: tests in the documents' order,
+-- with their numbers; 0 is no fault.
 use mathlib.Core.Bool.{Bool, cond}
-use mathlib.Core.List.{List, [], _∷_}
+use mathlib.Core.List.{List, [], _∷_, _++_}
 use Prim.Native.Nat.{ℕ, _*_}
 use lib.Dec.{leb, ltb, eqb}
 use lib.ListN.{getD}
@@ -10,7 +11,7 @@ use Rattle.lines.specs.declared.values.Values.{Values}
 use Rattle.lines.specs.Columns.{sameColumn}
 use Rattle.lines.specs.Values.{valueOf}
 use Rattle.sheet.specs.Direction.{isCode, cellNumber}
-use Rattle.sheet.specs.Refusal.{both, sizesFit, depthFits}
+use Rattle.sheet.specs.Refusal.{both, sizesFit, depthFits, weightFits}
 use Rattle.intake.specs.declared.Sizes.{Sizes}
 use Rattle.intake.specs.declared.Cell.{Cell}
 
@@ -41,17 +42,37 @@ unfoldable pub firstFailing : List Test → ℕ
 firstFailing [] = 0
 firstFailing (t ∷ ts) = let rest : ℕ = firstFailing ts in cond (t .passed) rest (t .number)
 
--- the tests of sizes, where `lent` direction bytes are lent
-abbrev pub sizesTests : Sizes → ℕ → List Test
-sizesTests z lent =
+-- a direction byte for each cell and a weight for each row
+unfoldable pub lentEnough : Sizes → ℕ → ℕ → Bool
+lentEnough z dirs weights = both (leb (cellCount z) dirs) (leb (z .rows) weights)
+
+-- the tests of sizes, where so many direction bytes and so many weights are lent
+abbrev pub sizesTests : Sizes → ℕ → ℕ → List Test
+sizesTests z dirs weights =
     test 1 (sizesFit (z .rows) (z .cols))
     ∷ test 2 (depthFits (z .depth))
-    ∷ test 3 (leb (cellCount z) lent)
+    ∷ test 3 (lentEnough z dirs weights)
     ∷ []
 
-unfoldable pub sizesFault : Sizes → ℕ → ℕ
-unfolding firstFailing sizesFit depthFits
-sizesFault z lent = firstFailing (sizesTests z lent)
+unfoldable pub sizesFault : Sizes → ℕ → ℕ → ℕ
+unfolding firstFailing sizesFit depthFits lentEnough
+sizesFault z dirs weights = firstFailing (sizesTests z dirs weights)
+
+-- the tests of a state that waits for the weight of a row: those of its sizes, then the row
+abbrev pub rowTests : Sizes → ℕ → ℕ → ℕ → List Test
+rowTests z row dirs weights = sizesTests z dirs weights ++ (test 9 (ltb row (z .rows)) ∷ [])
+
+unfoldable pub rowFault : Sizes → ℕ → ℕ → ℕ → ℕ
+unfolding firstFailing sizesFit depthFits lentEnough
+rowFault z row dirs weights = firstFailing (rowTests z row dirs weights)
+
+-- the test of a weight line
+abbrev pub weightTests : ℕ → List Test
+weightTests weight = test 17 (weightFits weight) ∷ []
+
+unfoldable pub weightFault : ℕ → ℕ
+unfolding firstFailing weightFits
+weightFault weight = firstFailing (weightTests weight)
 
 unfoldable pub onSheet : Sizes → Cell → Bool
 onSheet z x = both (ltb (x .row) (z .rows)) (ltb (x .col) (z .cols))

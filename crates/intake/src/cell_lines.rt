@@ -1,11 +1,14 @@
 // A cell and its line.
 ghost use mathlib.Core.Path.{_≡_};
-ghost use lib.ListN.{length};
+ghost use mathlib.Core.List.{List};
+ghost use Prim.Native.Nat.{ℕ};
+ghost use Rattle.lines.specs.Columns.{columnCount};
 ghost use Rattle.lines.specs.Values.{valuesLine};
 ghost use Rattle.lines.specs.declared.values.ValuesLine.{ValuesLine};
 ghost use Rattle.sheet.specs.Direction.{isCode};
-ghost use Rattle.intake.specs.Faults.{sizesFault, cellIn, onSheet, cellFault};
-ghost use Rattle.intake.specs.Intake.{cellWritten, onCells};
+ghost use Rattle.directions.specs.Sizes.{Sized};
+ghost use Rattle.intake.specs.Faults.{cellIn, onSheet, cellFault};
+ghost use Rattle.intake.specs.Intake.{lentSheet, cellWritten, onCells};
 use super::Cell;
 use super::Sizes;
 use super::Stage;
@@ -16,6 +19,7 @@ use lines::columns::Column;
 use lines::columns::Columns;
 use lines::values::Values;
 use lines::values::ValuesLine;
+use lines::values::read_values;
 use lines::values::value_of;
 
 fn cell_in(columns: Columns, values: Values) -> Cell
@@ -49,7 +53,7 @@ fn is_dir(dir: u32) -> bool
 
 // The refusal of a cell by 9, 4, 10, or 0.
 fn cell_fault(sizes: Sizes, cell: Cell, dirs: &[u8]) -> u8
-    requires { ⌜ sizesFault sizes (length (now dirs)) ≡ 0 ⌝ }
+    requires { ⌜ Sized (sizes .rows) (sizes .cols) (now dirs) ⌝ }
     ensures { λ r. ⌜ r ≡ cellFault sizes cell (now (dirs .entry)) ⌝ }
 {
     let place_ok = on_sheet(sizes, cell);
@@ -66,19 +70,20 @@ fn cell_fault(sizes: Sizes, cell: Cell, dirs: &[u8]) -> u8
     9
 }
 
-// Sets the byte of a cell that has no fault.
+// Sets the byte of a cell that has no fault; weights, which are not lent here, stay as they are.
 fn write_cell(sizes: Sizes, cell: Cell, dirs: &mut [u8])
-    requires { ⌜ sizesFault sizes (length (now dirs)) ≡ 0 ⌝ }
+    requires { ⌜ Sized (sizes .rows) (sizes .cols) (now dirs) ⌝ }
     requires { ⌜ cellFault sizes cell (now dirs) ≡ 0 ⌝ }
-    ensures { λ _. ⌜ now (dirs .exit) ≡ cellWritten sizes cell (now (dirs .entry)) ⌝ }
+    ensures { λ _. ⌜ ((weights : List ℕ) → lentSheet (now (dirs .exit)) weights
+        ≡ cellWritten sizes cell (lentSheet (now (dirs .entry)) weights)) ⌝ }
 {
     dirs[cell.row * sizes.cols + cell.col] = cell.dir as u8;
 }
 
 fn take_cell(sizes: Sizes, columns: Columns, values: Values, dirs: &mut [u8]) -> Taken
-    requires { ⌜ sizesFault sizes (length (now dirs)) ≡ 0 ⌝ }
-    ensures { λ r. ⌜ record { taken = r; dirs = now (dirs .exit) }
-        ≡ onCells sizes columns (ValuesLine.Values values) (now (dirs .entry)) ⌝ }
+    requires { ⌜ Sized (sizes .rows) (sizes .cols) (now dirs) ⌝ }
+    ensures { λ r. ⌜ ((weights : List ℕ) → record { taken = r; lent = lentSheet (now (dirs .exit)) weights }
+        ≡ onCells sizes columns (ValuesLine.Values values) (lentSheet (now (dirs .entry)) weights)) ⌝ }
 {
     let cell = cell_in(columns, values);
     let fault = cell_fault(sizes, cell, dirs);
@@ -93,11 +98,12 @@ fn take_cell(sizes: Sizes, columns: Columns, values: Values, dirs: &mut [u8]) ->
 }
 
 pub fn cell_line(sizes: Sizes, columns: Columns, line: &[u8], dirs: &mut [u8]) -> Taken
-    requires { ⌜ sizesFault sizes (length (now dirs)) ≡ 0 ⌝ }
-    ensures { λ r. ⌜ record { taken = r; dirs = now (dirs .exit) }
-        ≡ onCells sizes columns (valuesLine (now (line .entry))) (now (dirs .entry)) ⌝ }
+    requires { ⌜ Sized (sizes .rows) (sizes .cols) (now dirs) ⌝ }
+    ensures { λ r. ⌜ ((weights : List ℕ) → record { taken = r; lent = lentSheet (now (dirs .exit)) weights }
+        ≡ onCells sizes columns (valuesLine columnCount (now (line .entry)))
+        (lentSheet (now (dirs .entry)) weights)) ⌝ }
 {
-    let ValuesLine::Values(values) = lines::values::read_values(line) else {
+    let ValuesLine::Values(values) = read_values(line, lines::COLUMN_COUNT) else {
         return answer(Stage::TakingCells(sizes, columns), TakenOutcome::Refused(8));
     };
     take_cell(sizes, columns, values, dirs)

@@ -1,18 +1,22 @@
 // The intake of a sheet's file: it takes one line at a time and hands its state back.
 ghost use mathlib.Core.Path.{_≡_};
 ghost use lib.ListN.{length};
-ghost use Rattle.intake.specs.Intake.{takenValues, newIntake, stateFault, lineIn, lineAfter, endTaken};
+ghost use Rattle.intake.specs.Intake.{takenValues, lentSheet, newIntake, stateFault, lineIn, lineAfter, endTaken};
 
 mod cell_lines;
 mod name_lines;
 mod size_lines;
+mod weight_lines;
 
 use cell_lines::cell_line;
 use lines::columns::Columns;
 use name_lines::cell_names_line;
 use name_lines::size_names_line;
+use name_lines::weight_or_cell_names_line;
 use size_lines::sizes_fault;
 use size_lines::sizes_line;
+use weight_lines::row_fault;
+use weight_lines::weight_line;
 
 // The sizes of a sheet, as the file lists them.
 pub struct Sizes {
@@ -28,10 +32,13 @@ pub struct Cell {
     pub dir: u32,
 }
 
-// The stage of an intake, with what later lines need: the order of the columns, the sizes.
+// The stage of an intake, with what later lines need: the order of the columns, the sizes, the row whose weight comes
+// next.
 pub enum Stage {
     WaitingForSizeNames,
     WaitingForSizes(Columns),
+    WaitingForWeightOrCellNames(Sizes),
+    WaitingForWeight(Sizes, usize),
     WaitingForCellNames(Sizes),
     TakingCells(Sizes, Columns),
     Ended(Sizes),
@@ -72,29 +79,34 @@ fn answer(stage: Stage, outcome: TakenOutcome) -> Taken
     }
 }
 
-// The refusal of the sizes of a state, or 0. An ended state has none: 13 goes before it.
-fn state_fault(stage: Stage, lent: usize) -> u8
-    ensures { λ r. ⌜ r ≡ stateFault stage lent ⌝ }
+// The refusal of a state by its sizes, or by the row whose weight it waits for, or 0. An ended state has none: 13 goes
+// before it.
+fn state_fault(stage: Stage, dirs: usize, weights: usize) -> u8
+    ensures { λ r. ⌜ r ≡ stateFault stage dirs weights ⌝ }
 {
     match stage {
         Stage::WaitingForSizeNames => 0,
         Stage::WaitingForSizes(_) => 0,
-        Stage::WaitingForCellNames(sizes) => sizes_fault(sizes, lent),
-        Stage::TakingCells(sizes, _) => sizes_fault(sizes, lent),
+        Stage::WaitingForWeightOrCellNames(sizes) => sizes_fault(sizes, dirs, weights),
+        Stage::WaitingForWeight(sizes, row) => row_fault(sizes, row, dirs, weights),
+        Stage::WaitingForCellNames(sizes) => sizes_fault(sizes, dirs, weights),
+        Stage::TakingCells(sizes, _) => sizes_fault(sizes, dirs, weights),
         Stage::Ended(_) => 0,
     }
 }
 
-// A line in a state whose sizes are good.
-fn line_in(stage: Stage, line: &[u8], dirs: &mut [u8]) -> Taken
-    requires { ⌜ stateFault stage (length (now dirs)) ≡ 0 ⌝ }
-    ensures { λ r. ⌜ record { taken = r; dirs = now (dirs .exit) }
-        ≡ lineIn stage (now (line .entry)) (now (dirs .entry)) ⌝ }
+// A line in a state that has no fault.
+fn line_in(stage: Stage, line: &[u8], dirs: &mut [u8], weights: &mut [u16]) -> Taken
+    requires { ⌜ stateFault stage (length (now dirs)) (length (now weights)) ≡ 0 ⌝ }
+    ensures { λ r. ⌜ record { taken = r; lent = lentSheet (now (dirs .exit)) (now (weights .exit)) }
+        ≡ lineIn stage (now (line .entry)) (lentSheet (now (dirs .entry)) (now (weights .entry))) ⌝ }
 {
     match stage {
         Stage::WaitingForSizeNames => size_names_line(line),
-        Stage::WaitingForSizes(columns) => sizes_line(columns, line, dirs),
-        Stage::WaitingForCellNames(sizes) => cell_names_line(sizes, line),
+        Stage::WaitingForSizes(columns) => sizes_line(columns, line, dirs, weights),
+        Stage::WaitingForWeightOrCellNames(sizes) => weight_or_cell_names_line(sizes, line),
+        Stage::WaitingForWeight(sizes, row) => weight_line(sizes, row, line, weights),
+        Stage::WaitingForCellNames(sizes) => cell_names_line(stage, sizes, line),
         Stage::TakingCells(sizes, columns) => cell_line(sizes, columns, line, dirs),
         Stage::Ended(_) => answer(stage, TakenOutcome::Refused(13)),
     }
@@ -110,16 +122,17 @@ impl Intake {
     }
 
     // Takes one line, without its line feed.
-    pub fn line(self, line: &[u8], dirs: &mut [u8]) -> Taken
-        ensures after { λ r. ⌜ record { taken = r; dirs = now (dirs .exit) }
-            ≡ lineAfter self (now (line .entry)) (now (dirs .entry)) ⌝ }
+    pub fn line(self, line: &[u8], dirs: &mut [u8], weights: &mut [u16]) -> Taken
+        ensures after { λ r. ⌜ record { taken = r; lent = lentSheet (now (dirs .exit)) (now (weights .exit)) }
+            ≡ lineAfter self (now (line .entry)) (lentSheet (now (dirs .entry)) (now (weights .entry))) ⌝ }
         ensures values { λ r. ⌜ takenValues (r .outcome)
-            ≡ takenValues (lineAfter self (now (line .entry)) (now (dirs .entry)) .taken .outcome) ⌝ }
+            ≡ takenValues (lineAfter self (now (line .entry))
+            (lentSheet (now (dirs .entry)) (now (weights .entry))) .taken .outcome) ⌝ }
     {
         let stage = self.stage;
-        let fault = state_fault(stage, dirs.len());
+        let fault = state_fault(stage, dirs.len(), weights.len());
         if fault == 0 {
-            return line_in(stage, line, dirs);
+            return line_in(stage, line, dirs, weights);
         }
         answer(stage, TakenOutcome::Refused(fault))
     }
@@ -133,6 +146,8 @@ impl Intake {
         match stage {
             Stage::WaitingForSizeNames => answer(stage, TakenOutcome::Refused(14)),
             Stage::WaitingForSizes(_) => answer(stage, TakenOutcome::Refused(14)),
+            Stage::WaitingForWeightOrCellNames(_) => answer(stage, TakenOutcome::Refused(14)),
+            Stage::WaitingForWeight(_, _) => answer(stage, TakenOutcome::Refused(14)),
             Stage::WaitingForCellNames(_) => answer(stage, TakenOutcome::Refused(14)),
             Stage::TakingCells(sizes, _) => answer(Stage::Ended(sizes), TakenOutcome::Accepted),
             Stage::Ended(_) => answer(stage, TakenOutcome::Refused(13)),

@@ -1,12 +1,14 @@
 // Sizes and their line.
 ghost use mathlib.Core.Path.{_≡_};
-ghost use mathlib.Core.List.{_++_};
+ghost use mathlib.Core.Bool.{true};
 ghost use Prim.Native.Nat.{_≤_};
-ghost use lib.ListN.{length, drop, replicate};
+ghost use lib.ListN.{length};
+ghost use Rattle.lines.specs.Columns.{columnCount};
 ghost use Rattle.lines.specs.Values.{valuesLine};
 ghost use Rattle.lines.specs.declared.values.ValuesLine.{ValuesLine};
-ghost use Rattle.intake.specs.Faults.{sizesIn, sizesFault};
-ghost use Rattle.intake.specs.Intake.{onSizes};
+ghost use Rattle.sheet.specs.Refusal.{sizesFit};
+ghost use Rattle.intake.specs.Faults.{sizesIn, lentEnough, sizesFault};
+ghost use Rattle.intake.specs.Intake.{lentSheet, firstSet, onSizes};
 use super::Sizes;
 use super::Stage;
 use super::Taken;
@@ -18,17 +20,29 @@ use lines::columns::Column;
 use lines::columns::Columns;
 use lines::values::Values;
 use lines::values::ValuesLine;
+use lines::values::read_values;
 use lines::values::value_of;
 
-// The refusal of sizes by 1, 2, 3, or 0, where `lent` direction bytes are lent.
-pub fn sizes_fault(sizes: Sizes, lent: usize) -> u8
-    ensures { λ r. ⌜ r ≡ sizesFault sizes lent ⌝ }
+// A direction byte for each cell and a weight for each row.
+fn lent_enough(sizes: Sizes, dirs: usize, weights: usize) -> bool
+    requires { ⌜ sizesFit (sizes .rows) (sizes .cols) ≡ true ⌝ }
+    ensures { λ r. ⌜ r ≡ lentEnough sizes dirs weights ⌝ }
+{
+    if sizes.rows * sizes.cols <= dirs {
+        return sizes.rows <= weights;
+    }
+    false
+}
+
+// The refusal of sizes by 1, 2, 3, or 0, where so many direction bytes and so many weights are lent.
+pub fn sizes_fault(sizes: Sizes, dirs: usize, weights: usize) -> u8
+    ensures { λ r. ⌜ r ≡ sizesFault sizes dirs weights ⌝ }
 {
     let sizes_ok = sizes_fit(sizes.rows, sizes.cols);
     let depth_ok = depth_fits(sizes.depth);
     if sizes_ok {
         if depth_ok {
-            if sizes.rows * sizes.cols <= lent {
+            if lent_enough(sizes, dirs, weights) {
                 return 0;
             }
             return 3;
@@ -51,7 +65,7 @@ fn sizes_in(columns: Columns, values: Values) -> Sizes
 // Sets the first n bytes to 0.
 fn clear(dirs: &mut [u8], n: usize)
     requires { ⌜ n ≤ length (now dirs) ⌝ }
-    ensures { λ _. ⌜ now (dirs .exit) ≡ replicate n 0 ++ drop n (now (dirs .entry)) ⌝ }
+    ensures { λ _. ⌜ now (dirs .exit) ≡ firstSet n 0 (now (dirs .entry)) ⌝ }
 {
     let mut i = 0;
     while i < n {
@@ -60,15 +74,31 @@ fn clear(dirs: &mut [u8], n: usize)
     }
 }
 
-fn take_sizes(columns: Columns, values: Values, dirs: &mut [u8]) -> Taken
-    ensures { λ r. ⌜ record { taken = r; dirs = now (dirs .exit) }
-        ≡ onSizes columns (ValuesLine.Values values) (now (dirs .entry)) ⌝ }
+// Sets the first n weights to 1.
+fn set_to_one(weights: &mut [u16], n: usize)
+    requires { ⌜ n ≤ length (now weights) ⌝ }
+    ensures { λ _. ⌜ now (weights .exit) ≡ firstSet n 1 (now (weights .entry)) ⌝ }
+{
+    let mut row = 0;
+    while row < n {
+        weights[row] = 1;
+        row += 1;
+    }
+}
+
+fn take_sizes(columns: Columns, values: Values, dirs: &mut [u8], weights: &mut [u16]) -> Taken
+    ensures { λ r. ⌜ record { taken = r; lent = lentSheet (now (dirs .exit)) (now (weights .exit)) }
+        ≡ onSizes columns (ValuesLine.Values values) (lentSheet (now (dirs .entry)) (now (weights .entry))) ⌝ }
 {
     let sizes = sizes_in(columns, values);
-    let fault = sizes_fault(sizes, dirs.len());
+    let fault = sizes_fault(sizes, dirs.len(), weights.len());
     if fault == 0 {
         clear(dirs, sizes.rows * sizes.cols);
-        return answer(Stage::WaitingForCellNames(sizes), TakenOutcome::Accepted);
+        set_to_one(weights, sizes.rows);
+        return answer(
+            Stage::WaitingForWeightOrCellNames(sizes),
+            TakenOutcome::Accepted,
+        );
     }
     answer(
         Stage::WaitingForSizes(columns),
@@ -76,12 +106,13 @@ fn take_sizes(columns: Columns, values: Values, dirs: &mut [u8]) -> Taken
     )
 }
 
-pub fn sizes_line(columns: Columns, line: &[u8], dirs: &mut [u8]) -> Taken
-    ensures { λ r. ⌜ record { taken = r; dirs = now (dirs .exit) }
-        ≡ onSizes columns (valuesLine (now (line .entry))) (now (dirs .entry)) ⌝ }
+pub fn sizes_line(columns: Columns, line: &[u8], dirs: &mut [u8], weights: &mut [u16]) -> Taken
+    ensures { λ r. ⌜ record { taken = r; lent = lentSheet (now (dirs .exit)) (now (weights .exit)) }
+        ≡ onSizes columns (valuesLine columnCount (now (line .entry)))
+        (lentSheet (now (dirs .entry)) (now (weights .entry))) ⌝ }
 {
-    let ValuesLine::Values(values) = lines::values::read_values(line) else {
+    let ValuesLine::Values(values) = read_values(line, lines::COLUMN_COUNT) else {
         return answer(Stage::WaitingForSizes(columns), TakenOutcome::Refused(8));
     };
-    take_sizes(columns, values, dirs)
+    take_sizes(columns, values, dirs, weights)
 }

@@ -12,7 +12,7 @@ use Rattle.sheet.specs.declared.Outcome.{Outcome}
 use Rattle.sheet.specs.declared.Outcome.the-variants.{Accepted, Refused}
 use Rattle.sheet.specs.Sheet.{Sheet, cells}
 use Rattle.sheet.specs.Label.{areasOf, labelsOf}
-use Rattle.sheet.specs.Refusal.{Lent, both, written, sizesFit, depthFits, slicesFit, outcomeOn, outcome}
+use Rattle.sheet.specs.Refusal.{Lent, both, written, sizesFit, depthFits, slicesFit, outcomeFrom17, outcome}
 use Rattle.sheet.specs.Refusal.{outcomeValues, ifAccepted, lentAfter}
 use Rattle.sheet.proofs.Cells.{cells-most}
 use Rattle.sheet.proofs.Within.{both-true, rows-cols-most, cols-some, depth-most}
@@ -45,10 +45,11 @@ module _ (S : Sheet) (L : Lent) where
   answered e l = (e, (ap outcomeValues e, l))
 
   abbrev fits : Bool
-  fits = both (sizesFit (S .grid .rows) (S .grid .cols)) (both (depthFits (S .depth)) (slicesFit (S .grid) L))
+  fits = both (sizesFit (S .grid .rows) (S .grid .cols)) (both (depthFits (S .depth)) (slicesFit S L))
 
   record Long : Type 0 where
     dirs : cells (S .grid) ≤ length (S .grid .dirs)
+    weights : S .grid .rows ≤ length (S .weights)
     areas : cells (S .grid) ≤ length (L .areas)
     labels : cells (S .grid) ≤ length (L .labels)
     work : 8 * cells (S .grid) ≤ length (L .work)
@@ -70,13 +71,13 @@ module _ (S : Sheet) (L : Lent) where
   record By (a b c : Bool) : Type 0 where
     sizes : sizesFit (S .grid .rows) (S .grid .cols) ≡ a
     depth : depthFits (S .depth) ≡ b
-    slices : slicesFit (S .grid) L ≡ c
+    slices : slicesFit S L ≡ c
     first : firstChecks S L ≡ cond a (cond b (cond c Accepted (Refused 3 0)) (Refused 2 0)) (Refused 1 0)
-    whole : outcome S L ≡ cond a (cond b (cond c (outcomeOn (S .grid)) (Refused 3 0)) (Refused 2 0)) (Refused 1 0)
+    whole : outcome S L ≡ cond a (cond b (cond c (outcomeFrom17 S) (Refused 3 0)) (Refused 2 0)) (Refused 1 0)
     fit : fits ≡ both a (both b c)
 
   by : {a b c : Bool} → sizesFit (S .grid .rows) (S .grid .cols) ≡ a → depthFits (S .depth) ≡ b
-      → slicesFit (S .grid) L ≡ c → By a b c
+      → slicesFit S L ≡ c → By a b c
   unfolding outcome checkedFirst slicesFit
   by e f g = record {
     sizes = e;
@@ -90,7 +91,7 @@ module _ (S : Sheet) (L : Lent) where
   -- refused by one of them
   pub refused : {number place : ℕ} → firstChecks S L ≡ Refused number place → Answered (Refused number place) L
   refused {number} {place} r =
-      go (sizesFit (S .grid .rows) (S .grid .cols)) (depthFits (S .depth)) (slicesFit (S .grid) L) (by refl refl refl)
+      go (sizesFit (S .grid .rows) (S .grid .cols)) (depthFits (S .depth)) (slicesFit S L) (by refl refl refl)
     where
       same : {o : Outcome} → firstChecks S L ≡ o → outcome S L ≡ o → fits ≡ false → Answered (Refused number place) L
       same e w f = let o = w ∙ sym e ∙ r in answered (sym o) (lent-kept number place o f)
@@ -106,7 +107,7 @@ module _ (S : Sheet) (L : Lent) where
   -- all are passed
   passed : firstChecks S L ≡ Accepted → By true true true
   passed r =
-      go (sizesFit (S .grid .rows) (S .grid .cols)) (depthFits (S .depth)) (slicesFit (S .grid) L) (by refl refl refl)
+      go (sizesFit (S .grid .rows) (S .grid .cols)) (depthFits (S .depth)) (slicesFit S L) (by refl refl refl)
     where
       clash : {number place : ℕ} → firstChecks S L ≡ Refused number place → By true true true
       clash e = let z : _≡_ {A = ℕ} 0 1 = cc in absurd (omega arith)
@@ -123,14 +124,17 @@ module _ (S : Sheet) (L : Lent) where
     unfolding slicesFit
     long =
         let a = leb (cells (S .grid)) (length (S .grid .dirs)) in
+        let w = leb (S .grid .rows) (length (S .weights)) in
         let b = leb (cells (S .grid)) (length (L .areas)) in
         let c = leb (cells (S .grid)) (length (L .labels)) in
         let d = leb (8 * cells (S .grid)) (length (L .work)) in
-        let p = both-true a (both b (both c d)) (passed accepted .slices) in
+        let o = both-true a (both w (both b (both c d))) (passed accepted .slices) in
+        let p = both-true w (both b (both c d)) (o .1) in
         let q = both-true b (both c d) (p .1) in
         let r = both-true c d (q .1) in
         record {
-          dirs = leb-true (cells (S .grid)) (length (S .grid .dirs)) (p .0);
+          dirs = leb-true (cells (S .grid)) (length (S .grid .dirs)) (o .0);
+          weights = leb-true (S .grid .rows) (length (S .weights)) (p .0);
           areas = leb-true (cells (S .grid)) (length (L .areas)) (q .0);
           labels = leb-true (cells (S .grid)) (length (L .labels)) (r .0);
           work = leb-true (8 * cells (S .grid)) (length (L .work)) (r .1);
@@ -142,7 +146,7 @@ module _ (S : Sheet) (L : Lent) where
     pub sizes-bounded : Bounded (S .grid .rows) (S .grid .cols)
     sizes-bounded = bounded (S .grid .rows) (S .grid .cols) (passed accepted .sizes)
 
-    -- checks 4 to 7 can begin
+    -- checks 17 and 4 to 7 can begin
     pub fitting : Fitting S
         (record { areas = L .areas; labels = L .labels; work = take (8 * cells (S .grid)) (L .work) })
     fitting = record {
@@ -153,6 +157,7 @@ module _ (S : Sheet) (L : Lent) where
         long = long .dirs;
       };
       depth-most = depth-most (S .depth) (passed accepted .depth);
+      weights = long .weights;
       areas = long .areas;
       labels = long .labels;
       work = length-take-le (8 * cells (S .grid)) (L .work) room;
@@ -170,17 +175,18 @@ module _ (S : Sheet) (L : Lent) where
           t .depth,
           length-take-le (8 * n) (L .work) room,
           le-leb n (length (S .grid .dirs)) (long .dirs),
+          le-leb (S .grid .rows) (length (S .weights)) (long .weights),
           le-leb n (length (L .areas)) (long .areas),
           le-leb n (length (L .labels)) (long .labels),
           le-leb (8 * n) (8 * n) (omega arith),
         )
 
-    -- checks 4 to 7 decide
-    pub the-rest : outcome S L ≡ outcomeOn (S .grid)
+    -- checks 17 and 4 to 7 decide
+    pub the-rest : outcome S L ≡ outcomeFrom17 S
     the-rest = passed accepted .whole
 
-    -- after checks 4 to 7
-    pub labelled : {r : Outcome} {areas labels work : List ℕ} → r ≡ outcomeOn (S .grid)
+    -- after checks 17 and 4 to 7
+    pub labelled : {r : Outcome} {areas labels work : List ℕ} → r ≡ outcomeFrom17 S
         → areas ≡ ifAccepted r (areasOf S) (L .areas)
         → labels ≡ ifAccepted r (labelsOf S) (L .labels) → work ≡ replicate (8 * cells (S .grid)) 0 ++ drop
         (8 * cells (S .grid)) (L .work)

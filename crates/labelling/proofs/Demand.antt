@@ -1,4 +1,4 @@
--- The third demand holds of the labels as the calls wrote them.
+-- The third demand and the outlet rule hold of the labels as the calls wrote them.
 use mathlib.Core.Path.{_≡_, refl}
 use mathlib.Core.Option.{Option, none, some}
 use mathlib.Core.List.{List}
@@ -9,29 +9,37 @@ use Rattle.sheet.specs.Sheet.{Sheet}
 use Rattle.sheet.specs.Refusal.{Lent, outcome, lentAfter}
 use Rattle.intake.specs.declared.Intake.{Intake}
 use Rattle.intake.specs.declared.Sizes.{Sizes}
-use Rattle.intake.specs.Intake.{endedSizes}
-use Rattle.claims.specs.Demand.{DemandThreeOf}
-use Rattle.claims.proofs.Theorems.{demand-three}
-use Rattle.labelling.specs.Labelling.{sheet}
-use Rattle.labelling.specs.FromIntake.{outcomeWith, lentWith, intakeOutcome, intakeLent}
-use Rattle.labelling.specs.Demand.{LabelledDirectly, LabelledFrom, DemandThreeFrom, DemandThreeWhole}
+use Rattle.intake.specs.Intake.{LentSheet, endedSizes}
+use Rattle.claims.proofs.Theorems.{demand-three, outlet-rule}
+use Rattle.labelling.specs.FromIntake.{sheetOf, outcomeWith, lentWith, intakeOutcome, intakeLent}
+use Rattle.labelling.specs.Demand.{LabelledDirectly, LabelledFrom, OfIntake, ForAllAccepted, DemandThreeWhole}
+use Rattle.labelling.specs.Demand.{OutletRuleWhole}
 
-directly : (S : Sheet) (L L′ : Lent) → LabelledDirectly S L L′ → DemandThreeOf S (L′ .labels)
-directly S L L′ c = rw (c .after) (demand-three S L (c .accepted))
+-- what holds of every accepted sheet and the labels that the definition writes, holds however it is labelled
+module _ (Statement : Sheet → List ℕ → Type 0)
+    (of : (S : Sheet) (L : Lent) → outcome S L ≡ Accepted → Statement S (lentAfter S L .labels)) where
+  directly : (S : Sheet) (L L′ : Lent) → LabelledDirectly S L L′ → Statement S (L′ .labels)
+  directly S L L′ c = rw (c .after) (of S L (c .accepted))
 
-from-sizes : (i : Intake) (sizes : Option Sizes) (dirs : List ℕ) (L L′ : Lent) → endedSizes (i .stage) ≡ sizes
-    → outcomeWith sizes dirs L ≡ Accepted → L′ ≡ lentWith sizes dirs L → DemandThreeFrom i dirs (L′ .labels)
-unfolding outcomeWith lentWith
-from-sizes i none dirs L L′ e a f = let z : _≡_ {A = ℕ} 0 1 = cc in absurd (omega arith)
-from-sizes i (some z) dirs L L′ e a f = record {
-  sizes = z;
-  ended = e;
-  demand = directly (sheet (z .rows) (z .cols) (z .depth) dirs) L L′ (record { accepted = a; after = f });
-}
+  from-sizes : (i : Intake) (sizes : Option Sizes) (T : LentSheet) (L L′ : Lent) → endedSizes (i .stage) ≡ sizes
+      → outcomeWith sizes T L ≡ Accepted → L′ ≡ lentWith sizes T L → OfIntake Statement i T (L′ .labels)
+  unfolding outcomeWith lentWith
+  from-sizes i none T L L′ e a f = let z : _≡_ {A = ℕ} 0 1 = cc in absurd (omega arith)
+  from-sizes i (some z) T L L′ e a f = record {
+    sizes = z;
+    ended = e;
+    holds = directly (sheetOf z T) L L′ (record { accepted = a; after = f });
+  }
+
+  pub for-all-accepted : ForAllAccepted Statement
+  unfolding intakeOutcome intakeLent
+  for-all-accepted = record {
+    directly = directly;
+    from-intake = λ i T L L′ c. from-sizes i (endedSizes (i .stage)) T L L′ refl (c .accepted) (c .after);
+  }
 
 pub demand-three-whole : DemandThreeWhole
-unfolding intakeOutcome intakeLent
-demand-three-whole = record {
-  directly = directly;
-  from-intake = λ i dirs L L′ c. from-sizes i (endedSizes (i .stage)) dirs L L′ refl (c .accepted) (c .after);
-}
+demand-three-whole = for-all-accepted _ demand-three
+
+pub outlet-rule-whole : OutletRuleWhole
+outlet-rule-whole = for-all-accepted _ outlet-rule

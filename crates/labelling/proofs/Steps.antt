@@ -1,6 +1,6 @@
 -- What each step of labelling hands to the next.
 use mathlib.Core.Path.{_≡_, sym, ap, _∙_, fun-ext}
-use mathlib.Core.Bool.{true}
+use mathlib.Core.Bool.{true, false}
 use mathlib.Core.List.{List, _++_}
 use Prim.Native.Nat.{ℕ, _+_, _*_, _-_, _<_, _≤_}
 use native.Mathlib.Decide.{decLt}
@@ -9,15 +9,15 @@ use lib.ListN.{length, getD, List·getD-append, take, drop, replicate, length-ta
 use lib.ListN.{List·getD-eq-default}
 use lib.Seq.{getD-take, getD-append-add, length-take-le}
 use borrow.Rule.Slice.PartMut.{putMid, midOf, postOf, mid-len, same-len-mid}
-use Rattle.sheet.specs.declared.Outcome.the-variants.{Accepted}
+use Rattle.sheet.specs.declared.Outcome.the-variants.{Accepted, Refused}
 use Rattle.sheet.specs.Sheet.{Grid, Sheet, cells, inside}
 use Rattle.sheet.specs.Area.{area}
 use Rattle.sheet.specs.River.{network, networkBy, least, split, river}
 use Rattle.sheet.specs.Label.{areasOf, labelsOf, outlet, holds, label, number}
-use Rattle.sheet.specs.Refusal.{Lent, written, outcomeOn}
+use Rattle.sheet.specs.Refusal.{Lent, written, weightsFit, outcomeOn, outcomeFrom17}
 use Rattle.claims.specs.Basin.{Basin}
 use Rattle.claims.proofs.Basins.{lawful}
-use Rattle.claims.proofs.Sheets.{basin, passed-on}
+use Rattle.claims.proofs.Sheets.{basin, passed-on, accepted-from-17}
 use Rattle.sheet.proofs.Lists.{length-list, written-at}
 use Rattle.upstream.specs.Work.{sizesPart, withSizes}
 use Rattle.upstream.proofs.Queues.{queued-most as queue-most}
@@ -25,14 +25,14 @@ use Rattle.drainage.specs.declared.Inspection.{Inspection}
 use Rattle.upstream.specs.Search.{Drained}
 use Rattle.drainage.specs.Inspect.{InspectionResult}
 use Rattle.upstream.specs.Work.{ranksPart, Unranked}
-use Rattle.drainage.specs.Total.{sizesOf}
+use Rattle.drainage.specs.Total.{sizesOf, Weighted}
 use Rattle.drainage.proofs.Kept.{with-sizes-same, drained-same, single-same, size-written}
 use Rattle.rivers.specs.Layout.{Layout}
 use Rattle.rivers.specs.Labelled.{relabelled}
 use Rattle.rivers.specs.UnitAt.{NetworkOf, Places}
 use Rattle.order.specs.Network.{areaIn, networkIn}
 use Rattle.order.specs.Places.{cellsIn, sizesIn, Surveyed, Arranged}
-use Rattle.labelling.specs.Labelling.{Fitting, Inspected}
+use Rattle.labelling.specs.Labelling.{Fitting, Inspected, InspectedAs}
 use Rattle.labelling.proofs.Labels.{written-length, outside-past, basin-labels}
 
 module _ (S : Sheet) where
@@ -68,7 +68,7 @@ queued-most d = queue-most (d .searched .upstream .queue)
 
 -- after the areas and sizes, the order along rivers can be worked out
 pub surveyed : {S : Sheet} {L : Lent} {queued : ℕ} {areas work : List ℕ} → Fitting S L
-    → Inspected (S .grid) (L .work) queued
+    → Inspected S (L .work) queued
     → work ≡ withSizes (cells (S .grid)) (sizesOf (S .grid)) (L .work) → areas ≡ written (areasOf S)
     (L .areas) → length work ≡ length (L .work)
     → Surveyed (S .grid) areas work queued
@@ -180,8 +180,41 @@ pub other-work : {S : Sheet} {areas labels work work′ : List ℕ}
     → Fitting S (record { areas = areas; labels = labels; work = work }) → length work′ ≡ length work
     → Fitting S (record { areas = areas; labels = labels; work = work′ })
 other-work f e =
-    record { sized = f .sized; depth-most = f .depth-most; areas = f .areas; labels = f .labels; work = e ∙ f .work }
+    record {
+      sized = f .sized;
+      depth-most = f .depth-most;
+      weights = f .weights;
+      areas = f .areas;
+      labels = f .labels;
+      work = e ∙ f .work;
+    }
 
-pub inspected : {G : Grid} {work work′ : List ℕ} {r : Inspection} → InspectionResult G work work′ r
-    → r .outcome ≡ Accepted → Inspected G work′ (r .queued)
-inspected i h = record { accepted = sym (i .outcome) ∙ h; drained = i .drained h; single = i .single h }
+-- ---- checks 17 and 4 to 7
+module _ (S : Sheet) where
+  -- weights that fit: 4 to 7 decide
+  pub inspected : {work work′ : List ℕ} {r : Inspection} → weightsFit (S .grid .rows) (S .weights) ≡ true
+      → InspectionResult (S .grid) work work′ r → InspectedAs S work′ r
+  unfolding outcomeFrom17
+  inspected {r = r} fit i =
+      let same : r .outcome ≡ outcomeFrom17 S = i .outcome ∙ sym (on-fit fit) in
+      record {
+        outcome = same;
+        passed = λ h. record { accepted = sym same ∙ h; drained = i .drained h; single = i .single h };
+      }
+    where
+      on-fit : weightsFit (S .grid .rows) (S .weights) ≡ true → outcomeFrom17 S ≡ outcomeOn (S .grid)
+      on-fit e = rw e
+
+  -- weights that do not: 17
+  pub refused-17 : {work : List ℕ} → weightsFit (S .grid .rows) (S .weights) ≡ false
+      → InspectedAs S work (record { outcome = Refused 17 0; queued = 0 })
+  unfolding outcomeFrom17
+  refused-17 e = record { outcome = rw e; passed = λ h. let z : _≡_ {A = ℕ} 0 1 = cc in absurd (omega arith) }
+
+  -- the weights of an inspected sheet fit
+  pub weighted : {work : List ℕ} {queued : ℕ} {L : Lent} → Fitting S L → Inspected S work queued
+      → Weighted (S .grid .rows) (S .weights)
+  weighted f i = record { room = f .weights; fit = (accepted-from-17 S (i .accepted)) .0 }
+
+  pub rest-accepted : {work : List ℕ} {queued : ℕ} → Inspected S work queued → outcomeOn (S .grid) ≡ Accepted
+  rest-accepted i = (accepted-from-17 S (i .accepted)) .1

@@ -1,4 +1,4 @@
--- The third demand about the labels as the calls wrote them: directly, and from an intake.
+-- The third demand and the outlet rule about the labels as the calls wrote them: directly, and from an intake.
 use mathlib.Core.Path.{_≡_}
 use mathlib.Core.Option.{some}
 use mathlib.Core.List.{List}
@@ -8,10 +8,9 @@ use Rattle.sheet.specs.Sheet.{Sheet}
 use Rattle.sheet.specs.Refusal.{Lent, outcome, lentAfter}
 use Rattle.intake.specs.declared.Intake.{Intake}
 use Rattle.intake.specs.declared.Sizes.{Sizes}
-use Rattle.intake.specs.Intake.{endedSizes}
+use Rattle.intake.specs.Intake.{LentSheet, endedSizes}
 use Rattle.claims.specs.Demand.{DemandThreeOf, OutletRuleOf}
-use Rattle.labelling.specs.Labelling.{sheet}
-use Rattle.labelling.specs.FromIntake.{intakeOutcome, intakeLent}
+use Rattle.labelling.specs.FromIntake.{sheetOf, intakeOutcome, intakeLent}
 
 -- what the contract of `label` promises of an accepted call: L was lent, and L′ is what the slices hold afterwards
 pub record LabelledDirectly (S : Sheet) (L L′ : Lent) : Type 0 where
@@ -19,18 +18,26 @@ pub record LabelledDirectly (S : Sheet) (L L′ : Lent) : Type 0 where
   pub after : L′ ≡ lentAfter S L
 
 -- and that of `label_intake`
-pub record LabelledFrom (i : Intake) (dirs : List ℕ) (L L′ : Lent) : Type 0 where
-  pub accepted : intakeOutcome i dirs L ≡ Accepted
-  pub after : L′ ≡ intakeLent i dirs L
+pub record LabelledFrom (i : Intake) (T : LentSheet) (L L′ : Lent) : Type 0 where
+  pub accepted : intakeOutcome i T L ≡ Accepted
+  pub after : L′ ≡ intakeLent i T L
 
--- demand 3, whole, about the sheet of an intake that had ended
-pub record DemandThreeFrom (i : Intake) (dirs labels : List ℕ) : Type 0 where
+-- a statement about a sheet and its labels, of the sheet of an intake that had ended
+pub record OfIntake (Statement : Sheet → List ℕ → Type 0) (i : Intake) (T : LentSheet) (labels : List ℕ) : Type 0 where
   pub sizes : Sizes
   pub ended : endedSizes (i .stage) ≡ some sizes
-  pub demand : DemandThreeOf (sheet (sizes .rows) (sizes .cols) (sizes .depth) dirs) labels
+  pub holds : Statement (sheetOf sizes T) labels
 
--- the third demand for all accepted sheets, however they are labelled
-pub record DemandThreeWhole : Type 1 where
-  pub directly : (S : Sheet) (L L′ : Lent) → LabelledDirectly S L L′ → DemandThreeOf S (L′ .labels)
-  pub from-intake : (i : Intake) (dirs : List ℕ) (L L′ : Lent) → LabelledFrom i dirs L L′
-      → DemandThreeFrom i dirs (L′ .labels)
+-- a statement for all accepted sheets, however they are labelled; acceptance is the only hypothesis
+pub record ForAllAccepted (Statement : Sheet → List ℕ → Type 0) : Type 1 where
+  pub directly : (S : Sheet) (L L′ : Lent) → LabelledDirectly S L L′ → Statement S (L′ .labels)
+  pub from-intake : (i : Intake) (T : LentSheet) (L L′ : Lent) → LabelledFrom i T L L′
+      → OfIntake Statement i T (L′ .labels)
+
+-- the third demand, weighted sheets included
+abbrev pub DemandThreeWhole : Type 1
+DemandThreeWhole = ForAllAccepted DemandThreeOf
+
+-- the outlet rule
+abbrev pub OutletRuleWhole : Type 1
+OutletRuleWhole = ForAllAccepted OutletRuleOf

@@ -5,52 +5,57 @@ use mathlib.Core.List.{List}
 use Prim.Native.Nat.{ℕ, _*_, _≤_}
 use lib.Dec.{leb}
 use lib.ListN.{length}
-use Rattle.sheet.specs.Sheet.{Grid, Sheet, grid, cells}
+use Rattle.sheet.specs.Sheet.{Sheet, grid, cells}
 use Rattle.directions.specs.Sizes.{Sized}
 use Rattle.sheet.specs.Label.{areasOf, labelsOf}
-use Rattle.sheet.specs.Refusal.{Lent, both, sizesFit, depthFits, outcomeOn, ifAccepted}
+use Rattle.sheet.specs.Refusal.{Lent, both, sizesFit, depthFits, outcomeFrom17, ifAccepted}
 use Rattle.sheet.specs.declared.Outcome.{Outcome}
 use Rattle.sheet.specs.declared.Outcome.the-variants.{Accepted, Refused}
 use Rattle.upstream.specs.Search.{Drained, SingleOutlet}
 use Rattle.drainage.specs.declared.Inspection.{Inspection}
 use Rattle.order.specs.Places.{Arranged}
 
-abbrev pub sheet : ℕ → ℕ → ℕ → List ℕ → Sheet
-sheet rows cols depth dirs = record { grid = grid rows cols dirs; depth = depth }
+abbrev pub sheet : ℕ → ℕ → ℕ → List ℕ → List ℕ → Sheet
+sheet rows cols depth dirs weights = record { grid = grid rows cols dirs; depth = depth; weights = weights }
 
 abbrev pub lent : List ℕ → List ℕ → List ℕ → Lent
 lent areas labels work = record { areas = areas; labels = labels; work = work }
 
 -- checks 1, 2 and 3, in this order; of the slices only the lengths count
-unfoldable pub checkedFirst : ℕ → ℕ → ℕ → ℕ → ℕ → ℕ → ℕ → Outcome
+unfoldable pub checkedFirst : ℕ → ℕ → ℕ → ℕ → ℕ → ℕ → ℕ → ℕ → Outcome
 unfolding sizesFit depthFits
-checkedFirst rows cols depth dirs areas labels work =
+checkedFirst rows cols depth dirs weights areas labels work =
     let n = rows * cols in
-    let fit = both (leb n dirs) (both (leb n areas) (both (leb n labels) (leb (8 * n) work))) in
+    let fit = both (leb n dirs) (both (leb rows weights) (both (leb n areas) (both (leb n labels) (leb (8 * n) work)))) in
     cond (sizesFit rows cols) (cond (depthFits depth) (cond fit Accepted (Refused 3 0)) (Refused 2 0)) (Refused 1 0)
 
 abbrev pub firstChecks : Sheet → Lent → Outcome
 firstChecks S L =
-    checkedFirst (S .grid .rows) (S .grid .cols) (S .depth) (length (S .grid .dirs)) (length (L .areas))
-    (length (L .labels)) (length (L .work))
+    checkedFirst (S .grid .rows) (S .grid .cols) (S .depth) (length (S .grid .dirs)) (length (S .weights))
+    (length (L .areas)) (length (L .labels)) (length (L .work))
 
 -- checks 1 to 3 are passed, and exactly the work places that are needed are lent
 pub record Fitting (S : Sheet) (L : Lent) : Type 0 where
   pub sized : Sized (S .grid .rows) (S .grid .cols) (S .grid .dirs)
   pub depth-most : S .depth ≤ 18
+  pub weights : S .grid .rows ≤ length (S .weights)
   pub areas : cells (S .grid) ≤ length (L .areas)
   pub labels : cells (S .grid) ≤ length (L .labels)
   pub work : length (L .work) ≡ 8 * cells (S .grid)
 
--- checks 4 to 7 are passed, and the work places hold the search
-pub record Inspected (G : Grid) (work : List ℕ) (queued : ℕ) : Type 0 where
-  pub accepted : outcomeOn G ≡ Accepted
-  pub drained : Drained G work queued
-  pub single : SingleOutlet G work
+-- check 17 and checks 4 to 7: what they answer, and, where they are passed, that the work places hold the search
+pub record Inspected (S : Sheet) (work : List ℕ) (queued : ℕ) : Type 0 where
+  pub accepted : outcomeFrom17 S ≡ Accepted
+  pub drained : Drained (S .grid) work queued
+  pub single : SingleOutlet (S .grid) work
+
+pub record InspectedAs (S : Sheet) (work : List ℕ) (r : Inspection) : Type 0 where
+  pub outcome : r .outcome ≡ outcomeFrom17 S
+  pub passed : r .outcome ≡ Accepted → Inspected S work (r .queued)
 
 -- what labelling leaves before the work places are cleared: L was lent, and L′ is what the slices hold then
 pub record LabelledInOrder (S : Sheet) (L L′ : Lent) (r : Inspection) : Type 0 where
-  pub outcome : r .outcome ≡ outcomeOn (S .grid)
+  pub outcome : r .outcome ≡ outcomeFrom17 S
   pub areas : L′ .areas ≡ ifAccepted (r .outcome) (areasOf S) (L .areas)
   pub labels : L′ .labels ≡ ifAccepted (r .outcome) (labelsOf S) (L .labels)
   -- of an accepted sheet, the order along rivers of as many cells as were queued

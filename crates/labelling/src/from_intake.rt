@@ -5,6 +5,7 @@ use intake::Stage;
 use sheet::Outcome;
 ghost use mathlib.Core.Path.{_≡_};
 ghost use Rattle.sheet.specs.Refusal.{outcomeValues};
+ghost use Rattle.intake.specs.Intake.{lentSheet};
 ghost use Rattle.labelling.specs.Labelling.{lent};
 ghost use Rattle.labelling.specs.FromIntake.{intakeOutcome, intakeLent};
 
@@ -12,23 +13,26 @@ ghost use Rattle.labelling.specs.FromIntake.{intakeOutcome, intakeLent};
 pub fn label_intake(
     intake: Intake,
     dirs: &[u8],
+    weights: &[u16],
     areas: &mut [u32],
     labels: &mut [u64],
     work: &mut [u32],
 ) -> Outcome
-    ensures outcome { λ r. ⌜ r ≡ intakeOutcome intake (now (dirs .entry))
+    ensures outcome { λ r. ⌜ r ≡ intakeOutcome intake (lentSheet (now (dirs .entry)) (now (weights .entry)))
         (lent (now (areas .entry)) (now (labels .entry)) (now (work .entry))) ⌝ }
     ensures values { λ r. ⌜ outcomeValues r
-        ≡ outcomeValues (intakeOutcome intake (now (dirs .entry))
+        ≡ outcomeValues (intakeOutcome intake (lentSheet (now (dirs .entry)) (now (weights .entry)))
         (lent (now (areas .entry)) (now (labels .entry)) (now (work .entry)))) ⌝ }
     ensures lent { λ _. ⌜ lent (now (areas .exit)) (now (labels .exit)) (now (work .exit))
-        ≡ intakeLent intake (now (dirs .entry))
+        ≡ intakeLent intake (lentSheet (now (dirs .entry)) (now (weights .entry)))
         (lent (now (areas .entry)) (now (labels .entry)) (now (work .entry))) ⌝ }
 {
     let stage = intake.stage;
     match stage {
         Stage::WaitingForSizeNames => Outcome::Refused(15, 0),
         Stage::WaitingForSizes(_) => Outcome::Refused(15, 0),
+        Stage::WaitingForWeightOrCellNames(_) => Outcome::Refused(15, 0),
+        Stage::WaitingForWeight(_, _) => Outcome::Refused(15, 0),
         Stage::WaitingForCellNames(_) => Outcome::Refused(15, 0),
         Stage::TakingCells(_, _) => Outcome::Refused(15, 0),
         Stage::Ended(sizes) => {
@@ -37,6 +41,7 @@ pub fn label_intake(
                 sizes.cols,
                 sizes.depth,
                 dirs,
+                weights,
                 areas,
                 labels,
                 work,

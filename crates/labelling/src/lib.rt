@@ -5,14 +5,16 @@ use drainage::Inspection;
 use sheet::Outcome;
 use upstream::parts;
 ghost use mathlib.Core.Path.{_≡_};
-ghost use Prim.Native.Nat.{_*_, _≤_};
+ghost use Prim.Native.Nat.{ℕ, _*_, _≤_};
 ghost use lib.Dec.{leb};
 ghost use lib.ListN.{length, replicate};
 ghost use Rattle.sheet.specs.Sheet.{grid, cells};
 ghost use Rattle.sheet.specs.Label.{areasOf, labelsOf};
-ghost use Rattle.sheet.specs.Refusal.{written, ifAccepted, both, outcomeOn, outcome, outcomeValues, lentAfter};
-ghost use Rattle.directions.specs.Sizes.{mostCells};
-ghost use Rattle.labelling.specs.Labelling.{sheet, lent, checkedFirst, Fitting, Inspected, LabelledInOrder};
+ghost use Rattle.sheet.specs.Refusal.{written, ifAccepted, both, outcomeFrom17, outcome, outcomeValues, lentAfter};
+ghost use Rattle.directions.specs.Sizes.{mostCells, Sized};
+ghost use Rattle.upstream.specs.Work.{Unranked};
+ghost use Rattle.labelling.specs.Labelling.{sheet, lent, checkedFirst, Fitting, Inspected, InspectedAs};
+ghost use Rattle.labelling.specs.Labelling.{LabelledInOrder};
 ghost use Rattle.order.specs.Places.{Arranged};
 
 // How many mouths of a unit are taken, and the least area of a mouth that counts.
@@ -45,21 +47,24 @@ fn write_labels(
     cols: usize,
     depth: usize,
     dirs: &[u8],
+    weights: &[u16],
     queued: usize,
     areas: &mut [u32],
     labels: &mut [u64],
     work: &mut [u32],
 )
-    requires { ⌜ Fitting (sheet rows cols depth (now dirs)) (lent (now areas) (now labels) (now work)) ⌝ }
-    requires { ⌜ Inspected (grid rows cols (now dirs)) (now work) queued ⌝ }
+    requires { ⌜ Fitting (sheet rows cols depth (now dirs) (now weights)) (lent (now areas) (now labels) (now work)) ⌝ }
+    requires { ⌜ Inspected (sheet rows cols depth (now dirs) (now weights)) (now work) queued ⌝ }
     ensures areas { λ _. ⌜ now (areas .exit)
-        ≡ written (areasOf (sheet rows cols depth (now (dirs .entry)))) (now (areas .entry)) ⌝ }
+        ≡ written (areasOf (sheet rows cols depth (now (dirs .entry)) (now (weights .entry))))
+        (now (areas .entry)) ⌝ }
     ensures labels { λ _. ⌜ now (labels .exit)
-        ≡ written (labelsOf (sheet rows cols depth (now (dirs .entry)))) (now (labels .entry)) ⌝ }
+        ≡ written (labelsOf (sheet rows cols depth (now (dirs .entry)) (now (weights .entry))))
+        (now (labels .entry)) ⌝ }
     ensures order { λ _. ⌜ Arranged (grid rows cols (now (dirs .entry))) (now (areas .exit))
         (now (work .exit)) queued ⌝ }
 {
-    drainage::measure::measure(dirs, rows, cols, work, queued, areas);
+    drainage::measure::measure(dirs, rows, cols, weights, work, queued, areas);
     order::positions::arrange(dirs, rows, cols, areas, queued, work);
     let n = rows * cols;
     clear_labels(labels, n);
@@ -85,17 +90,21 @@ fn write_if_accepted(
     cols: usize,
     depth: usize,
     dirs: &[u8],
+    weights: &[u16],
     areas: &mut [u32],
     labels: &mut [u64],
     work: &mut [u32],
 )
-    requires { ⌜ Fitting (sheet rows cols depth (now dirs)) (lent (now areas) (now labels) (now work)) ⌝ }
+    requires { ⌜ Fitting (sheet rows cols depth (now dirs) (now weights)) (lent (now areas) (now labels) (now work)) ⌝ }
     requires { ⌜ (found .outcome
-        ≡ Outcome.Accepted → Inspected (grid rows cols (now dirs)) (now work) (found .queued)) ⌝ }
+        ≡ Outcome.Accepted
+        → Inspected (sheet rows cols depth (now dirs) (now weights)) (now work) (found .queued)) ⌝ }
     ensures areas { λ _. ⌜ now (areas .exit)
-        ≡ ifAccepted (found .outcome) (areasOf (sheet rows cols depth (now (dirs .entry)))) (now (areas .entry)) ⌝ }
+        ≡ ifAccepted (found .outcome) (areasOf (sheet rows cols depth (now (dirs .entry)) (now (weights .entry))))
+        (now (areas .entry)) ⌝ }
     ensures labels { λ _. ⌜ now (labels .exit)
-        ≡ ifAccepted (found .outcome) (labelsOf (sheet rows cols depth (now (dirs .entry)))) (now (labels .entry)) ⌝ }
+        ≡ ifAccepted (found .outcome) (labelsOf (sheet rows cols depth (now (dirs .entry)) (now (weights .entry))))
+        (now (labels .entry)) ⌝ }
     ensures order { λ _. ⌜ (found .outcome
         ≡ Outcome.Accepted
         → Arranged (grid rows cols (now (dirs .entry))) (now (areas .exit)) (now (work .exit)) (found .queued)) ⌝ }
@@ -103,8 +112,35 @@ fn write_if_accepted(
     let outcome = found.outcome;
     let queued = found.queued;
     match outcome {
-        Outcome::Accepted => write_labels(rows, cols, depth, dirs, queued, areas, labels, work),
+        Outcome::Accepted => {
+            write_labels(
+                rows,
+                cols,
+                depth,
+                dirs,
+                weights,
+                queued,
+                areas,
+                labels,
+                work,
+            )
+        }
         Outcome::Refused(_, _) => {}
+    }
+}
+
+// Check 17, then 4 to 7, of a sheet that passed checks 1 to 3.
+fn inspect(rows: usize, cols: usize, dirs: &[u8], weights: &[u16], work: &mut [u32]) -> Inspection
+    requires { ⌜ Sized rows cols (now dirs) × (rows ≤ length (now weights)) × Unranked (rows * cols) (now work) ⌝ }
+    ensures { λ r. ⌜ ((depth : ℕ) → InspectedAs (sheet rows cols depth (now (dirs .entry)) (now (weights .entry)))
+        (now (work .exit)) r) ⌝ }
+{
+    if checks::weights_fit(weights, rows) {
+        return drainage::inspect::inspect(dirs, rows, cols, work);
+    }
+    Inspection {
+        outcome: Outcome::Refused(17, 0),
+        queued: 0,
     }
 }
 
@@ -115,12 +151,13 @@ pub fn label_in_order(
     cols: usize,
     depth: usize,
     dirs: &[u8],
+    weights: &[u16],
     areas: &mut [u32],
     labels: &mut [u64],
     work: &mut [u32],
 ) -> Inspection
-    requires { ⌜ Fitting (sheet rows cols depth (now dirs)) (lent (now areas) (now labels) (now work)) ⌝ }
-    ensures { λ r. ⌜ LabelledInOrder (sheet rows cols depth (now (dirs .entry)))
+    requires { ⌜ Fitting (sheet rows cols depth (now dirs) (now weights)) (lent (now areas) (now labels) (now work)) ⌝ }
+    ensures { λ r. ⌜ LabelledInOrder (sheet rows cols depth (now (dirs .entry)) (now (weights .entry)))
         (lent (now (areas .entry)) (now (labels .entry)) (now (work .entry)))
         (lent (now (areas .exit)) (now (labels .exit)) (now (work .exit))) r ⌝ }
 {
@@ -128,8 +165,8 @@ pub fn label_in_order(
     let ranks = parts::RANKS * n;
     let end = ranks + n;
     clear_places(&mut work[ranks..end]);
-    let found = drainage::inspect::inspect(dirs, rows, cols, work);
-    write_if_accepted(found, rows, cols, depth, dirs, areas, labels, work);
+    let found = inspect(rows, cols, dirs, weights, work);
+    write_if_accepted(found, rows, cols, depth, dirs, weights, areas, labels, work);
     found
 }
 
@@ -139,29 +176,44 @@ fn label_fitting(
     cols: usize,
     depth: usize,
     dirs: &[u8],
+    weights: &[u16],
     areas: &mut [u32],
     labels: &mut [u64],
     work: &mut [u32],
 ) -> Outcome
-    requires { ⌜ Fitting (sheet rows cols depth (now dirs)) (lent (now areas) (now labels) (now work)) ⌝ }
-    ensures outcome { λ r. ⌜ r ≡ outcomeOn (grid rows cols (now (dirs .entry))) ⌝ }
+    requires { ⌜ Fitting (sheet rows cols depth (now dirs) (now weights)) (lent (now areas) (now labels) (now work)) ⌝ }
+    ensures outcome { λ r. ⌜ r ≡ outcomeFrom17 (sheet rows cols depth (now (dirs .entry)) (now (weights .entry))) ⌝ }
     ensures areas { λ r. ⌜ now (areas .exit)
-        ≡ ifAccepted r (areasOf (sheet rows cols depth (now (dirs .entry)))) (now (areas .entry)) ⌝ }
+        ≡ ifAccepted r (areasOf (sheet rows cols depth (now (dirs .entry)) (now (weights .entry))))
+        (now (areas .entry)) ⌝ }
     ensures labels { λ r. ⌜ now (labels .exit)
-        ≡ ifAccepted r (labelsOf (sheet rows cols depth (now (dirs .entry)))) (now (labels .entry)) ⌝ }
+        ≡ ifAccepted r (labelsOf (sheet rows cols depth (now (dirs .entry)) (now (weights .entry))))
+        (now (labels .entry)) ⌝ }
     ensures work { λ _. ⌜ now (work .exit) ≡ replicate (8 * (rows * cols)) 0 ⌝ }
 {
-    let found = label_in_order(rows, cols, depth, dirs, areas, labels, work);
+    let found = label_in_order(rows, cols, depth, dirs, weights, areas, labels, work);
     clear_places(work);
     found.outcome
 }
 
-// Enough places are lent for n cells.
-fn slices_fit(n: usize, dirs: usize, areas: usize, labels: usize, work: usize) -> bool
+// Enough places are lent for n cells in so many rows.
+fn slices_fit(
+    n: usize,
+    rows: usize,
+    dirs: usize,
+    weights: usize,
+    areas: usize,
+    labels: usize,
+    work: usize,
+) -> bool
     requires { ⌜ n ≤ mostCells ⌝ }
-    ensures { λ r. ⌜ r ≡ both (leb n dirs) (both (leb n areas) (both (leb n labels) (leb (8 * n) work))) ⌝ }
+    ensures { λ r. ⌜ r ≡ both (leb n dirs)
+        (both (leb rows weights) (both (leb n areas) (both (leb n labels) (leb (8 * n) work)))) ⌝ }
 {
     if dirs < n {
+        return false;
+    }
+    if weights < rows {
         return false;
     }
     if areas < n {
@@ -179,17 +231,18 @@ pub fn first_checks(
     cols: usize,
     depth: usize,
     dirs: usize,
+    weights: usize,
     areas: usize,
     labels: usize,
     work: usize,
 ) -> Outcome
-    ensures { λ r. ⌜ r ≡ checkedFirst rows cols depth dirs areas labels work ⌝ }
+    ensures { λ r. ⌜ r ≡ checkedFirst rows cols depth dirs weights areas labels work ⌝ }
 {
     let sizes_fit = checks::sizes_fit(rows, cols);
     let depth_fits = checks::depth_fits(depth);
     if sizes_fit {
         if depth_fits {
-            if slices_fit(rows * cols, dirs, areas, labels, work) {
+            if slices_fit(rows * cols, rows, dirs, weights, areas, labels, work) {
                 return Outcome::Accepted;
             }
             return Outcome::Refused(3, 0);
@@ -199,24 +252,25 @@ pub fn first_checks(
     Outcome::Refused(1, 0)
 }
 
-// Labels a sheet: refusals 1 to 7 in order, with document 01's number and place; accepted, the first rows × cols areas
-// and labels are written.
+// Labels a sheet, whose weights are one a row: refusals 1, 2, 3, 17, 4, 5, 6 and 7, in this order, with their numbers
+// and places; accepted, the first rows × cols areas and labels are written.
 pub fn label(
     rows: usize,
     cols: usize,
     depth: usize,
     dirs: &[u8],
+    weights: &[u16],
     areas: &mut [u32],
     labels: &mut [u64],
     work: &mut [u32],
 ) -> Outcome
-    ensures outcome { λ r. ⌜ r ≡ outcome (sheet rows cols depth (now (dirs .entry)))
+    ensures outcome { λ r. ⌜ r ≡ outcome (sheet rows cols depth (now (dirs .entry)) (now (weights .entry)))
         (lent (now (areas .entry)) (now (labels .entry)) (now (work .entry))) ⌝ }
     ensures values { λ r. ⌜ outcomeValues r
-        ≡ outcomeValues (outcome (sheet rows cols depth (now (dirs .entry)))
+        ≡ outcomeValues (outcome (sheet rows cols depth (now (dirs .entry)) (now (weights .entry)))
         (lent (now (areas .entry)) (now (labels .entry)) (now (work .entry)))) ⌝ }
     ensures lent { λ _. ⌜ lent (now (areas .exit)) (now (labels .exit)) (now (work .exit))
-        ≡ lentAfter (sheet rows cols depth (now (dirs .entry)))
+        ≡ lentAfter (sheet rows cols depth (now (dirs .entry)) (now (weights .entry)))
         (lent (now (areas .entry)) (now (labels .entry)) (now (work .entry))) ⌝ }
 {
     match first_checks(
@@ -224,13 +278,23 @@ pub fn label(
         cols,
         depth,
         dirs.len(),
+        weights.len(),
         areas.len(),
         labels.len(),
         work.len(),
     ) {
         Outcome::Accepted => {
             let places = 8 * (rows * cols);
-            label_fitting(rows, cols, depth, dirs, areas, labels, &mut work[..places])
+            label_fitting(
+                rows,
+                cols,
+                depth,
+                dirs,
+                weights,
+                areas,
+                labels,
+                &mut work[..places],
+            )
         }
         Outcome::Refused(number, place) => Outcome::Refused(number, place),
     }

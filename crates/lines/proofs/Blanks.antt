@@ -4,7 +4,7 @@ use mathlib.Core.Path.{_≡_, refl, sym, ap, _∙_}
 use mathlib.Core.List.{List, [], _∷_, _++_, append-assoc, append-nil}
 use mathlib.Core.Bool.{Bool, true, false, cond}
 use native.Mathlib.Omega.{arith}
-use borrow.Author.Tests.{eq-eqb, eqb-true}
+use borrow.Author.Tests.{eq-eqb, ne-eqb, eqb-true}
 use lib.ListN.{length, take, drop, replicate, length-append, length-replicate, take-append-drop}
 use lib.Seq.{take-length}
 use lib.Dec.{eqb}
@@ -19,11 +19,10 @@ use Rattle.decimal.proofs.Blanks.{unpadded-moved, padded-values}
 use Rattle.lines.specs.declared.values.Values.{Values}
 use Rattle.lines.specs.declared.values.ValuesLine.the-variants.{Values as Valued, Bad}
 use Rattle.lines.specs.Fields.{fitsLine, fields}
-use Rattle.lines.specs.Columns.{columnCount}
 use Rattle.lines.specs.Values.{ifWhole, valueDigits, fieldValue, noValues, withValue, valuesFrom, valuesLine}
-use Rattle.lines.specs.Blanks.{unpaddedField, PaddedField, ThreeFields, IsUnpadded, PaddedLines}
+use Rattle.lines.specs.Blanks.{unpaddedField, IsUnpadded, PaddedField, EachField, no-field, field, firstThree}
+use Rattle.lines.specs.Blanks.{ValueFields, PaddedLines}
 use Rattle.lines.proofs.ValuesLaws.{field-none, field-whole, field-more, values-other, values-value}
-use Rattle.lines.proofs.ValuesLaws.{three-values}
 
 -- ---- fields
 
@@ -92,14 +91,42 @@ all-digits f e =
 
 -- ---- lines
 
-line-of : (Field : List ℕ → ℕ → Type 0) → ((f : List ℕ) (v : ℕ) → Field f v → fieldValue f ≡ Found v (length f))
-    → (s : List ℕ) (v : Values) → ThreeFields Field s v → valuesLine s ≡ Valued v
-unfolding valuesLine
-line-of Field is s v t =
-    let x = is (t .first) (v .first) (t .first-is) in
-    let y = is (t .second) (v .second) (t .second-is) in
-    let z = is (t .third) (v .third) (t .third-is) in
-    rw (t .fits, t .fields-are) (three-values (t .first) (t .second) (t .third) x y z)
+-- values set from a place on
+setFrom : ℕ → List ℕ → Values → Values
+setFrom place [] v = v
+setFrom place (x ∷ xs) v = setFrom (place + 1) xs (withValue v place x)
+
+-- there are places for three
+set-past : (place : ℕ) (xs : List ℕ) (v : Values) → 3 ≤ place → setFrom place xs v ≡ v
+unfolding setFrom withValue
+set-past place [] v h = refl
+set-past place (x ∷ xs) v h =
+    rw (ne-eqb place 0 (λ e. omega arith), ne-eqb place 1 (λ e. omega arith), ne-eqb place 2 (λ e. omega arith))
+    (set-past (place + 1) xs v (omega arith))
+
+set-three : (xs : List ℕ) → setFrom 0 xs noValues ≡ firstThree xs
+unfolding setFrom withValue
+set-three [] = refl
+set-three (x ∷ []) = refl
+set-three (x ∷ y ∷ []) = refl
+set-three (x ∷ y ∷ z ∷ xs) = set-past 3 xs (record { first = x; second = y; third = z }) (omega arith)
+
+module _ (Field : List ℕ → ℕ → Type 0)
+    (is : (f : List ℕ) (v : ℕ) → Field f v → fieldValue f ≡ Found v (length f)) where
+  from-fields : (count place : ℕ) (v : Values) {fs : List (List ℕ)} {xs : List ℕ} → EachField Field fs xs
+      → place + length xs ≡ count → valuesFrom count place fs v ≡ Valued (setFrom place xs v)
+  unfolding valuesFrom setFrom
+  from-fields count place v no-field e = rw (eq-eqb place count (omega arith))
+  from-fields count place v (field {f} {x} {fs} {xs} h hs) e =
+      values-value count place v f fs (is f x h)
+      ∙ from-fields count (place + 1) (withValue v place x) hs (omega arith)
+
+  line-of : (count : ℕ) (s : List ℕ) (v : Values) → ValueFields Field count s v → valuesLine count s ≡ Valued v
+  unfolding valuesLine
+  line-of count s v t =
+      rw (t .fits)
+      (from-fields count 0 noValues (t .fields-are) (omega (arith, t .count-is))
+      ∙ ap Valued (set-three (t .values) ∙ sym (t .values-are)))
 
 -- a line's values, field by field from a place on
 record FirstValue (count place : ℕ) (f : List ℕ) (fs : List (List ℕ)) (v w : Values) : Type 0 where
@@ -118,62 +145,54 @@ first-value count place f fs v w e = go (fieldValue f) refl
         let b : Bad ≡ Valued w = sym (values-other count place v f fs h) ∙ e in
         let z : _≡_ {A = ℕ} 0 1 = cc in absurd (omega arith)
 
--- a line has as many fields as columns
-field-count : (count place : ℕ) (fs : List (List ℕ)) (v w : Values) → valuesFrom count place fs v ≡ Valued w
-    → place + length fs ≡ count
-unfolding valuesFrom
-field-count count place [] v w e = go (eqb place count) refl e
+-- the values of a good line
+record ReadFrom (count place : ℕ) (fs : List (List ℕ)) (v w : Values) : Type 0 where
+  values : List ℕ
+  fields-are : EachField PaddedField fs values
+  count-is : place + length values ≡ count
+  values-are : w ≡ setFrom place values v
+
+read-from : (count place : ℕ) (fs : List (List ℕ)) (v w : Values) → valuesFrom count place fs v ≡ Valued w
+    → ReadFrom count place fs v w
+unfolding valuesFrom setFrom
+read-from count place [] v w e = go (eqb place count) refl e
   where
-    go : (t : Bool) → eqb place count ≡ t → cond t (Valued v) Bad ≡ Valued w → place + 0 ≡ count
-    go true h e = omega (arith, eqb-true place count h)
+    go : (t : Bool) → eqb place count ≡ t → cond t (Valued v) Bad ≡ Valued w → ReadFrom count place [] v w
+    go true h e =
+        let is : w ≡ v = cc in
+        record {
+          values = [];
+          fields-are = no-field;
+          count-is = omega (arith, eqb-true place count h);
+          values-are = is;
+        }
     go false h e = let z : _≡_ {A = ℕ} 0 1 = cc in absurd (omega arith)
-field-count count place (f ∷ fs) v w e =
+read-from count place (f ∷ fs) v w e =
     let x = first-value count place f fs v w e in
-    omega (arith, field-count count (place + 1) fs (withValue v place (x .value)) w (x .later))
+    let r = read-from count (place + 1) fs (withValue v place (x .value)) w (x .later) in
+    record {
+      values = x .value ∷ r .values;
+      fields-are = field (x .field) (r .fields-are);
+      count-is = omega (arith, r .count-is);
+      values-are = r .values-are;
+    }
 
--- the three fields of a good line, and its values
-three-of : (f g h : List ℕ) (v : Values) → valuesFrom columnCount 0 (f ∷ g ∷ h ∷ []) noValues ≡ Valued v
-    → PaddedField f (v .first) × PaddedField g (v .second) × PaddedField h (v .third)
-unfolding valuesFrom withValue
-three-of f g h v e =
-    let x = first-value columnCount 0 f (g ∷ h ∷ []) noValues v e in
-    let one : Values = withValue noValues 0 (x .value) in
-    let y = first-value columnCount 1 g (h ∷ []) one v (x .later) in
-    let z = first-value columnCount 2 h [] (withValue one 1 (y .value)) v (y .later) in
-    let all : Valued (record { first = x .value; second = y .value; third = z .value }) ≡ Valued v = z .later in
-    let w : record { first = x .value; second = y .value; third = z .value } ≡ v = cc in
-    let a : x .value ≡ v .first = ap (λ (t : Values). t .first) w in
-    let b : y .value ≡ v .second = ap (λ (t : Values). t .second) w in
-    let c : z .value ≡ v .third = ap (λ (t : Values). t .third) w in
-    (rw a at (x .field), rw b at (y .field), rw c at (z .field))
-
-three-fields : (s : List ℕ) (v : Values) → valuesLine s ≡ Valued v → ThreeFields PaddedField s v
+value-fields : (count : ℕ) (s : List ℕ) (v : Values) → valuesLine count s ≡ Valued v → ValueFields PaddedField count s v
 unfolding valuesLine
-three-fields s v e = fitting (fitsLine s) refl e
+value-fields count s v e = go (fitsLine s) refl e
   where
-    go : (fs : List (List ℕ)) → fitsLine s ≡ true → fields s ≡ fs → valuesFrom columnCount 0 fs noValues ≡ Valued v
-        → 0 + length fs ≡ columnCount → ThreeFields PaddedField s v
-    go (f ∷ g ∷ h ∷ []) fits is e n =
-        let t = three-of f g h v e in
+    go : (t : Bool) → fitsLine s ≡ t → cond t (valuesFrom count 0 (fields s) noValues) Bad ≡ Valued v
+        → ValueFields PaddedField count s v
+    go true fits e =
+        let r = read-from count 0 (fields s) noValues v e in
         record {
           fits = fits;
-          first = f;
-          second = g;
-          third = h;
-          fields-are = is;
-          first-is = t .0;
-          second-is = t .1;
-          third-is = t .2;
+          values = r .values;
+          count-is = omega (arith, r .count-is);
+          fields-are = r .fields-are;
+          values-are = r .values-are ∙ set-three (r .values);
         }
-    go [] fits is e n = absurd (omega arith)
-    go (f ∷ []) fits is e n = absurd (omega arith)
-    go (f ∷ g ∷ []) fits is e n = absurd (omega arith)
-    go (f ∷ g ∷ h ∷ i ∷ fs) fits is e n = absurd (omega arith)
-
-    fitting : (t : Bool) → fitsLine s ≡ t → cond t (valuesFrom columnCount 0 (fields s) noValues) Bad ≡ Valued v
-        → ThreeFields PaddedField s v
-    fitting true fits e = go (fields s) fits refl e (field-count columnCount 0 (fields s) noValues v e)
-    fitting false fits e = let z : _≡_ {A = ℕ} 0 1 = cc in absurd (omega arith)
+    go false fits e = let z : _≡_ {A = ℕ} 0 1 = cc in absurd (omega arith)
 
 -- ---- what is no value
 
@@ -210,7 +229,7 @@ pub padded-lines : PaddedLines
 padded-lines = record {
   as-before = line-of IsUnpadded (λ f v e. padded-field f v (unpadded-field f v e));
   padded-line = line-of PaddedField padded-field;
-  no-other = three-fields;
+  no-other = value-fields;
   too-many = too-many;
   blanks-alone = blanks-alone;
   nothing-after = nothing-after;

@@ -42,6 +42,22 @@ fields-first (b ∷ s) = go (eqb b comma) (fields-first s)
     go true ih = refl
     go false ih = ap (longer b) ih
 
+-- a line of one field is that field
+pub one-field : (s : List ℕ) {f : List ℕ} → fields s ≡ f ∷ [] → s ≡ f
+unfolding fields
+one-field [] e = cc
+one-field (b ∷ s) {f} e = go (eqb b comma) (firstField s) (laterFields s) (fields-first s) (λ h. one-field s {f = h}) e
+  where
+    go : (t : Bool) (g : List ℕ) (gs : List (List ℕ)) → fields s ≡ g ∷ gs
+        → ((h : List ℕ) → fields s ≡ h ∷ [] → s ≡ h) → cond t ([] ∷ fields s) (longer b (fields s)) ≡ f ∷ []
+        → b ∷ s ≡ f
+    go true g gs is ih e = let z : _≡_ {A = ℕ} 0 1 = cc in absurd (omega arith)
+    go false g gs is ih e =
+        let whole : (b ∷ g) ∷ gs ≡ f ∷ [] = ap (longer b) (sym is) ∙ e in
+        let none : gs ≡ [] = cc in
+        let same : s ≡ g = ih g (is ∙ ap (λ (t : List (List ℕ)). g ∷ t) none) in
+        cc
+
 first-length : (s : List ℕ) → length (firstField s) ≤ length s
 unfolding firstField
 first-length [] = omega arith

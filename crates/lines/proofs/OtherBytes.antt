@@ -16,7 +16,6 @@ use Rattle.decimal.proofs.ValueLaws.{isValueByte, value-bytes}
 use Rattle.lines.specs.declared.values.Values.{Values}
 use Rattle.lines.specs.declared.values.ValuesLine.the-variants.{Bad as BadValues}
 use Rattle.lines.specs.Fields.{fitsLine, longer, fields}
-use Rattle.lines.specs.Columns.{columnCount}
 use Rattle.lines.specs.Values.{valueDigits, fieldValue, ifWhole, withValue, noValues, valuesFrom, valuesLine}
 use Rattle.lines.proofs.ValuesLaws.{values-other, values-value}
 
@@ -98,14 +97,15 @@ module _ (b : ℕ) (other : isValueByte b ≡ false) where
       go true e h ih = values-other count place v f fs (field-other f e)
       go false e h ih = known (fieldValue f) refl (λ y. ih y h)
 
-  pub values-other-byte : (b ≡ comma → ⊥) → (s : List ℕ) (i : ℕ) → i < length s → getD s i 0 ≡ b
-      → valuesLine s ≡ BadValues
+  pub values-other-byte : (b ≡ comma → ⊥) → (count : ℕ) (s : List ℕ) (i : ℕ) → i < length s → getD s i 0 ≡ b
+      → valuesLine count s ≡ BadValues
   unfolding valuesLine
-  values-other-byte no-comma s i h e =
-      rw (values-from-other columnCount 0 (fields s) noValues
+  values-other-byte no-comma count s i h e =
+      rw (values-from-other count 0 (fields s) noValues
       (sym (fields-contain b s no-comma) ∙ contains-at b s i h e)) (either-way (fitsLine s) BadValues)
 
 -- A line feed.
-pub values-line-feed : (s : List ℕ) (i : ℕ) → i < length s → getD s i 0 ≡ lineFeed → valuesLine s ≡ BadValues
+pub values-line-feed : (count : ℕ) (s : List ℕ) (i : ℕ) → i < length s → getD s i 0 ≡ lineFeed
+    → valuesLine count s ≡ BadValues
 unfolding isDigit
 values-line-feed = values-other-byte lineFeed refl (λ e. omega arith)

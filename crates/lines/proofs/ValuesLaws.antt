@@ -1,17 +1,15 @@
 -- Laws of value lines.
 use Prim.Native.Nat.{ℕ, _+_, _-_, _<_, _≤_}
 use mathlib.Core.Path.{_≡_, sym, _∙_}
-use mathlib.Core.List.{List, [], _∷_}
+use mathlib.Core.List.{List, _∷_}
 use borrow.Author.Tests.{le-leb, lt-leb, eq-eqb, ne-eqb}
 use lib.ListN.{length, take, drop}
 use Rattle.decimal.specs.declared.Value.{Value}
 use Rattle.decimal.specs.declared.Value.the-variants.{Found, Bad as NoValue}
 use Rattle.decimal.specs.Value.{valueAt}
 use Rattle.lines.specs.declared.values.Values.{Values}
-use Rattle.lines.specs.declared.values.ValuesLine.{ValuesLine}
 use Rattle.lines.specs.declared.values.ValuesLine.the-variants.{Values as Valued, Bad}
 use Rattle.lines.specs.Fields.{lineBytes, fields, fieldEnd}
-use Rattle.lines.specs.Columns.{columnCount}
 use Rattle.lines.specs.Values.{valueDigits, fieldValue, withValue, noValues, valuesFrom, valuesLine}
 use Rattle.lines.proofs.FieldLaws.{fieldsFrom, fields-at, fields-past}
 
@@ -67,18 +65,11 @@ module _ (count place : ℕ) (v : Values) where
         rw (w, here) (sym (values-value (take (end - at) (drop at s)) (fieldsFrom s (end + 1)) (sym valued ∙ f)))
 
 -- The whole line.
-module _ (s : List ℕ) where
-  pub values-long : lineBytes < length s → valuesLine s ≡ Bad
+module _ (count : ℕ) (s : List ℕ) where
+  pub values-long : lineBytes < length s → valuesLine count s ≡ Bad
   unfolding valuesLine
   values-long h = rw (lt-leb (length s) lineBytes h)
 
-  pub values-fit : length s ≤ lineBytes → valuesLine s ≡ valuesFrom columnCount 0 (fields s) noValues
+  pub values-fit : length s ≤ lineBytes → valuesLine count s ≡ valuesFrom count 0 (fields s) noValues
   unfolding valuesLine
   values-fit h = rw (le-leb (length s) lineBytes h)
-
--- Three fields that are values give these values, in their order.
-pub three-values : (f g h : List ℕ) {x y z p q r : ℕ} → fieldValue f ≡ Found x p → fieldValue g ≡ Found y q
-    → fieldValue h ≡ Found z r → valuesFrom columnCount 0 (f ∷ g ∷ h ∷ []) noValues ≡ Valued
-    (record { first = x; second = y; third = z })
-unfolding valuesFrom
-three-values f g h a b c = rw (a, b, c)

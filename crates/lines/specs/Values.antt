@@ -14,7 +14,7 @@ use Rattle.lines.specs.declared.values.Values.{Values}
 use Rattle.lines.specs.declared.values.ValuesLine.{ValuesLine}
 use Rattle.lines.specs.declared.values.ValuesLine.the-variants.{Values as Valued, Bad}
 use Rattle.lines.specs.Fields.{fitsLine, fields}
-use Rattle.lines.specs.Columns.{columnCount, sameColumn}
+use Rattle.lines.specs.Columns.{sameColumn}
 
 abbrev pub ifWhole : List ℕ → Value → Value
 ifWhole f (Found v end) = cond (eqb end (length f)) (Found v end) NoValue
@@ -49,10 +49,10 @@ unfolding fieldValue withValue
 valuesFrom count place [] v = cond (eqb place count) (Valued v) Bad
 valuesFrom count place (f ∷ fs) v = onValue (fieldValue f) (λ x. valuesFrom count (place + 1) fs (withValue v place x))
 
--- a line of a value for each column and nothing else
-unfoldable pub valuesLine : List ℕ → ValuesLine
+-- a line of as many values as columns, of which there are count, and nothing else
+unfoldable pub valuesLine : ℕ → List ℕ → ValuesLine
 unfolding fitsLine fields valuesFrom valueAt
-valuesLine s = cond (fitsLine s) (valuesFrom columnCount 0 (fields s) noValues) Bad
+valuesLine count s = cond (fitsLine s) (valuesFrom count 0 (fields s) noValues) Bad
 
 -- document 01's number of an answer, and its values: 8 where the line breaks the file's rules
 pub record LineValues : Type 0 where

@@ -11,6 +11,7 @@ pub enum Column {
     Row,
     Col,
     Dir,
+    Weight,
 }
 
 // The columns of a line, in their order.
@@ -31,6 +32,7 @@ fn column_number(column: Column) -> u8
         Column::Row => 4,
         Column::Col => 5,
         Column::Dir => 6,
+        Column::Weight => 7,
     }
 }
 

@@ -9,5 +9,8 @@ pub const LINE_BYTES: usize = 80;
 // The number of columns of a sizes line, and of a cell line.
 pub const COLUMN_COUNT: usize = 3;
 
+// The number of columns of a weight line.
+pub const WEIGHT_COUNT: usize = 1;
+
 // The most digits of a value.
 pub const VALUE_DIGITS: u8 = 5;

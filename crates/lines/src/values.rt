@@ -83,15 +83,15 @@ fn values_in(line: &[u8], count: usize) -> ValuesLine
     }
 }
 
-// A line of one value for each column.
-pub fn read_values(line: &[u8]) -> ValuesLine
-    ensures line { λ r. ⌜ r ≡ valuesLine (now (line .entry)) ⌝ }
-    ensures values { λ r. ⌜ lineValues r ≡ lineValues (valuesLine (now (line .entry))) ⌝ }
+// A line of one value for each column, of which there are count.
+pub fn read_values(line: &[u8], count: usize) -> ValuesLine
+    ensures line { λ r. ⌜ r ≡ valuesLine count (now (line .entry)) ⌝ }
+    ensures values { λ r. ⌜ lineValues r ≡ lineValues (valuesLine count (now (line .entry))) ⌝ }
 {
     if super::LINE_BYTES < line.len() {
         return ValuesLine::Bad;
     }
-    values_in(line, super::COLUMN_COUNT)
+    values_in(line, count)
 }
 
 // The value in a column: in the first of that name, and 0 where there is none.

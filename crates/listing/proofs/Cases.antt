@@ -7,7 +7,7 @@ use lib.ListN.{replicate}
 use Rattle.decimal.specs.Ascii.{ascii, lineFeed}
 use Rattle.sheet.specs.Sheet.{grid}
 use Rattle.sheet.specs.Label.{areasOf, labelsOf}
-use Rattle.sheet.specs.Cases.{sampleA}
+use Rattle.sheet.specs.Cases.{sampleA, sheet}
 use Rattle.listing.specs.declared.Listing.the-variants.{Bytes, Refused}
 use Rattle.listing.specs.Listing.{listingText, refusalText}
 use Rattle.listing.specs.Writing.{listingValues, listingInto, refusalInto}
@@ -41,8 +41,7 @@ unfolding listingText
 sample-listing = refl
 
 -- from its areas and its labels at depth 2 as they are defined
-pub sample-defined : listingText sampleA (areasOf (record { grid = sampleA; depth = 2 }))
-    (labelsOf (record { grid = sampleA; depth = 2 })) ≡ sampleLines
+pub sample-defined : listingText sampleA (areasOf (sheet sampleA 2)) (labelsOf (sheet sampleA 2)) ≡ sampleLines
 unfolding listingText areasOf labelsOf
 sample-defined = refl
 

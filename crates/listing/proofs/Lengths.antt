@@ -119,21 +119,6 @@ module _ (G : Grid) (areas labels : List ℕ) where
 -- ---- bounds for the values that occur
 
 module _ (G : Grid) (areas labels : List ℕ) (rows-most : G .rows ≤ 256) (cols-most : G .cols ≤ 256) where
-  -- areas of at most as many cells as a sheet has, and labels of at most 18 digits
-  pub listing-most-18-digits : ((c : ℕ) → c < cells G → getD areas c 0 ≤ 65536)
-      → ((c : ℕ) → c < cells G → labelAt labels c < 10 ^ 18) → length (listingText G areas labels) ≤ 19 + cells G * 33
-  listing-most-18-digits small short = listing-most G areas labels bounded
-    where
-      bounded : Bounded G areas labels 5 18
-      bounded = record {
-        rows-most = rows-most;
-        cols-most = cols-most;
-        area-digits = omega arith;
-        label-digits = omega arith;
-        areas-below = λ c l. omega (arith, small c l);
-        labels-below = short;
-      }
-
   -- any areas of 32 bits and labels of 64 bits
   module _ (small : (c : ℕ) → getD areas c 0 < 2 ^ 32) (short : (c : ℕ) → labelAt labels c < 2 ^ 64) where
     bounded-64-bit : Bounded G areas labels 10 20

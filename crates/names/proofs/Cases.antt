@@ -1,9 +1,9 @@
 -- The definitions tried by computation, on names lines of document 01's sample and on lines that break its rules.
 use mathlib.Core.Path.{_≡_, refl}
 use Rattle.decimal.specs.Ascii.{ascii}
-use Rattle.lines.specs.declared.columns.Column.the-variants.{Rows, Cols, Depth, Row, Col, Dir}
+use Rattle.lines.specs.declared.columns.Column.the-variants.{Absent, Rows, Cols, Depth, Row, Col, Dir, Weight}
 use Rattle.names.specs.declared.NamesLine.the-variants.{Columns as Named, Bad as BadNames}
-use Rattle.names.specs.Columns.{sizeColumns, cellColumns}
+use Rattle.names.specs.Columns.{sizeColumns, weightColumns, cellColumns}
 use Rattle.names.specs.Names.{namesLine}
 
 pub size-names : namesLine sizeColumns (ascii "rows,cols,depth") ≡ Named
@@ -65,3 +65,73 @@ names-with-comma-after = refl
 pub names-empty : namesLine sizeColumns (ascii "") ≡ BadNames
 unfolding namesLine
 names-empty = refl
+
+-- The name of the weights, alone; every other line is bad (proofs/WeightName.antt).
+pub weight-name : namesLine weightColumns (ascii "weight") ≡ Named
+    (record { first = Weight; second = Absent; third = Absent })
+unfolding namesLine
+weight-name = refl
+
+pub weight-twice : namesLine weightColumns (ascii "weight,weight") ≡ BadNames
+unfolding namesLine
+weight-twice = refl
+
+pub weight-comma-after : namesLine weightColumns (ascii "weight,") ≡ BadNames
+unfolding namesLine
+weight-comma-after = refl
+
+pub weight-comma-before : namesLine weightColumns (ascii ",weight") ≡ BadNames
+unfolding namesLine
+weight-comma-before = refl
+
+pub weight-blank : namesLine weightColumns (ascii " weight") ≡ BadNames
+unfolding namesLine
+weight-blank = refl
+
+pub weight-capital : namesLine weightColumns (ascii "Weight") ≡ BadNames
+unfolding namesLine
+weight-capital = refl
+
+pub weight-more : namesLine weightColumns (ascii "weights") ≡ BadNames
+unfolding namesLine
+weight-more = refl
+
+pub weight-less : namesLine weightColumns (ascii "weigh") ≡ BadNames
+unfolding namesLine
+weight-less = refl
+
+pub weight-among-sizes : namesLine weightColumns (ascii "rows,cols,weight") ≡ BadNames
+unfolding namesLine
+weight-among-sizes = refl
+
+pub weight-among-cells : namesLine weightColumns (ascii "row,col,weight") ≡ BadNames
+unfolding namesLine
+weight-among-cells = refl
+
+pub weight-of-cells : namesLine weightColumns (ascii "row,col,dir") ≡ BadNames
+unfolding namesLine
+weight-of-cells = refl
+
+pub weight-empty : namesLine weightColumns (ascii "") ≡ BadNames
+unfolding namesLine
+weight-empty = refl
+
+pub weight-thrice : namesLine weightColumns (ascii "weight,weight,weight") ≡ BadNames
+unfolding namesLine
+weight-thrice = refl
+
+pub sizes-and-weight : namesLine sizeColumns (ascii "rows,cols,weight") ≡ BadNames
+unfolding namesLine
+sizes-and-weight = refl
+
+pub cells-and-weight : namesLine cellColumns (ascii "row,col,weight") ≡ BadNames
+unfolding namesLine
+cells-and-weight = refl
+
+pub weight-for-sizes : namesLine sizeColumns (ascii "weight") ≡ BadNames
+unfolding namesLine
+weight-for-sizes = refl
+
+pub weight-for-cells : namesLine cellColumns (ascii "weight") ≡ BadNames
+unfolding namesLine
+weight-for-cells = refl

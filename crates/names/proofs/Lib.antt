@@ -2,3 +2,4 @@ pub mod ColumnLaws
 pub mod NamesLaws
 pub mod OtherBytes
 pub mod Cases
+pub mod WeightName

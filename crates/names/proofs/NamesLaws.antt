@@ -7,14 +7,14 @@ use native.Mathlib.Omega.{arith}
 use borrow.Author.Tests.{le-leb, lt-leb, eqb-true}
 use lib.ListN.{length, take, drop}
 use Rattle.lines.specs.declared.columns.Column.{Column}
-use Rattle.lines.specs.declared.columns.Column.the-variants.{Absent, Rows, Cols, Depth, Row, Col, Dir}
+use Rattle.lines.specs.declared.columns.Column.the-variants.{Absent, Rows, Cols, Depth, Row, Col, Dir, Weight}
 use Rattle.lines.specs.declared.columns.Columns.{Columns}
 use Rattle.names.specs.declared.NamesLine.{NamesLine}
 use Rattle.names.specs.declared.NamesLine.the-variants.{Columns as Named, Bad}
 use Rattle.lines.specs.Fields.{lineBytes, fitsLine, fields, fieldEnd}
 use Rattle.lines.specs.Columns.{columnCount, sameColumn}
 use Rattle.names.specs.Columns.{columnNamed, withColumn, noColumns, countColumn, asOften, sameColumns}
-use Rattle.names.specs.Columns.{sizeColumns, cellColumns}
+use Rattle.names.specs.Columns.{sizeColumns, weightColumns, cellColumns}
 use Rattle.names.specs.Names.{namesFrom, ifExpected, namesLine}
 use Rattle.lines.proofs.FieldLaws.{fieldsFrom, fields-at, fields-past}
 
@@ -117,6 +117,12 @@ module _ (s : List ℕ) {c : Columns} where
       → (countColumn c Rows ≡ 1) × (countColumn c Cols ≡ 1) × (countColumn c Depth ≡ 1)
   unfolding countColumn sameColumn
   size-names-once e = same-count sizeColumns c (names-good sizeColumns s e)
+
+  pub weight-name-once : namesLine weightColumns s ≡ Named c → (countColumn c Weight ≡ 1) × (countColumn c Absent ≡ 2)
+  unfolding countColumn sameColumn
+  weight-name-once e =
+      let all = same-count weightColumns c (names-good weightColumns s e) in
+      (all .0, all .1)
 
   pub cell-names-once : namesLine cellColumns s ≡ Named c
       → (countColumn c Row ≡ 1) × (countColumn c Col ≡ 1) × (countColumn c Dir ≡ 1)

@@ -39,22 +39,24 @@ module _ (b : ℕ) (f : List ℕ) (h : contains b f ≡ true) where
       go true e = absurd (false≢true (sym n ∙ ap (contains b) (sym (same-equal f name e)) ∙ h))
       go false e = rw e
 
-  names-nothing : contains b (ascii "rows,cols,depth,row,col,dir") ≡ false → columnNamed f ≡ Absent
+  names-nothing : contains b (ascii "rows,cols,depth,row,col,dir,weight") ≡ false → columnNamed f ≡ Absent
   unfolding columnNamed
   names-nothing n =
-      let rows = without b (ascii "rows") (ascii "cols,depth,row,col,dir") n in
-      let cols = without b (ascii "cols") (ascii "depth,row,col,dir") (rows .1) in
-      let depth = without b (ascii "depth") (ascii "row,col,dir") (cols .1) in
-      let row = without b (ascii "row") (ascii "col,dir") (depth .1) in
-      let col = without b (ascii "col") (ascii "dir") (row .1) in
+      let rows = without b (ascii "rows") (ascii "cols,depth,row,col,dir,weight") n in
+      let cols = without b (ascii "cols") (ascii "depth,row,col,dir,weight") (rows .1) in
+      let depth = without b (ascii "depth") (ascii "row,col,dir,weight") (cols .1) in
+      let row = without b (ascii "row") (ascii "col,dir,weight") (depth .1) in
+      let col = without b (ascii "col") (ascii "dir,weight") (row .1) in
+      let dir = without b (ascii "dir") (ascii "weight") (col .1) in
       other-name _ _ _ (rows .0)
       ∙ other-name _ _ _ (cols .0)
       ∙ other-name _ _ _ (depth .0)
       ∙ other-name _ _ _ (row .0)
       ∙ other-name _ _ _ (col .0)
-      ∙ other-name _ _ _ (col .1)
+      ∙ other-name _ _ _ (dir .0)
+      ∙ other-name _ _ _ (dir .1)
 
-module _ (b : ℕ) (n : contains b (ascii "rows,cols,depth,row,col,dir") ≡ false) where
+module _ (b : ℕ) (n : contains b (ascii "rows,cols,depth,row,col,dir,weight") ≡ false) where
   names-from-other : (place : ℕ) (fs : List (List ℕ)) (c : Columns) → containsAny b fs ≡ true
       → namesFrom place fs c ≡ BadNames
   unfolding containsAny sameColumn
@@ -82,7 +84,7 @@ module _ (b : ℕ) (n : contains b (ascii "rows,cols,depth,row,col,dir") ≡ fal
       (either-way (fitsLine s) BadNames)
     where
       no-comma : b ≡ comma → ⊥
-      no-comma e = false≢true (sym n ∙ ap (λ (x : ℕ). contains x (ascii "rows,cols,depth,row,col,dir")) e)
+      no-comma e = false≢true (sym n ∙ ap (λ (x : ℕ). contains x (ascii "rows,cols,depth,row,col,dir,weight")) e)
 
 -- A names line with a blank anywhere is Bad.
 pub names-blank : (expected : Columns) (s : List ℕ) (i : ℕ) → i < length s → getD s i 0 ≡ blank

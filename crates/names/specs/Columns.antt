@@ -5,7 +5,7 @@ use mathlib.Core.Bool.{Bool, true, false, cond, _&&_}
 use lib.Dec.{eqb}
 use Rattle.decimal.specs.Ascii.{ascii}
 use Rattle.lines.specs.declared.columns.Column.{Column}
-use Rattle.lines.specs.declared.columns.Column.the-variants.{Absent, Rows, Cols, Depth, Row, Col, Dir}
+use Rattle.lines.specs.declared.columns.Column.the-variants.{Absent, Rows, Cols, Depth, Row, Col, Dir, Weight}
 use Rattle.lines.specs.declared.columns.Columns.{Columns}
 use Rattle.lines.specs.Fields.{sameBytes}
 use Rattle.lines.specs.Columns.{sameColumn}
@@ -23,7 +23,8 @@ columnNamed f =
     (columnIf f (ascii "depth") Depth
     (columnIf f (ascii "row") Row
     (columnIf f (ascii "col") Col
-    (columnIf f (ascii "dir") Dir Absent)))))
+    (columnIf f (ascii "dir") Dir
+    (columnIf f (ascii "weight") Weight Absent))))))
 
 -- No columns yet.
 abbrev pub noColumns : Columns
@@ -51,16 +52,19 @@ unfolding countColumn
 asOften expected c x = eqb (countColumn c x) (countColumn expected x)
 
 -- The columns are the expected ones, in any order. Where each is expected once, as below, each stands there exactly
--- once.
+-- once; where Absent is expected twice, one column stands there alone.
 unfoldable pub sameColumns : Columns → Columns → Bool
 unfolding asOften
 sameColumns expected c =
     asOften expected c (expected .first) &&
     (asOften expected c (expected .second) && asOften expected c (expected .third))
 
--- the columns that a names line is to have before the sizes, and before the cells
+-- the columns that a names line is to have before the sizes, before the weights, and before the cells
 abbrev pub sizeColumns : Columns
 sizeColumns = record { first = Rows; second = Cols; third = Depth }
+
+abbrev pub weightColumns : Columns
+weightColumns = record { first = Weight; second = Absent; third = Absent }
 
 abbrev pub cellColumns : Columns
 cellColumns = record { first = Row; second = Col; third = Dir }

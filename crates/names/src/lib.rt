@@ -2,7 +2,7 @@
 ghost use mathlib.Core.Path.{_≡_};
 ghost use Rattle.lines.specs.Fields.{fields};
 ghost use Rattle.names.specs.Columns.{columnIf, columnNamed, withColumn, noColumns, countColumn, asOften};
-ghost use Rattle.names.specs.Columns.{sameColumns, sizeColumns, cellColumns};
+ghost use Rattle.names.specs.Columns.{sameColumns, sizeColumns, weightColumns, cellColumns};
 ghost use Rattle.names.specs.Names.{namesFrom, namesLine, namesValues};
 use lines::columns::Column;
 use lines::columns::Columns;
@@ -31,7 +31,8 @@ fn column_if(field: &[u8], name: &[u8], column: Column, other: Column) -> Column
 fn column_named(field: &[u8]) -> Column
     ensures { λ r. ⌜ r ≡ columnNamed (now (field .entry)) ⌝ }
 {
-    let column = column_if(field, b"dir", Column::Dir, Column::Absent);
+    let column = column_if(field, b"weight", Column::Weight, Column::Absent);
+    let column = column_if(field, b"dir", Column::Dir, column);
     let column = column_if(field, b"col", Column::Col, column);
     let column = column_if(field, b"row", Column::Row, column);
     let column = column_if(field, b"depth", Column::Depth, column);
@@ -160,6 +161,21 @@ pub fn read_size_names(line: &[u8]) -> NamesLine
             first: Column::Rows,
             second: Column::Cols,
             third: Column::Depth,
+        },
+    )
+}
+
+// The name of the weights, alone.
+pub fn read_weight_names(line: &[u8]) -> NamesLine
+    ensures line { λ r. ⌜ r ≡ namesLine weightColumns (now (line .entry)) ⌝ }
+    ensures values { λ r. ⌜ namesValues r ≡ namesValues (namesLine weightColumns (now (line .entry))) ⌝ }
+{
+    read_names(
+        line,
+        Columns {
+            first: Column::Weight,
+            second: Column::Absent,
+            third: Column::Absent,
         },
     )
 }

@@ -4,6 +4,7 @@ use listing::Listing;
 use programs::CELLS;
 use programs::Input;
 use programs::REPORT_BYTES;
+use programs::ROWS;
 use programs::WORK_PLACES;
 use programs::complain;
 use programs::print;
@@ -23,12 +24,13 @@ fn print_bytes(out: &[u8], n: usize) {
 fn print_report(
     read: Read,
     dirs: &[u8],
+    weights: &[u16],
     areas: &mut [u32],
     labels: &mut [u64],
     work: &mut [u32],
     out: &mut [u8],
 ) {
-    match write_report(read, dirs, areas, labels, work, out) {
+    match write_report(read, dirs, weights, areas, labels, work, out) {
         Listing::Bytes(n) => print_bytes(out, n),
         Listing::Refused(_) => complain(b"pfafstetter: the report does not fit its buffer\n"),
     }
@@ -36,13 +38,22 @@ fn print_report(
 
 fn main() {
     let mut dirs = [0u8; CELLS];
+    let mut weights = [0u16; ROWS];
     let mut areas = [0u32; CELLS];
     let mut labels = [0u64; CELLS];
     let mut work = [0u32; WORK_PLACES];
     let mut out = [0u8; REPORT_BYTES];
-    match read_input(&mut dirs) {
+    match read_input(&mut dirs, &mut weights) {
         Input::File(read) => {
-            print_report(read, &dirs, &mut areas, &mut labels, &mut work, &mut out);
+            print_report(
+                read,
+                &dirs,
+                &weights,
+                &mut areas,
+                &mut labels,
+                &mut work,
+                &mut out,
+            );
         }
         Input::Failed => complain(b"pfafstetter: standard input cannot be read\n"),
     }

@@ -7,11 +7,14 @@ use reading::Reader;
 // The cells of the largest sheet that a program takes. A direction byte, an area and a label are lent for each.
 pub const CELLS: usize = 2048;
 
+// The rows of the largest sheet. A weight is lent for each.
+pub const ROWS: usize = 256;
+
 // 8 work places a cell.
 pub const WORK_PLACES: usize = 16384;
 
-// 33 bytes of text a cell, beside the heading.
-pub const REPORT_BYTES: usize = 67603;
+// 36 bytes of text a cell, beside the heading.
+pub const REPORT_BYTES: usize = 73747;
 
 // The number of the error of a call that a signal interrupted.
 const INTERRUPTED: i32 = 4;
@@ -30,7 +33,12 @@ enum Chunk {
 }
 
 // Reads once and feeds what came. Reading ends with the file, or when a line was refused.
-fn read_once(reader: Reader, line: &mut [u8; LINE_BYTES], dirs: &mut [u8]) -> Chunk {
+fn read_once(
+    reader: Reader,
+    line: &mut [u8; LINE_BYTES],
+    dirs: &mut [u8],
+    weights: &mut [u16],
+) -> Chunk {
     let mut chunk = [0u8; 4096];
     let got = libc::read(0, &mut chunk);
     if got < 0 {
@@ -43,7 +51,7 @@ fn read_once(reader: Reader, line: &mut [u8; LINE_BYTES], dirs: &mut [u8]) -> Ch
         return Chunk::End(reader);
     }
     let n = io::count(got, &chunk);
-    let next = reader.feed(&chunk[..n], line, dirs);
+    let next = reader.feed(&chunk[..n], line, dirs, weights);
     if next.is_refused() {
         return Chunk::End(next);
     }
@@ -51,11 +59,11 @@ fn read_once(reader: Reader, line: &mut [u8; LINE_BYTES], dirs: &mut [u8]) -> Ch
 }
 
 // Reads to the end of the input, or until a line was refused.
-fn read_all(line: &mut [u8; LINE_BYTES], dirs: &mut [u8]) -> Chunk {
+fn read_all(line: &mut [u8; LINE_BYTES], dirs: &mut [u8], weights: &mut [u16]) -> Chunk {
     let mut reader = Reader::new();
     let mut turns = u64::MAX;
     while turns > 0 {
-        match read_once(reader, line, dirs) {
+        match read_once(reader, line, dirs, weights) {
             Chunk::More(next) => {
                 reader = next;
                 turns -= 1;
@@ -68,10 +76,10 @@ fn read_all(line: &mut [u8; LINE_BYTES], dirs: &mut [u8]) -> Chunk {
 }
 
 // Reads the file on standard input.
-pub fn read_input(dirs: &mut [u8]) -> Input {
+pub fn read_input(dirs: &mut [u8], weights: &mut [u16]) -> Input {
     let mut line = [0u8; LINE_BYTES];
-    match read_all(&mut line, dirs) {
-        Chunk::End(reader) => Input::File(reader.finish(&line, dirs)),
+    match read_all(&mut line, dirs, weights) {
+        Chunk::End(reader) => Input::File(reader.finish(&line, dirs, weights)),
         Chunk::More(_) => Input::Failed,
         Chunk::Failed => Input::Failed,
     }

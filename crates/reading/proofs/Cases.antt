@@ -5,7 +5,7 @@ use Prim.Native.Nat.{ℕ}
 use lib.ListN.{replicate}
 use Rattle.decimal.specs.Ascii.{ascii}
 use Rattle.intake.specs.declared.Stage.the-variants.{Ended as AtEnd}
-use Rattle.intake.specs.Intake.{lineAfter, endTaken}
+use Rattle.intake.specs.Intake.{LentSheet, lentSheet, lineAfter, endTaken}
 use Rattle.reading.specs.declared.Read.the-variants.{Ended}
 use Rattle.reading.specs.Lines.{linesOf, FileRead, refusedRead, endAfter, readFrom, readFile}
 
@@ -42,49 +42,99 @@ abbrev pub sampleCodes : List ℕ
 sampleCodes = 0 ∷ 4 ∷ 16 ∷ 8 ∷ 16 ∷ 16 ∷ 16 ∷ 16 ∷ 64 ∷ 64 ∷ 32 ∷ 64 ∷ []
 
 -- it ends with 3 rows, 4 columns, depth 2
-abbrev pub sampleRead : List ℕ → FileRead
-sampleRead dirs =
-    record { read = Ended (record { stage = AtEnd (record { rows = 3; cols = 4; depth = 2 }) }); dirs = dirs }
+abbrev pub sampleRead : LentSheet → FileRead
+sampleRead lent =
+    record { read = Ended (record { stage = AtEnd (record { rows = 3; cols = 4; depth = 2 }) }); lent = lent }
 
--- 12 direction bytes, and 2,048
-pub sample-12 : readFile (replicate 12 7) sampleA ≡ sampleRead sampleCodes
+-- 12 direction bytes and 3 weights, and 2,048 and 256
+pub sample-12 : readFile (lentSheet (replicate 12 7) (replicate 3 7)) sampleA
+    ≡ sampleRead (lentSheet sampleCodes (replicate 3 1))
 unfolding readFile linesOf readFrom lineAfter endAfter endTaken
 sample-12 = refl
 
-pub sample-ended : readFile (replicate 12 7) (sampleA ++ ascii "\n") ≡ sampleRead sampleCodes
+pub sample-ended : readFile (lentSheet (replicate 12 7) (replicate 3 7)) (sampleA ++ ascii "\n")
+    ≡ sampleRead (lentSheet sampleCodes (replicate 3 1))
 unfolding readFile linesOf readFrom lineAfter endAfter endTaken
 sample-ended = refl
 
-pub sample-2048 : readFile (replicate 2048 0) sampleA ≡ sampleRead (sampleCodes ++ replicate 2036 0)
+pub sample-2048 : readFile (lentSheet (replicate 2048 0) (replicate 256 0)) sampleA
+    ≡ sampleRead (lentSheet (sampleCodes ++ replicate 2036 0) (replicate 3 1 ++ replicate 253 0))
 unfolding readFile linesOf readFrom lineAfter endAfter endTaken
 sample-2048 = refl
 
 -- "An empty file gives 14, place 1."
-pub empty-file : readFile [] [] ≡ refusedRead 14 1 []
+pub empty-file : readFile (lentSheet [] []) [] ≡ refusedRead 14 1 (lentSheet [] [])
 unfolding readFile linesOf readFrom lineAfter endAfter endTaken
 empty-file = refl
 
 -- an empty line is refused as the first line
-pub file-of-a-line-feed : readFile [] (ascii "\n") ≡ refusedRead 8 1 []
+pub file-of-a-line-feed : readFile (lentSheet [] []) (ascii "\n") ≡ refusedRead 8 1 (lentSheet [] [])
 unfolding readFile linesOf readFrom lineAfter endAfter endTaken
 file-of-a-line-feed = refl
 
 -- lines read plus 1
-pub end-refused : readFile (0 ∷ []) (ascii "rows,cols,depth\n1,1,1\n") ≡ refusedRead 14 3 (0 ∷ [])
+pub end-refused : readFile (lentSheet (0 ∷ []) (0 ∷ [])) (ascii "rows,cols,depth\n1,1,1\n")
+    ≡ refusedRead 14 3 (lentSheet (0 ∷ []) (1 ∷ []))
 unfolding readFile linesOf readFrom lineAfter endAfter endTaken
 end-refused = refl
 
--- the line's number; a cell twice, in a last line without its line feed
-pub sizes-refused : readFile [] (ascii "rows,cols,depth\n1,1,1\nrow,col,dir\n") ≡ refusedRead 3 2 []
+-- the line's number, where no direction byte is lent, and where no weight is
+pub sizes-refused : readFile (lentSheet [] (0 ∷ [])) (ascii "rows,cols,depth\n1,1,1\nrow,col,dir\n")
+    ≡ refusedRead 3 2 (lentSheet [] (0 ∷ []))
 unfolding readFile linesOf readFrom lineAfter endAfter endTaken
 sizes-refused = refl
 
-pub last-refused : readFile (0 ∷ []) (
-    ascii "rows,cols,depth\n1,1,1\nrow,col,dir\n0,0,1\n0,0,1") ≡ refusedRead 10 5 (1 ∷ [])
+pub sizes-refused-weights : readFile (lentSheet (0 ∷ []) []) (ascii "rows,cols,depth\n1,1,1\nrow,col,dir\n")
+    ≡ refusedRead 3 2 (lentSheet (0 ∷ []) [])
+unfolding readFile linesOf readFrom lineAfter endAfter endTaken
+sizes-refused-weights = refl
+
+-- a cell twice, in a last line without its line feed
+pub last-refused : readFile (lentSheet (0 ∷ []) (0 ∷ [])) (
+    ascii "rows,cols,depth\n1,1,1\nrow,col,dir\n0,0,1\n0,0,1") ≡ refusedRead 10 5 (lentSheet (1 ∷ []) (1 ∷ []))
 unfolding readFile linesOf readFrom lineAfter endAfter endTaken
 last-refused = refl
 
 -- 80 bytes are read, and 81 are too many; here both break the rules of the first line
-pub after-a-refusal : readFile (7 ∷ []) (replicate 81 97 ++ ascii "\nrows,cols,depth\n") ≡ refusedRead 8 1 (7 ∷ [])
+pub after-a-refusal : readFile (lentSheet (7 ∷ []) (7 ∷ [])) (replicate 81 97 ++ ascii "\nrows,cols,depth\n")
+    ≡ refusedRead 8 1 (lentSheet (7 ∷ []) (7 ∷ []))
 unfolding readFile linesOf readFrom lineAfter endAfter endTaken
 after-a-refusal = refl
+
+-- ---- weights
+
+-- what is lent for two rows of one cell
+abbrev lentTwo : LentSheet
+lentTwo = lentSheet (0 ∷ 0 ∷ []) (0 ∷ 0 ∷ [])
+
+-- one weight a row, then the cells
+pub weights-read : readFile lentTwo (ascii "rows,cols,depth\n2,1,1\nweight\n1000\n  7\nrow,col,dir\n0,0,4\n1,0,4\n")
+    ≡ record {
+      read = Ended (record { stage = AtEnd (record { rows = 2; cols = 1; depth = 1 }) });
+      lent = lentSheet (4 ∷ 4 ∷ []) (1000 ∷ 7 ∷ []);
+    }
+unfolding readFile linesOf readFrom lineAfter endAfter endTaken
+weights-read = refl
+
+-- a weight of 0, in the second row
+pub weight-refused : readFile lentTwo (ascii "rows,cols,depth\n2,1,1\nweight\n5\n0\n")
+    ≡ refusedRead 17 5 (lentSheet (0 ∷ 0 ∷ []) (5 ∷ 1 ∷ []))
+unfolding readFile linesOf readFrom lineAfter endAfter endTaken
+weight-refused = refl
+
+-- a weight too few, and weights that come again
+pub weight-missing : readFile lentTwo (ascii "rows,cols,depth\n2,1,1\nweight\n5\nrow,col,dir\n")
+    ≡ refusedRead 8 5 (lentSheet (0 ∷ 0 ∷ []) (5 ∷ 1 ∷ []))
+unfolding readFile linesOf readFrom lineAfter endAfter endTaken
+weight-missing = refl
+
+pub weight-again : readFile lentTwo (ascii "rows,cols,depth\n2,1,1\nweight\n5\n6\nweight\n")
+    ≡ refusedRead 8 6 (lentSheet (0 ∷ 0 ∷ []) (5 ∷ 6 ∷ []))
+unfolding readFile linesOf readFrom lineAfter endAfter endTaken
+weight-again = refl
+
+-- the end among the weights
+pub weights-cut : readFile lentTwo (ascii "rows,cols,depth\n2,1,1\nweight\n5\n")
+    ≡ refusedRead 14 5 (lentSheet (0 ∷ 0 ∷ []) (5 ∷ 1 ∷ []))
+unfolding readFile linesOf readFrom lineAfter endAfter endTaken
+weights-cut = refl

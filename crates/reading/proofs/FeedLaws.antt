@@ -8,6 +8,7 @@ use lib.ListN.{length, drop, getD, drop-of-length-le}
 use lib.Seq.{drop-cons}
 use Rattle.intake.specs.declared.TakenOutcome.{TakenOutcome}
 use Rattle.intake.specs.declared.TakenOutcome.the-variants.{Accepted, Refused}
+use Rattle.intake.specs.Intake.{LentSheet}
 use Rattle.reading.specs.declared.Read.{Read}
 use Rattle.reading.specs.Lines.{FileRead, readValues, onOutcome}
 use Rattle.reading.specs.Feed.{Reading, byteAfter, isRefused, feedAll}
@@ -22,10 +23,10 @@ pub feed-end : (s : Reading) (bytes : List ℕ) (i : ℕ) → length bytes ≤ i
 unfolding feedAll
 feed-end s bytes i h = rw drop-of-length-le
 
-pub feed-turn : (s : Reading) (bytes : List ℕ) (i : ℕ) → i < length bytes
-    → feedAll (byteAfter s (getD bytes i 0)) (drop (i + 1) bytes) ≡ feedAll s (drop i bytes)
+pub feed-turn : (s : Reading) {t : Reading} (bytes : List ℕ) (i : ℕ) → i < length bytes
+    → t ≡ byteAfter s (getD bytes i 0) → feedAll t (drop (i + 1) bytes) ≡ feedAll s (drop i bytes)
 unfolding feedAll
-feed-turn s bytes i h = rw (add-one i, drop-cons bytes i 0)
+feed-turn s bytes i h e = rw (e, add-one i, drop-cons bytes i 0)
 
 -- after a refusal nothing changes
 byte-refused : (s : Reading) (b : ℕ) → isRefused (s .reader) ≡ true → byteAfter s b ≡ s
@@ -42,6 +43,6 @@ fed-refused s [] r = refl
 fed-refused s (b ∷ bytes) r = rw (byte-refused s b r) (fed-refused s bytes r)
 
 -- a file that was read as the definition says has its number and values
-pub promises : {read : Read} {dirs : List ℕ} {f : FileRead} → record { read = read; dirs = dirs } ≡ f
-    → (record { read = read; dirs = dirs } ≡ f) × (readValues read ≡ readValues (f .read))
+pub promises : {read : Read} {lent : LentSheet} {f : FileRead} → record { read = read; lent = lent } ≡ f
+    → (record { read = read; lent = lent } ≡ f) × (readValues read ≡ readValues (f .read))
 promises e = (e, ap (λ (f : FileRead). readValues (f .read)) e)

@@ -12,7 +12,7 @@ use lib.Seq.{take-suc-set}
 use Rattle.intake.specs.declared.Intake.{Intake}
 use Rattle.intake.specs.declared.TakenOutcome.{TakenOutcome}
 use Rattle.intake.specs.declared.TakenOutcome.the-variants.{Accepted, Refused}
-use Rattle.intake.specs.Intake.{After, lineAfter, newIntake}
+use Rattle.intake.specs.Intake.{LentSheet, After, lineAfter, newIntake}
 use Rattle.intake.proofs.BadLines.{line-feed, over-eighty, bad-lines-alike, bad-line-refused}
 use Rattle.lines.specs.Fields.{longer}
 use Rattle.reading.specs.Lines.{linesOf, FileRead, refusedRead, onOutcome, readFrom, readFile}
@@ -90,152 +90,155 @@ module _ (s line : List ℕ) (held b : ℕ) (is : Present s line held) (other : 
 -- ---- the reader
 
 -- the reader within a line, and after one
-abbrev within : Intake → ℕ → ℕ → List ℕ → List ℕ → Reading
-within i n held line dirs =
-    record { reader = record { intake = i; lines = n; held = held; outcome = Accepted }; line = line; dirs = dirs }
+abbrev within : Intake → ℕ → ℕ → List ℕ → LentSheet → Reading
+within i n held line lent =
+    record { reader = record { intake = i; lines = n; held = held; outcome = Accepted }; line = line; lent = lent }
 
-abbrev ended : Intake → TakenOutcome → ℕ → List ℕ → List ℕ → Reading
-ended i o n line dirs =
-    record { reader = record { intake = i; lines = n; held = 0; outcome = o }; line = line; dirs = dirs }
+abbrev ended : Intake → TakenOutcome → ℕ → List ℕ → LentSheet → Reading
+ended i o n line lent =
+    record { reader = record { intake = i; lines = n; held = 0; outcome = o }; line = line; lent = lent }
 
 abbrev endedBy : After → ℕ → List ℕ → Reading
-endedBy a n line = ended (a .taken .intake) (a .taken .outcome) n line (a .dirs)
+endedBy a n line = ended (a .taken .intake) (a .taken .outcome) n line (a .lent)
 
 next-line : (n : ℕ) → n < largestCount → nextLine n ≡ suc n
 unfolding nextLine
 next-line n h = rw (lt-ltb n largestCount h) (add-one n)
 
-hand-line : (i : Intake) (n held : ℕ) (text line dirs : List ℕ) → n < largestCount
-    → handLine (within i n held line dirs) text ≡ endedBy (lineAfter i text dirs) (suc n) line
+hand-line : (i : Intake) (n held : ℕ) (text line : List ℕ) (lent : LentSheet) → n < largestCount
+    → handLine (within i n held line lent) text ≡ endedBy (lineAfter i text lent) (suc n) line
 unfolding handLine
-hand-line i n held text line dirs h = rw (next-line n h)
+hand-line i n held text line lent h = rw (next-line n h)
 
-line-ended : (i : Intake) (n held : ℕ) (s line dirs : List ℕ) → Present s line held → n < largestCount
-    → lineEnd (within i n held line dirs) ≡ endedBy (lineAfter i s dirs) (suc n) line
+line-ended : (i : Intake) (n held : ℕ) (s line : List ℕ) (lent : LentSheet) → Present s line held → n < largestCount
+    → lineEnd (within i n held line lent) ≡ endedBy (lineAfter i s lent) (suc n) line
 unfolding lineEnd
-line-ended i n held s line dirs is h =
-    rw (le-leb held 80 (is .fits), is .bytes) (hand-line i n held s line dirs h)
+line-ended i n held s line lent is h =
+    rw (le-leb held 80 (is .fits), is .bytes) (hand-line i n held s line lent h)
 
 -- a file goes on after an accepted line, and is refused at that line else
-after-line : (i : Intake) (o : TakenOutcome) (n : ℕ) (line dirs bytes : List ℕ) (rest : FileRead)
-    → (o ≡ Accepted → finished (feedAll (ended i Accepted n line dirs) bytes) ≡ rest)
-    → finished (feedAll (ended i o n line dirs) bytes) ≡ onOutcome o rest (λ number. refusedRead number n dirs)
+after-line : (i : Intake) (o : TakenOutcome) (n : ℕ) (line : List ℕ) (lent : LentSheet) (bytes : List ℕ)
+    (rest : FileRead)
+    → (o ≡ Accepted → finished (feedAll (ended i Accepted n line lent) bytes) ≡ rest)
+    → finished (feedAll (ended i o n line lent) bytes) ≡ onOutcome o rest (λ number. refusedRead number n lent)
 unfolding onOutcome isRefused finished lastLine endRead
-after-line i Accepted n line dirs bytes rest e = e refl
-after-line i (Refused number) n line dirs bytes rest e =
-    ap finished (fed-refused (ended i (Refused number) n line dirs) bytes refl)
+after-line i Accepted n line lent bytes rest e = e refl
+after-line i (Refused number) n line lent bytes rest e =
+    ap finished (fed-refused (ended i (Refused number) n line lent) bytes refl)
 
 -- a line of more than 80 bytes is refused as soon as it has 81, as it is where it ends
-after-long : (i : Intake) (n : ℕ) (line dirs bytes : List ℕ) (lines : List (List ℕ)) → 80 < firstLength lines
-    → finished (feedAll (endedBy (lineAfter i (10 ∷ []) dirs) (suc n) line) bytes) ≡ readFrom i n dirs lines
+after-long : (i : Intake) (n : ℕ) (line : List ℕ) (lent : LentSheet) (bytes : List ℕ) (lines : List (List ℕ))
+    → 80 < firstLength lines
+    → finished (feedAll (endedBy (lineAfter i (10 ∷ []) lent) (suc n) line) bytes) ≡ readFrom i n lent lines
 unfolding readFrom
-after-long i n line dirs bytes [] h = absurd (omega arith)
-after-long i n line dirs bytes (first ∷ later) h =
-    let a : After = lineAfter i first dirs in
+after-long i n line lent bytes [] h = absurd (omega arith)
+after-long i n line lent bytes (first ∷ later) h =
+    let a : After = lineAfter i first lent in
     let bad = over-eighty first h in
     ap (λ (x : After). finished (feedAll (endedBy x (suc n) line) bytes))
-    (bad-lines-alike i (10 ∷ []) first dirs (line-feed (10 ∷ []) 0 (omega arith) refl) bad)
-    ∙ after-line (a .taken .intake) (a .taken .outcome) (suc n) line (a .dirs) bytes
-    (readFrom (a .taken .intake) (suc n) (a .dirs) later)
-    (λ e. absurd (bad-line-refused i first dirs bad e))
+    (bad-lines-alike i (10 ∷ []) first lent (line-feed (10 ∷ []) 0 (omega arith) refl) bad)
+    ∙ after-line (a .taken .intake) (a .taken .outcome) (suc n) line (a .lent) bytes
+    (readFrom (a .taken .intake) (suc n) (a .lent) later)
+    (λ e. absurd (bad-line-refused i first lent bad e))
 
 -- the end ends a line that lacks its line feed
-finish-ended : (i : Intake) (o : TakenOutcome) (n : ℕ) (line dirs : List ℕ)
-    → lastLine (ended i o n line dirs) ≡ ended i o n line dirs
+finish-ended : (i : Intake) (o : TakenOutcome) (n : ℕ) (line : List ℕ) (lent : LentSheet)
+    → lastLine (ended i o n line lent) ≡ ended i o n line lent
 unfolding lastLine
-finish-ended i Accepted n line dirs = refl
-finish-ended i (Refused number) n line dirs = refl
+finish-ended i Accepted n line lent = refl
+finish-ended i (Refused number) n line lent = refl
 
 -- what is left of a file after its last line
 abbrev closed : Reading → FileRead
-closed x = record { read = endRead (x .reader); dirs = x .dirs }
+closed x = record { read = endRead (x .reader); lent = x .lent }
 
-module _ (i : Intake) (n held : ℕ) (s line dirs : List ℕ) (is : Present s line held)
+module _ (i : Intake) (n held : ℕ) (s line : List ℕ) (lent : LentSheet) (is : Present s line held)
     (few-lines : n < largestCount) where
-  last-is : (held ≡ 0 → ⊥) → lastLine (within i n held line dirs) ≡ lineEnd (within i n held line dirs)
+  last-is : (held ≡ 0 → ⊥) → lastLine (within i n held line lent) ≡ lineEnd (within i n held line lent)
   unfolding lastLine
   last-is some = rw (ne-eqb held 0 some)
 
   last-line : (held ≡ 0 → ⊥)
-      → lastLine (within i n held line dirs) ≡ lastLine (endedBy (lineAfter i s dirs) (suc n) line)
+      → lastLine (within i n held line lent) ≡ lastLine (endedBy (lineAfter i s lent) (suc n) line)
   last-line some =
-      last-is some ∙ line-ended i n held s line dirs is few-lines ∙ sym
-      (finish-ended (lineAfter i s dirs .taken .intake) (lineAfter i s dirs .taken .outcome) (suc n) line
-      (lineAfter i s dirs .dirs))
+      last-is some ∙ line-ended i n held s line lent is few-lines ∙ sym
+      (finish-ended (lineAfter i s lent .taken .intake) (lineAfter i s lent .taken .outcome) (suc n) line
+      (lineAfter i s lent .lent))
 
   finish-line : (held ≡ 0 → ⊥)
-      → finished (within i n held line dirs) ≡ finished (endedBy (lineAfter i s dirs) (suc n) line)
+      → finished (within i n held line lent) ≡ finished (endedBy (lineAfter i s lent) (suc n) line)
   unfolding finished
   finish-line some = ap closed (last-line some)
 
-at-end : (i : Intake) (n : ℕ) (line dirs : List ℕ) → n < largestCount
-    → finished (within i n 0 line dirs) ≡ readFrom i n dirs []
+at-end : (i : Intake) (n : ℕ) (line : List ℕ) (lent : LentSheet) → n < largestCount
+    → finished (within i n 0 line lent) ≡ readFrom i n lent []
 unfolding finished lastLine endRead readFrom
-at-end i n line dirs h = rw (next-line n h)
+at-end i n line lent h = rw (next-line n h)
 
 -- a file of one line, or none, that lacks its line feed
-read-last : (i : Intake) (n held : ℕ) (s line dirs : List ℕ) → Present s line held → n + length s < largestCount
-    → finished (within i n held line dirs) ≡ readFrom i n dirs (linesOf s)
+read-last : (i : Intake) (n held : ℕ) (s line : List ℕ) (lent : LentSheet) → Present s line held
+    → n + length s < largestCount → finished (within i n held line lent) ≡ readFrom i n lent (linesOf s)
 unfolding linesOf feedAll readFrom
-read-last i n held [] line dirs is h = rw (is .count) (at-end i n line dirs (omega arith))
-read-last i n held (b ∷ s) line dirs is h =
-    finish-line i n held (b ∷ s) line dirs is (omega arith) some ∙ after ∙ sym lines
+read-last i n held [] line lent is h = rw (is .count) (at-end i n line lent (omega arith))
+read-last i n held (b ∷ s) line lent is h =
+    finish-line i n held (b ∷ s) line lent is (omega arith) some ∙ after ∙ sym lines
   where
     some : held ≡ 0 → ⊥
     some z = omega (arith, is .count)
 
     a : After
-    a = lineAfter i (b ∷ s) dirs
+    a = lineAfter i (b ∷ s) lent
 
-    after : finished (endedBy a (suc n) line) ≡ readFrom i n dirs ((b ∷ s) ∷ [])
+    after : finished (endedBy a (suc n) line) ≡ readFrom i n lent ((b ∷ s) ∷ [])
     after =
-        after-line (a .taken .intake) (a .taken .outcome) (suc n) line (a .dirs) []
-        (readFrom (a .taken .intake) (suc n) (a .dirs) [])
-        (λ e. at-end (a .taken .intake) (suc n) line (a .dirs) (omega arith))
+        after-line (a .taken .intake) (a .taken .outcome) (suc n) line (a .lent) []
+        (readFrom (a .taken .intake) (suc n) (a .lent) [])
+        (λ e. at-end (a .taken .intake) (suc n) line (a .lent) (omega arith))
 
-    lines : readFrom i n dirs (linesOf (b ∷ s)) ≡ readFrom i n dirs ((b ∷ s) ∷ [])
-    lines = ap (readFrom i n dirs) (lines-last b s (is .no-feed))
+    lines : readFrom i n lent (linesOf (b ∷ s)) ≡ readFrom i n lent ((b ∷ s) ∷ [])
+    lines = ap (readFrom i n lent) (lines-last b s (is .no-feed))
 
 -- these bytes, after any part of a line, are read as lines
 abbrev ReadOn : List ℕ → Type 0
 ReadOn bytes =
-    (i : Intake) (n held : ℕ) (s line dirs : List ℕ) → Present s line held → n + length s + length bytes < largestCount
-    → finished (feedAll (within i n held line dirs) bytes) ≡ readFrom i n dirs (linesOf (s ++ bytes))
+    (i : Intake) (n held : ℕ) (s line : List ℕ) (lent : LentSheet) → Present s line held
+    → n + length s + length bytes < largestCount
+    → finished (feedAll (within i n held line lent) bytes) ≡ readFrom i n lent (linesOf (s ++ bytes))
 
 read-feed : (bytes : List ℕ) → ReadOn bytes → ReadOn (10 ∷ bytes)
 unfolding feedAll byteAfter readFrom
-read-feed bytes on i n held s line dirs is h =
-    let a : After = lineAfter i s dirs in
-    ap (λ (x : Reading). finished (feedAll x bytes)) (line-ended i n held s line dirs is (omega arith))
-    ∙ after-line (a .taken .intake) (a .taken .outcome) (suc n) line (a .dirs) bytes
-    (readFrom (a .taken .intake) (suc n) (a .dirs) (linesOf bytes))
-    (λ e. on (a .taken .intake) (suc n) 0 [] line (a .dirs) (present-none line (is .room)) (omega arith))
-    ∙ sym (ap (readFrom i n dirs) (lines-feed s bytes (is .no-feed)))
+read-feed bytes on i n held s line lent is h =
+    let a : After = lineAfter i s lent in
+    ap (λ (x : Reading). finished (feedAll x bytes)) (line-ended i n held s line lent is (omega arith))
+    ∙ after-line (a .taken .intake) (a .taken .outcome) (suc n) line (a .lent) bytes
+    (readFrom (a .taken .intake) (suc n) (a .lent) (linesOf bytes))
+    (λ e. on (a .taken .intake) (suc n) 0 [] line (a .lent) (present-none line (is .room)) (omega arith))
+    ∙ sym (ap (readFrom i n lent) (lines-feed s bytes (is .no-feed)))
 
 module _ (b : ℕ) (bytes : List ℕ) (other : b ≡ 10 → ⊥) (on : ReadOn bytes) where
   -- the reader after the byte holds one byte more
-  read-more : (i : Intake) (n held held′ : ℕ) (s line line′ dirs : List ℕ)
-      → byteAfter (within i n held line dirs) b ≡ within i n held′ line′ dirs → Present
+  read-more : (i : Intake) (n held held′ : ℕ) (s line line′ : List ℕ) (lent : LentSheet)
+      → byteAfter (within i n held line lent) b ≡ within i n held′ line′ lent → Present
       (s ++ (b ∷ [])) line′ held′ → n + length s + suc (length bytes) < largestCount → finished
-      (feedAll (within i n held line dirs) (b ∷ bytes)) ≡ readFrom i n dirs (linesOf (s ++ b ∷ bytes))
+      (feedAll (within i n held line lent) (b ∷ bytes)) ≡ readFrom i n lent (linesOf (s ++ b ∷ bytes))
   unfolding feedAll
-  read-more i n held held′ s line line′ dirs e is h =
+  read-more i n held held′ s line line′ lent e is h =
       ap (λ (x : Reading). finished (feedAll x bytes)) e
-      ∙ on i n held′ (s ++ (b ∷ [])) line′ dirs is (simp length-append (omega arith))
-      ∙ ap (λ (x : List ℕ). readFrom i n dirs (linesOf x)) (append-assoc s (b ∷ []) bytes)
+      ∙ on i n held′ (s ++ (b ∷ [])) line′ lent is (simp length-append (omega arith))
+      ∙ ap (λ (x : List ℕ). readFrom i n lent (linesOf x)) (append-assoc s (b ∷ []) bytes)
 
   read-other : ReadOn (b ∷ bytes)
   unfolding feedAll byteAfter keepByte longLine
-  read-other i n held s line dirs is h = go (ltb held 80) refl
+  read-other i n held s line lent is h = go (ltb held 80) refl
     where
       go : (t : Bool) → ltb held 80 ≡ t
-          → finished (feedAll (within i n held line dirs) (b ∷ bytes)) ≡ readFrom i n dirs (linesOf (s ++ b ∷ bytes))
+          → finished (feedAll (within i n held line lent) (b ∷ bytes)) ≡ readFrom i n lent (linesOf (s ++ b ∷ bytes))
       go true e =
-          read-more i n held (held + 1) s line (set line held b) dirs (rw (ne-eqb b 10 other, e))
+          read-more i n held (held + 1) s line (set line held b) lent (rw (ne-eqb b 10 other, e))
           (present-kept s line held b is other (ltb-true _ _ e)) h
       go false e =
-          rw (ne-eqb b 10 other, e, hand-line i n held (10 ∷ []) line dirs (omega arith))
-          (after-long i n line dirs bytes (linesOf (s ++ b ∷ bytes))
+          rw (ne-eqb b 10 other, e, hand-line i n held (10 ∷ []) line lent (omega arith))
+          (after-long i n line lent bytes (linesOf (s ++ b ∷ bytes))
           (present-full s line held b is other (ltb-false _ _ e) bytes))
 
 read-byte : (b : ℕ) (bytes : List ℕ) → ReadOn bytes → ReadOn (b ∷ bytes)
@@ -247,18 +250,18 @@ read-byte b bytes on = go (eqb b 10) refl
 
 read-on : (bytes : List ℕ) → ReadOn bytes
 unfolding feedAll
-read-on [] i n held s line dirs is h =
-    read-last i n held s line dirs is (omega arith) ∙ ap (λ (x : List ℕ). readFrom i n dirs (linesOf x))
+read-on [] i n held s line lent is h =
+    read-last i n held s line lent is (omega arith) ∙ ap (λ (x : List ℕ). readFrom i n lent (linesOf x))
     (sym (append-nil s))
-read-on (b ∷ bytes) i n held s line dirs is h = read-byte b bytes (read-on bytes) i n held s line dirs is h
+read-on (b ∷ bytes) i n held s line lent is h = read-byte b bytes (read-on bytes) i n held s line lent is h
 
 -- ---- the whole file
 
 -- fewer than 2^64 - 1 bytes: then all line numbers are below 2^64
-pub read-whole : (bytes line dirs : List ℕ) → length line ≡ 80 → length bytes < largestCount
-    → finished (feedAll (started line dirs) bytes) ≡ readFile dirs bytes
+pub read-whole : (bytes line : List ℕ) (lent : LentSheet) → length line ≡ 80 → length bytes < largestCount
+    → finished (feedAll (started line lent) bytes) ≡ readFile lent bytes
 unfolding readFile
-read-whole bytes line dirs room h = read-on bytes newIntake 0 0 [] line dirs (present-none line room) (omega arith)
+read-whole bytes line lent room h = read-on bytes newIntake 0 0 [] line lent (present-none line room) (omega arith)
 
 pub feed-pieces : (s : Reading) (pieces : List (List ℕ)) → feedPieces s pieces ≡ feedAll s (joined pieces)
 unfolding feedAll
@@ -269,20 +272,20 @@ feed-pieces s (p ∷ ps) = feed-pieces (feedAll s p) ps ∙ sym (feed-append s p
 pub read-in-pieces : ReadInPieces
 read-in-pieces = record {
   as-lines =
-      λ pieces line dirs room h. ap finished (feed-pieces (started line dirs) pieces) ∙ read-whole
-      (joined pieces) line dirs room h;
+      λ pieces line lent room h. ap finished (feed-pieces (started line lent) pieces) ∙ read-whole
+      (joined pieces) line lent room h;
 }
 
 -- ---- the refusal
 
 long-refused : (s : Reading) → isRefused (longLine s .reader) ≡ true
 unfolding isRefused longLine handLine
-long-refused s = go (lineAfter (s .reader .intake) (10 ∷ []) (s .dirs) .taken .outcome) refl
+long-refused s = go (lineAfter (s .reader .intake) (10 ∷ []) (s .lent) .taken .outcome) refl
   where
-    go : (o : TakenOutcome) → lineAfter (s .reader .intake) (10 ∷ []) (s .dirs) .taken .outcome ≡ o
+    go : (o : TakenOutcome) → lineAfter (s .reader .intake) (10 ∷ []) (s .lent) .taken .outcome ≡ o
         → isRefused (longLine s .reader) ≡ true
     go Accepted e =
-        absurd (bad-line-refused (s .reader .intake) (10 ∷ []) (s .dirs) (line-feed (10 ∷ []) 0 (omega arith) refl) e)
+        absurd (bad-line-refused (s .reader .intake) (10 ∷ []) (s .lent) (line-feed (10 ∷ []) 0 (omega arith) refl) e)
     go (Refused number) e = rw e
 
 stays-refused : (s : Reading) (bytes : List ℕ) → isRefused (s .reader) ≡ true

@@ -7,17 +7,20 @@ use lib.ListN.{take, set}
 use Rattle.decimal.specs.Ascii.{lineFeed}
 use Rattle.lines.specs.Fields.{lineBytes}
 use Rattle.intake.specs.declared.TakenOutcome.the-variants.{Accepted}
-use Rattle.intake.specs.Intake.{After, lineAfter, newIntake}
+use Rattle.intake.specs.Intake.{LentSheet, After, lineAfter, newIntake}
 use Rattle.reading.specs.declared.Reader.{Reader}
 use Rattle.reading.specs.declared.Read.{Read}
 use Rattle.reading.specs.declared.Read.the-variants.{Refused}
 use Rattle.reading.specs.Lines.{FileRead, onOutcome, endAfter}
 
--- the reader with what is lent to it: the buffer for the present line, and the direction bytes
+-- the reader with what is lent to it: the buffer for the present line, and what goes to the intake
 pub record Reading : Type 0 where
   pub reader : Reader
   pub line : List ℕ
-  pub dirs : List ℕ
+  pub lent : LentSheet
+
+abbrev pub reading : Reader → List ℕ → LentSheet → Reading
+reading reader line lent = record { reader = reader; line = line; lent = lent }
 
 abbrev pub newReader : Reader
 newReader = record { intake = newIntake; lines = 0; held = 0; outcome = Accepted }
@@ -39,12 +42,12 @@ afterLine s a = record {
     outcome = a .taken .outcome;
   };
   line = s .line;
-  dirs = a .dirs;
+  lent = a .lent;
 }
 
 -- a line goes to the intake
 unfoldable pub handLine : Reading → List ℕ → Reading
-handLine s text = afterLine s (lineAfter (s .reader .intake) text (s .dirs))
+handLine s text = afterLine s (lineAfter (s .reader .intake) text (s .lent))
 
 -- for a line of more bytes than fit, a line feed goes to it: that line too breaks the rules of every stage
 unfoldable pub longLine : Reading → Reading
@@ -62,7 +65,7 @@ abbrev pub withHeld : Reading → ℕ → List ℕ → Reading
 withHeld s held line = record {
   reader = record { intake = s .reader .intake; lines = s .reader .lines; held = held; outcome = Accepted };
   line = line;
-  dirs = s .dirs;
+  lent = s .lent;
 }
 
 -- a byte of the present line: it is kept if it fits, and else ends the line at once
@@ -96,4 +99,4 @@ unfolding onOutcome
 endRead r = onOutcome (r .outcome) (endAfter (r .intake) (nextLine (r .lines))) (λ number. Refused number (r .lines))
 
 unfoldable pub finished : Reading → FileRead
-finished s = record { read = endRead (lastLine s .reader); dirs = lastLine s .dirs }
+finished s = record { read = endRead (lastLine s .reader); lent = lastLine s .lent }

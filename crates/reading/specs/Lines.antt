@@ -6,7 +6,7 @@ use lib.Dec.{eqb}
 use Rattle.intake.specs.declared.Intake.{Intake}
 use Rattle.intake.specs.declared.TakenOutcome.{TakenOutcome}
 use Rattle.intake.specs.declared.TakenOutcome.the-variants.{Accepted as Took, Refused as RefusedBy}
-use Rattle.intake.specs.Intake.{After, lineAfter, endTaken, newIntake}
+use Rattle.intake.specs.Intake.{LentSheet, After, lineAfter, endTaken, newIntake}
 use Rattle.decimal.specs.Ascii.{lineFeed}
 use Rattle.lines.specs.Fields.{longer}
 use Rattle.reading.specs.declared.Read.{Read}
@@ -30,13 +30,13 @@ abbrev pub readValues : Read → ReadValues
 readValues (Refused number place) = record { number = number; place = place; intake = newIntake }
 readValues (Ended i) = record { number = 0; place = 0; intake = i }
 
--- what reading a file leaves: how it ended, and the direction bytes
+-- what reading a file leaves: how it ended, and what was lent to the intake
 pub record FileRead : Type 0 where
   pub read : Read
-  pub dirs : List ℕ
+  pub lent : LentSheet
 
-abbrev pub refusedRead : ℕ → ℕ → List ℕ → FileRead
-refusedRead number place dirs = record { read = Refused number place; dirs = dirs }
+abbrev pub refusedRead : ℕ → ℕ → LentSheet → FileRead
+refusedRead number place lent = record { read = Refused number place; lent = lent }
 
 -- go on where a line or an end was accepted; else it was refused with a number
 unfoldable pub onOutcome : {A : Type 0} → TakenOutcome → A → (ℕ → A) → A
@@ -50,14 +50,14 @@ endAfter i place = onOutcome (endTaken i .outcome) (Ended (endTaken i .intake)) 
 
 -- The lines after n lines, and the end: "Place is the line number, from 1, if the intake refused a line; lines read
 -- plus 1 if it refused the end".
-unfoldable pub readFrom : Intake → ℕ → List ℕ → List (List ℕ) → FileRead
+unfoldable pub readFrom : Intake → ℕ → LentSheet → List (List ℕ) → FileRead
 unfolding onOutcome
-readFrom i n dirs [] = record { read = endAfter i (suc n); dirs = dirs }
-readFrom i n dirs (line ∷ lines) =
-    let a : After = lineAfter i line dirs in
-    let later : FileRead = readFrom (a .taken .intake) (suc n) (a .dirs) lines in
-    onOutcome (a .taken .outcome) later (λ number. refusedRead number (suc n) (a .dirs))
+readFrom i n lent [] = record { read = endAfter i (suc n); lent = lent }
+readFrom i n lent (line ∷ lines) =
+    let a : After = lineAfter i line lent in
+    let later : FileRead = readFrom (a .taken .intake) (suc n) (a .lent) lines in
+    onOutcome (a .taken .outcome) later (λ number. refusedRead number (suc n) (a .lent))
 
--- a whole file, where these direction bytes are lent
-unfoldable pub readFile : List ℕ → List ℕ → FileRead
-readFile dirs bytes = readFrom newIntake 0 dirs (linesOf bytes)
+-- a whole file, where this is lent
+unfoldable pub readFile : LentSheet → List ℕ → FileRead
+readFile lent bytes = readFrom newIntake 0 lent (linesOf bytes)

@@ -7,12 +7,13 @@ use Prim.Native.Nat.{ℕ, _<_}
 use lib.ListN.{length}
 use Rattle.decimal.specs.Ascii.{lineFeed}
 use Rattle.lines.specs.Fields.{lineBytes}
+use Rattle.intake.specs.Intake.{LentSheet}
 use Rattle.reading.specs.Lines.{FileRead, readFile}
-use Rattle.reading.specs.Feed.{Reading, newReader, largestCount, isRefused, feedAll, finished}
+use Rattle.reading.specs.Feed.{Reading, reading, newReader, largestCount, isRefused, feedAll, finished}
 
 -- a reader that no byte went to, with what is lent to it
-abbrev pub started : List ℕ → List ℕ → Reading
-started line dirs = record { reader = newReader; line = line; dirs = dirs }
+abbrev pub started : List ℕ → LentSheet → Reading
+started line lent = reading newReader line lent
 
 -- the chunks of a file, fed one after the other
 abbrev pub feedPieces : Reading → List (List ℕ) → Reading
@@ -25,14 +26,14 @@ joined [] = []
 joined (p ∷ ps) = p ++ joined ps
 
 -- what `new`, a `feed` for each chunk and `finish` leave, by their contracts
-abbrev pub readPieces : List ℕ → List ℕ → List (List ℕ) → FileRead
-readPieces line dirs pieces = finished (feedPieces (started line dirs) pieces)
+abbrev pub readPieces : List ℕ → LentSheet → List (List ℕ) → FileRead
+readPieces line lent pieces = finished (feedPieces (started line lent) pieces)
 
 -- Files of fewer than 2^64 - 1 bytes: line numbers are then below 2^64.
 pub record ReadInPieces : Type 0 where
-  pub as-lines : (pieces : List (List ℕ)) (line dirs : List ℕ) → length line ≡ lineBytes
+  pub as-lines : (pieces : List (List ℕ)) (line : List ℕ) (lent : LentSheet) → length line ≡ lineBytes
       → length (joined pieces) < largestCount
-      → readPieces line dirs pieces ≡ readFile dirs (joined pieces)
+      → readPieces line lent pieces ≡ readFile lent (joined pieces)
 
 -- no byte is a line feed
 abbrev pub NoFeed : List ℕ → Type 0

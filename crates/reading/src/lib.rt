@@ -4,8 +4,9 @@ ghost use mathlib.Core.List.{List};
 ghost use Prim.Native.Nat.{ℕ};
 ghost use lib.ListN.{length};
 ghost use Rattle.lines.specs.Fields.{lineBytes};
+ghost use Rattle.intake.specs.Intake.{lentSheet};
 ghost use Rattle.reading.specs.Lines.{endAfter, readValues};
-ghost use Rattle.reading.specs.Feed.{nextLine, newReader, handLine, longLine, lineEnd, byteAfter};
+ghost use Rattle.reading.specs.Feed.{reading, nextLine, newReader, handLine, longLine, lineEnd, byteAfter};
 ghost use Rattle.reading.specs.Feed.{isRefused, feedAll, lastLine, endRead, finished};
 use decimal::LINE_FEED;
 use intake::Intake;
@@ -40,12 +41,13 @@ fn next_line(lines: usize) -> usize
 }
 
 // Hands a line to the intake.
-fn hand_line(reader: Reader, text: &[u8], dirs: &mut [u8]) -> Reader
-    ensures { λ r. ⌜ ((line : List ℕ) → record { reader = r; line = line; dirs = now (dirs .exit) }
-        ≡ handLine (record { reader = reader; line = line; dirs = now (dirs .entry) }) (now (text .entry))) ⌝ }
+fn hand_line(reader: Reader, text: &[u8], dirs: &mut [u8], weights: &mut [u16]) -> Reader
+    ensures { λ r. ⌜ ((line : List ℕ) → reading r line (lentSheet (now (dirs .exit)) (now (weights .exit)))
+        ≡ handLine (reading reader line (lentSheet (now (dirs .entry)) (now (weights .entry))))
+        (now (text .entry))) ⌝ }
 {
     let intake = reader.intake;
-    let taken = intake.line(text, dirs);
+    let taken = intake.line(text, dirs, weights);
     let next = taken.intake;
     let outcome = taken.outcome;
     Reader {
@@ -57,37 +59,44 @@ fn hand_line(reader: Reader, text: &[u8], dirs: &mut [u8]) -> Reader
 }
 
 // A line of more than LINE_BYTES bytes: for it a line goes to the intake that breaks the file's rules in every stage.
-fn long_line(reader: Reader, dirs: &mut [u8]) -> Reader
-    ensures { λ r. ⌜ ((line : List ℕ) → record { reader = r; line = line; dirs = now (dirs .exit) }
-        ≡ longLine (record { reader = reader; line = line; dirs = now (dirs .entry) })) ⌝ }
+fn long_line(reader: Reader, dirs: &mut [u8], weights: &mut [u16]) -> Reader
+    ensures { λ r. ⌜ ((line : List ℕ) → reading r line (lentSheet (now (dirs .exit)) (now (weights .exit)))
+        ≡ longLine (reading reader line (lentSheet (now (dirs .entry)) (now (weights .entry))))) ⌝ }
 {
-    hand_line(reader, &[LINE_FEED], dirs)
+    hand_line(reader, &[LINE_FEED], dirs, weights)
 }
 
 // The end of the present line.
-fn line_end(reader: Reader, line: &[u8], dirs: &mut [u8]) -> Reader
+fn line_end(reader: Reader, line: &[u8], dirs: &mut [u8], weights: &mut [u16]) -> Reader
     requires { ⌜ length (now line) ≡ lineBytes ⌝ }
-    ensures { λ r. ⌜ record { reader = r; line = now (line .entry); dirs = now (dirs .exit) }
-        ≡ lineEnd (record { reader = reader; line = now (line .entry); dirs = now (dirs .entry) }) ⌝ }
+    ensures { λ r. ⌜ reading r (now (line .entry)) (lentSheet (now (dirs .exit)) (now (weights .exit)))
+        ≡ lineEnd (reading reader (now (line .entry)) (lentSheet (now (dirs .entry)) (now (weights .entry)))) ⌝ }
 {
     let held = reader.held;
     if held <= LINE_BYTES {
-        return hand_line(reader, &line[..held], dirs);
+        return hand_line(reader, &line[..held], dirs, weights);
     }
-    long_line(reader, dirs)
+    long_line(reader, dirs, weights)
 }
 
 // One byte of the file. After a refusal it changes nothing; one that does not fit the present line ends that line.
-fn feed_byte(reader: Reader, byte: u8, line: &mut [u8; LINE_BYTES], dirs: &mut [u8]) -> Reader
-    ensures { λ r. ⌜ record { reader = r; line = now (line .exit); dirs = now (dirs .exit) }
-        ≡ byteAfter (record { reader = reader; line = now (line .entry); dirs = now (dirs .entry) }) byte ⌝ }
+fn feed_byte(
+    reader: Reader,
+    byte: u8,
+    line: &mut [u8; LINE_BYTES],
+    dirs: &mut [u8],
+    weights: &mut [u16],
+) -> Reader
+    ensures { λ r. ⌜ reading r (now (line .exit)) (lentSheet (now (dirs .exit)) (now (weights .exit)))
+        ≡ byteAfter (reading reader (now (line .entry)) (lentSheet (now (dirs .entry)) (now (weights .entry))))
+        byte ⌝ }
 {
     let outcome = reader.outcome;
     let TakenOutcome::Accepted = outcome else {
         return reader;
     };
     if byte == LINE_FEED {
-        return line_end(reader, line, dirs);
+        return line_end(reader, line, dirs, weights);
     }
     let intake = reader.intake;
     let at = reader.held;
@@ -100,13 +109,18 @@ fn feed_byte(reader: Reader, byte: u8, line: &mut [u8; LINE_BYTES], dirs: &mut [
             outcome: outcome,
         };
     }
-    long_line(reader, dirs)
+    long_line(reader, dirs, weights)
 }
 
 // A last line that lacks its line feed.
-fn last_line(reader: Reader, line: &[u8; LINE_BYTES], dirs: &mut [u8]) -> Reader
-    ensures { λ r. ⌜ record { reader = r; line = now (line .entry); dirs = now (dirs .exit) }
-        ≡ lastLine (record { reader = reader; line = now (line .entry); dirs = now (dirs .entry) }) ⌝ }
+fn last_line(
+    reader: Reader,
+    line: &[u8; LINE_BYTES],
+    dirs: &mut [u8],
+    weights: &mut [u16],
+) -> Reader
+    ensures { λ r. ⌜ reading r (now (line .entry)) (lentSheet (now (dirs .exit)) (now (weights .exit)))
+        ≡ lastLine (reading reader (now (line .entry)) (lentSheet (now (dirs .entry)) (now (weights .entry)))) ⌝ }
 {
     let outcome = reader.outcome;
     let TakenOutcome::Accepted = outcome else {
@@ -115,7 +129,7 @@ fn last_line(reader: Reader, line: &[u8; LINE_BYTES], dirs: &mut [u8]) -> Reader
     if reader.held == 0 {
         return reader;
     }
-    line_end(reader, line, dirs)
+    line_end(reader, line, dirs, weights)
 }
 
 // The end of a file whose lines were all accepted.
@@ -157,15 +171,21 @@ impl Reader {
     }
 
     // The next bytes of the file.
-    pub fn feed(self, chunk: &[u8], line: &mut [u8; LINE_BYTES], dirs: &mut [u8]) -> Self
-        ensures { λ r. ⌜ record { reader = r; line = now (line .exit); dirs = now (dirs .exit) }
-            ≡ feedAll (record { reader = self; line = now (line .entry); dirs = now (dirs .entry) })
+    pub fn feed(
+        self,
+        chunk: &[u8],
+        line: &mut [u8; LINE_BYTES],
+        dirs: &mut [u8],
+        weights: &mut [u16],
+    ) -> Self
+        ensures { λ r. ⌜ reading r (now (line .exit)) (lentSheet (now (dirs .exit)) (now (weights .exit)))
+            ≡ feedAll (reading self (now (line .entry)) (lentSheet (now (dirs .entry)) (now (weights .entry))))
             (now (chunk .entry)) ⌝ }
     {
         let mut reader = self;
         let mut i = 0;
         while i < chunk.len() {
-            reader = feed_byte(reader, chunk[i], line, dirs);
+            reader = feed_byte(reader, chunk[i], line, dirs, weights);
             i += 1;
         }
         reader
@@ -183,14 +203,14 @@ impl Reader {
     }
 
     // The end of the file.
-    pub fn finish(self, line: &[u8; LINE_BYTES], dirs: &mut [u8]) -> Read
-        ensures file { λ r. ⌜ record { read = r; dirs = now (dirs .exit) }
-            ≡ finished (record { reader = self; line = now (line .entry); dirs = now (dirs .entry) }) ⌝ }
+    pub fn finish(self, line: &[u8; LINE_BYTES], dirs: &mut [u8], weights: &mut [u16]) -> Read
+        ensures file { λ r. ⌜ record { read = r; lent = lentSheet (now (dirs .exit)) (now (weights .exit)) }
+            ≡ finished (reading self (now (line .entry)) (lentSheet (now (dirs .entry)) (now (weights .entry)))) ⌝ }
         ensures values { λ r. ⌜ readValues r
             ≡ readValues (finished
-            (record { reader = self; line = now (line .entry); dirs = now (dirs .entry) }) .read) ⌝ }
+            (reading self (now (line .entry)) (lentSheet (now (dirs .entry)) (now (weights .entry)))) .read) ⌝ }
     {
-        let reader = last_line(self, line, dirs);
+        let reader = last_line(self, line, dirs, weights);
         end_read(reader)
     }
 }

@@ -1,33 +1,54 @@
 -- Reports tried by computation.
 use mathlib.Core.Path.{_≡_, refl}
-use mathlib.Core.List.{[], _∷_}
+use mathlib.Core.List.{[]}
 use lib.ListN.{replicate}
 use Rattle.decimal.specs.Ascii.{ascii}
 use Rattle.sheet.specs.Refusal.{Lent}
-use Rattle.intake.specs.Intake.{lineAfter, endTaken}
+use Rattle.intake.specs.Intake.{LentSheet, lentSheet, lineAfter, endTaken}
 use Rattle.labelling.specs.FromIntake.{intakeLent}
 use Rattle.listing.specs.Listing.{listingText, refusalText}
 use Rattle.reading.specs.Lines.{linesOf, endAfter, readFrom, readFile}
 use Rattle.reading.proofs.Cases.{sampleA}
 use Rattle.report.specs.Report.{verdictOf, readLent, reportText, report}
 
--- what is lent for 12 cells
+-- what is lent for 3 rows of 4 cells
+abbrev sheet12 : LentSheet
+sheet12 = lentSheet (replicate 12 0) (replicate 3 0)
+
 abbrev lent12 : Lent
 lent12 = record { areas = replicate 12 0; labels = replicate 12 0; work = replicate 96 0 }
 
 -- what document 01 prints for sample A
-pub sample-report : report
-    (replicate 12 0) lent12 sampleA
+pub sample-report : report sheet12 lent12 sampleA
     ≡ ascii "row,col,area,label\n0,1,2,8\n0,2,1,8\n0,3,1,92\n1,0,11,1\n1,1,9,3\n1,2,4,91\n1,3,2,93\n2,0,1,2\n2,1,1,4\n2,2,1,6\n2,3,1,93\n"
 unfolding report readFile linesOf readFrom lineAfter endAfter endTaken verdictOf readLent intakeLent reportText listingText
 sample-report = refl
 
-pub empty-report : report [] lent12 [] ≡ ascii "refused,place\n14,1\n"
+pub empty-report : report (lentSheet [] []) lent12 [] ≡ ascii "refused,place\n14,1\n"
 unfolding report readFile linesOf readFrom lineAfter endAfter endTaken verdictOf readLent reportText refusalText
 empty-report = refl
 
 -- a second outlet: the place is that of labelling, cell 1
-pub second-outlet : report (0 ∷ 0 ∷ []) lent12 (
+pub second-outlet : report sheet12 lent12 (
     ascii "rows,cols,depth\n1,2,1\nrow,col,dir\n0,0,16\n0,1,1\n") ≡ ascii "refused,place\n7,1\n"
 unfolding report readFile linesOf readFrom lineAfter endAfter endTaken verdictOf readLent intakeLent reportText listingText refusalText
 second-outlet = refl
+
+-- Three cells in a column, the outer two of which flow into the middle one. Without weights the last is the heavier of
+-- the two; with them the first is.
+pub three-cells : report sheet12 lent12 (ascii "rows,cols,depth\n3,1,1\nrow,col,dir\n0,0,4\n1,0,16\n2,0,64\n")
+    ≡ ascii "row,col,area,label\n0,0,1,2\n1,0,3,1\n2,0,1,3\n"
+unfolding report readFile linesOf readFrom lineAfter endAfter endTaken verdictOf readLent intakeLent reportText listingText
+three-cells = refl
+
+pub three-weighted : report sheet12 lent12 (
+    ascii "rows,cols,depth\n3,1,1\nweight\n1000\n1\n7\nrow,col,dir\n0,0,4\n1,0,16\n2,0,64\n")
+    ≡ ascii "row,col,area,label\n0,0,1000,3\n1,0,1008,1\n2,0,7,2\n"
+unfolding report readFile linesOf readFrom lineAfter endAfter endTaken verdictOf readLent intakeLent reportText listingText
+three-weighted = refl
+
+-- a weight that is too large: the place is its line
+pub weight-refused : report sheet12 lent12 (ascii "rows,cols,depth\n3,1,1\nweight\n1000\n1001\n")
+    ≡ ascii "refused,place\n17,5\n"
+unfolding report readFile linesOf readFrom lineAfter endAfter endTaken verdictOf readLent reportText refusalText
+weight-refused = refl

@@ -1,12 +1,12 @@
 -- The first demand about files, proved.
 use mathlib.Core.Path.{_≡_, refl, ap}
 use mathlib.Core.Bool.{true}
-use mathlib.Core.List.{List, [], _∷_}
+use mathlib.Core.List.{List, []}
 use Prim.Native.Nat.{ℕ}
 use lib.ListN.{replicate}
 use Rattle.decimal.specs.Ascii.{ascii}
 use Rattle.sheet.specs.Refusal.{Lent}
-use Rattle.intake.specs.Intake.{lineAfter, endTaken}
+use Rattle.intake.specs.Intake.{LentSheet, lentSheet, lineAfter, endTaken}
 use Rattle.reading.specs.Lines.{FileRead, linesOf, endAfter, readFrom, readFile}
 use Rattle.reading.proofs.Whole.{read-in-pieces}
 use Rattle.report.specs.declared.Verdict.{Verdict}
@@ -29,21 +29,24 @@ abbrev Numbered : Verdict → Type 0
 Numbered (Refused number place) = InFile number
 Numbered (Labelled z) = Unit
 
-ending-numbered : {dirs : List ℕ} {L : Lent} {bytes : List ℕ} {v : Verdict} → Ending dirs L bytes v → Numbered v
+ending-numbered : {T : LentSheet} {L : Lent} {bytes : List ℕ} {v : Verdict} → Ending T L bytes v → Numbered v
 ending-numbered (line-refused {number} {place} r) =
-    one-of InFile lineNumbers (refl, (refl, (refl, (refl, (refl, (refl, (refl, tt))))))) number (r .number-is)
+    one-of InFile lineNumbers (refl, (refl, (refl, (refl, (refl, (refl, (refl, (refl, tt)))))))) number (r .number-is)
 ending-numbered (end-refused {number} {place} r) = one-of InFile endNumbers (refl, tt) number (r .number-is)
 ending-numbered (sheet-refused {number} {place} r) =
     one-of InFile sheetNumbers (refl, (refl, (refl, (refl, (refl, tt))))) number (r .number-is)
 ending-numbered (labelled {z} r) = tt
 
--- a file for each number, with two cells lent
+-- a file for each number, where a row of two cells is lent
+abbrev sheet2 : LentSheet
+sheet2 = lentSheet (replicate 2 0) (replicate 1 0)
+
 abbrev lent2 : Lent
 lent2 = record { areas = replicate 2 0; labels = replicate 2 0; work = replicate 16 0 }
 
-abbrev refusedWith : (number place : ℕ) (bytes : List ℕ) → fileVerdict (0 ∷ 0 ∷ []) lent2 bytes ≡ Refused number place
+abbrev refusedWith : (number place : ℕ) (bytes : List ℕ) → fileVerdict sheet2 lent2 bytes ≡ Refused number place
     → RefusedWith number
-refusedWith number place bytes e = record { dirs = 0 ∷ 0 ∷ []; lent = lent2; bytes = bytes; place = place; verdict = e }
+refusedWith number place bytes e = record { sheet = sheet2; lent = lent2; bytes = bytes; place = place; verdict = e }
 
 refused-each : AllOf RefusedWith fileNumbers
 unfolding fileVerdict readFile linesOf readFrom lineAfter endAfter endTaken verdictOf
@@ -69,7 +72,10 @@ refused-each = (
                     refusedWith 10 5 (ascii "rows,cols,depth\n1,1,1\nrow,col,dir\n0,0,1\n0,0,1\n") refl,
                     (
                       refusedWith 14 1 [] refl,
-                      tt,
+                      (
+                        refusedWith 17 4 (ascii "rows,cols,depth\n1,1,1\nweight\n0\n") refl,
+                        tt,
+                      ),
                     ),
                   ),
                 ),
@@ -84,7 +90,7 @@ refused-each = (
 
 pub file-refusals : FileRefusals
 file-refusals = record {
-  only = λ dirs L bytes number place e. rw e at (ending-numbered (file-ending dirs L bytes));
+  only = λ T L bytes number place e. rw e at (ending-numbered (file-ending T L bytes));
   each = λ number e. one-of RefusedWith fileNumbers refused-each number e;
 }
 
@@ -98,8 +104,8 @@ demand-one = record {
   refused = file-refused;
   listed = file-listed;
   apart = listing-no-refusal;
-  in-pieces = λ pieces line dirs buffer L room few.
-      ap (λ (f : FileRead). reportInto (f .read) (f .dirs) L buffer)
-      (read-in-pieces .as-lines pieces line dirs room few);
+  in-pieces = λ pieces line buffer T L room few.
+      ap (λ (f : FileRead). reportInto (f .read) (f .lent) L buffer)
+      (read-in-pieces .as-lines pieces line T room few);
   fits = program-report;
 }

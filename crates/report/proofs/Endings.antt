@@ -10,72 +10,73 @@ use Rattle.sheet.specs.Sheet.{Grid}
 use Rattle.sheet.specs.Refusal.{Lent, outcome}
 use Rattle.intake.specs.declared.Sizes.{Sizes}
 use Rattle.intake.specs.declared.Stage.{Stage}
-use Rattle.intake.specs.declared.Stage.the-variants.{WaitingForSizeNames, WaitingForSizes, WaitingForCellNames}
-use Rattle.intake.specs.declared.Stage.the-variants.{TakingCells, Ended as AtEnd}
+use Rattle.intake.specs.declared.Stage.the-variants.{WaitingForSizeNames, WaitingForSizes}
+use Rattle.intake.specs.declared.Stage.the-variants.{WaitingForWeightOrCellNames, WaitingForWeight}
+use Rattle.intake.specs.declared.Stage.the-variants.{WaitingForCellNames, TakingCells, Ended as AtEnd}
 use Rattle.intake.specs.declared.Intake.{Intake}
 use Rattle.intake.specs.declared.TakenOutcome.{TakenOutcome}
 use Rattle.intake.specs.declared.TakenOutcome.the-variants.{Accepted, Refused as RefusedBy}
-use Rattle.intake.specs.Intake.{lineAfter, endIn, endTaken, newIntake, accepted, endedSizes}
-use Rattle.labelling.specs.Labelling.{sheet}
+use Rattle.intake.specs.Intake.{LentSheet, lineAfter, endIn, endTaken, newIntake, accepted}
+use Rattle.labelling.specs.FromIntake.{sheetOf}
 use Rattle.listing.specs.Listing.{listingText, refusalText}
 use Rattle.reading.specs.declared.Read.{Read}
 use Rattle.reading.specs.declared.Read.the-variants.{Refused, Ended}
 use Rattle.reading.specs.Lines.{linesOf, FileRead, endAfter, readFrom, readFile}
-use Rattle.report.specs.Report.{sheetVerdict, sizesVerdict, verdictOf, fileVerdict}
+use Rattle.report.specs.Report.{sheetVerdict, verdictOf, fileVerdict}
 use Rattle.report.specs.Conditions.{Takes, takes-none, takes-line, FileEnded, Ending, line-refused, end-refused}
-use Rattle.report.specs.Conditions.{sheet-refused, labelled}
+use Rattle.report.specs.Conditions.{LinesTaken, sheet-refused, labelled}
 use Rattle.report.proofs.Numbers.{takes-on, line-number, end-number, file-number}
 
 -- ---- how the reading of lines ends
 
-pub data ReadEnding (i : Intake) (n : ℕ) (dirs : List ℕ) (lines : List (List ℕ)) (f : FileRead) : Type 0 where
-  at-line : (before after : List (List ℕ)) (line : List ℕ) (j : Intake) (d : List ℕ) (number : ℕ)
-      → lines ≡ before ++ line ∷ after → Takes i dirs before j d
-      → lineAfter j line d .taken .outcome ≡ RefusedBy number
-      → f .read ≡ Refused number (n + suc (length before)) → ReadEnding i n dirs lines f
-  at-end : (j : Intake) (d : List ℕ) (number : ℕ) → Takes i dirs lines j d → endTaken j .outcome ≡ RefusedBy number
-      → f .read ≡ Refused number (n + suc (length lines)) → ReadEnding i n dirs lines f
-  ended : (j : Intake) (d : List ℕ) → Takes i dirs lines j d → endTaken j .outcome ≡ Accepted
-      → f ≡ record { read = Ended (endTaken j .intake); dirs = d } → ReadEnding i n dirs lines f
+pub data ReadEnding (i : Intake) (n : ℕ) (T : LentSheet) (lines : List (List ℕ)) (f : FileRead) : Type 0 where
+  at-line : (before after : List (List ℕ)) (line : List ℕ) (j : Intake) (U : LentSheet) (number : ℕ)
+      → lines ≡ before ++ line ∷ after → Takes i T before j U
+      → lineAfter j line U .taken .outcome ≡ RefusedBy number
+      → f .read ≡ Refused number (n + suc (length before)) → ReadEnding i n T lines f
+  at-end : (j : Intake) (U : LentSheet) (number : ℕ) → Takes i T lines j U → endTaken j .outcome ≡ RefusedBy number
+      → f .read ≡ Refused number (n + suc (length lines)) → ReadEnding i n T lines f
+  ended : (j : Intake) (U : LentSheet) → Takes i T lines j U → endTaken j .outcome ≡ Accepted
+      → f ≡ record { read = Ended (endTaken j .intake); lent = U } → ReadEnding i n T lines f
 
 later : (number n k : ℕ) → _≡_ {A = Read} (Refused number (suc n + k)) (Refused number (n + suc k))
 later number n k = ap (Refused number) (omega arith)
 
 -- one accepted line before
-one-more : (i : Intake) (n : ℕ) (dirs line : List ℕ) (lines : List (List ℕ)) (f : FileRead)
-    → lineAfter i line dirs .taken .outcome ≡ Accepted
-    → ReadEnding (lineAfter i line dirs .taken .intake) (suc n) (lineAfter i line dirs .dirs) lines f
-    → ReadEnding i n dirs (line ∷ lines) f
-one-more i n dirs line lines f e (at-line before after bad j d number parts t r is) =
-    at-line (line ∷ before) after bad j d number (ap (λ (x : List (List ℕ)). line ∷ x) parts) (takes-line line e t) r
+one-more : (i : Intake) (n : ℕ) (T : LentSheet) (line : List ℕ) (lines : List (List ℕ)) (f : FileRead)
+    → lineAfter i line T .taken .outcome ≡ Accepted
+    → ReadEnding (lineAfter i line T .taken .intake) (suc n) (lineAfter i line T .lent) lines f
+    → ReadEnding i n T (line ∷ lines) f
+one-more i n T line lines f e (at-line before after bad j U number parts t r is) =
+    at-line (line ∷ before) after bad j U number (ap (λ (x : List (List ℕ)). line ∷ x) parts) (takes-line line e t) r
     (is ∙ later number n (suc (length before)))
-one-more i n dirs line lines f e (at-end j d number t r is) =
-    at-end j d number (takes-line line e t) r (is ∙ later number n (suc (length lines)))
-one-more i n dirs line lines f e (ended j d t r is) = ended j d (takes-line line e t) r is
+one-more i n T line lines f e (at-end j U number t r is) =
+    at-end j U number (takes-line line e t) r (is ∙ later number n (suc (length lines)))
+one-more i n T line lines f e (ended j U t r is) = ended j U (takes-line line e t) r is
 
-at-end-ending : (i : Intake) (n : ℕ) (dirs : List ℕ) (o : TakenOutcome) → endTaken i .outcome ≡ o
-    → ReadEnding i n dirs [] (readFrom i n dirs [])
+at-end-ending : (i : Intake) (n : ℕ) (T : LentSheet) (o : TakenOutcome) → endTaken i .outcome ≡ o
+    → ReadEnding i n T [] (readFrom i n T [])
 unfolding readFrom endAfter
-at-end-ending i n dirs Accepted e = ended i dirs takes-none e (rw e)
-at-end-ending i n dirs (RefusedBy number) e =
-    at-end i dirs number takes-none e (rw e (ap (Refused number) (omega arith)))
+at-end-ending i n T Accepted e = ended i T takes-none e (rw e)
+at-end-ending i n T (RefusedBy number) e =
+    at-end i T number takes-none e (rw e (ap (Refused number) (omega arith)))
 
-at-line-ending : (i : Intake) (n : ℕ) (dirs line : List ℕ) (lines : List (List ℕ)) (o : TakenOutcome)
-    → lineAfter i line dirs .taken .outcome ≡ o
-    → ReadEnding (lineAfter i line dirs .taken .intake) (suc n) (lineAfter i line dirs .dirs) lines
-    (readFrom (lineAfter i line dirs .taken .intake) (suc n) (lineAfter i line dirs .dirs) lines)
-    → ReadEnding i n dirs (line ∷ lines) (readFrom i n dirs (line ∷ lines))
+at-line-ending : (i : Intake) (n : ℕ) (T : LentSheet) (line : List ℕ) (lines : List (List ℕ)) (o : TakenOutcome)
+    → lineAfter i line T .taken .outcome ≡ o
+    → ReadEnding (lineAfter i line T .taken .intake) (suc n) (lineAfter i line T .lent) lines
+    (readFrom (lineAfter i line T .taken .intake) (suc n) (lineAfter i line T .lent) lines)
+    → ReadEnding i n T (line ∷ lines) (readFrom i n T (line ∷ lines))
 unfolding readFrom
-at-line-ending i n dirs line lines Accepted e rest = rw e (one-more i n dirs line lines _ e rest)
-at-line-ending i n dirs line lines (RefusedBy number) e rest =
-    at-line [] lines line i dirs number refl takes-none e (rw e (ap (Refused number) (omega arith)))
+at-line-ending i n T line lines Accepted e rest = rw e (one-more i n T line lines _ e rest)
+at-line-ending i n T line lines (RefusedBy number) e rest =
+    at-line [] lines line i T number refl takes-none e (rw e (ap (Refused number) (omega arith)))
 
-pub read-ending : (lines : List (List ℕ)) (i : Intake) (n : ℕ) (dirs : List ℕ)
-    → ReadEnding i n dirs lines (readFrom i n dirs lines)
-read-ending [] i n dirs = at-end-ending i n dirs (endTaken i .outcome) refl
-read-ending (line ∷ lines) i n dirs =
-    at-line-ending i n dirs line lines (lineAfter i line dirs .taken .outcome) refl
-    (read-ending lines (lineAfter i line dirs .taken .intake) (suc n) (lineAfter i line dirs .dirs))
+pub read-ending : (lines : List (List ℕ)) (i : Intake) (n : ℕ) (T : LentSheet)
+    → ReadEnding i n T lines (readFrom i n T lines)
+read-ending [] i n T = at-end-ending i n T (endTaken i .outcome) refl
+read-ending (line ∷ lines) i n T =
+    at-line-ending i n T line lines (lineAfter i line T .taken .outcome) refl
+    (read-ending lines (lineAfter i line T .taken .intake) (suc n) (lineAfter i line T .lent))
 
 -- ---- the verdict
 
@@ -83,58 +84,61 @@ end-accepted : (s : Stage) → endIn s .outcome ≡ Accepted → (z : Sizes) × 
 unfolding endIn
 end-accepted WaitingForSizeNames e = let z : _≡_ {A = ℕ} 0 1 = cc in absurd (omega arith)
 end-accepted (WaitingForSizes c) e = let z : _≡_ {A = ℕ} 0 1 = cc in absurd (omega arith)
+end-accepted (WaitingForWeightOrCellNames z) e = let y : _≡_ {A = ℕ} 0 1 = cc in absurd (omega arith)
+end-accepted (WaitingForWeight z row) e = let y : _≡_ {A = ℕ} 0 1 = cc in absurd (omega arith)
 end-accepted (WaitingForCellNames z) e = let y : _≡_ {A = ℕ} 0 1 = cc in absurd (omega arith)
 end-accepted (TakingCells z c) e = (z, refl)
 end-accepted (AtEnd z) e = let y : _≡_ {A = ℕ} 0 1 = cc in absurd (omega arith)
 
-module _ (dirs : List ℕ) (L : Lent) (bytes : List ℕ) where
-  sheet-ending : {z : Sizes} (file : FileEnded dirs bytes z) (o : LabelOutcome)
-      → outcome (sheet (z .rows) (z .cols) (z .depth) (file .lines .held)) L ≡ o → Ending dirs L bytes
+module _ (T : LentSheet) (L : Lent) (bytes : List ℕ) where
+  sheet-ending : {z : Sizes} (file : FileEnded T bytes z) (o : LabelOutcome)
+      → outcome (sheetOf z (file .lines .held)) L ≡ o → Ending T L bytes
       (sheetVerdict z o)
   unfolding sheetVerdict
   sheet-ending {z} file Passed e = labelled (record { file = file; accepted = e })
   sheet-ending {z} file (NotLabelled number place) e =
       sheet-refused (record { sizes = z; file = file; refused = e; number-is = file-number file L number place e .0 })
 
-  module _ (i : Intake) (d : List ℕ) (takes : Takes newIntake dirs (linesOf bytes) i d) where
-    ended-ending : endTaken i .outcome ≡ Accepted → Ending dirs L bytes (verdictOf (Ended (endTaken i .intake)) d L)
+  module _ (i : Intake) (U : LentSheet) (takes : Takes newIntake T (linesOf bytes) i U) where
+    ended-ending : endTaken i .outcome ≡ Accepted → Ending T L bytes (verdictOf (Ended (endTaken i .intake)) U L)
     unfolding endTaken verdictOf
     ended-ending e =
         let a = end-accepted (i .stage) e in
         let z : Sizes = a .0 in
-        let file : FileEnded dirs bytes z = record { lines = record { intake = i; held = d; takes = takes }; ended = a .1 } in
-        rw (a .1) (sheet-ending file (outcome (sheet (z .rows) (z .cols) (z .depth) d) L) refl)
+        let lines : LinesTaken T bytes = record { intake = i; held = U; takes = takes } in
+        let file : FileEnded T bytes z = record { lines = lines; ended = a .1 } in
+        rw (a .1) (sheet-ending file (outcome (sheetOf z U) L) refl)
 
-  from-reading : (f : FileRead) → ReadEnding newIntake 0 dirs (linesOf bytes) f
-      → Ending dirs L bytes (verdictOf (f .read) (f .dirs) L)
+  from-reading : (f : FileRead) → ReadEnding newIntake 0 T (linesOf bytes) f
+      → Ending T L bytes (verdictOf (f .read) (f .lent) L)
   unfolding verdictOf
-  from-reading f (at-line before after line j d number parts t r is) =
+  from-reading f (at-line before after line j U number parts t r is) =
       rw is
       (line-refused {place = 0 + suc (length before)} (record {
         before = before;
         line = line;
         after = after;
         intake = j;
-        held = d;
+        held = U;
         lines = parts;
         takes = t;
         refused = r;
-        number-is = line-number j line d number (takes-on t tt) r;
+        number-is = line-number j line U number (takes-on t tt) r;
         place-is = omega arith;
       }))
-  from-reading f (at-end j d number t r is) =
+  from-reading f (at-end j U number t r is) =
       rw is
       (end-refused {place = 0 + suc (length (linesOf bytes))} (record {
-        lines = record { intake = j; held = d; takes = t };
+        lines = record { intake = j; held = U; takes = t };
         refused = r;
         number-is = end-number j number (takes-on t tt) r;
         place-is = omega arith;
       }))
-  from-reading f (ended j d t r is) = rw is (ended-ending j d t r)
+  from-reading f (ended j U t r is) = rw is (ended-ending j U t r)
 
-  pub file-ending : Ending dirs L bytes (fileVerdict dirs L bytes)
+  pub file-ending : Ending T L bytes (fileVerdict T L bytes)
   unfolding fileVerdict readFile
-  file-ending = from-reading (readFrom newIntake 0 dirs (linesOf bytes)) (read-ending (linesOf bytes) newIntake 0 dirs)
+  file-ending = from-reading (readFrom newIntake 0 T (linesOf bytes)) (read-ending (linesOf bytes) newIntake 0 T)
 
 -- a listing is no refusal: the second byte tells
 pub listing-no-refusal : (G : Grid) (areas labels : List ℕ) (number place : ℕ)

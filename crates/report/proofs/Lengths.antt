@@ -12,21 +12,20 @@ use Rattle.sheet.specs.Sheet.{Sheet, cells, inside}
 use Rattle.sheet.specs.Area.{area}
 use Rattle.sheet.specs.Label.{areasOf, labelOf, labelDigits, labelsOf}
 use Rattle.sheet.specs.Refusal.{Lent, written, outcome}
-use Rattle.sheet.proofs.Cells.{cells-most}
 use Rattle.sheet.proofs.Digits.{number-bound}
 use Rattle.intake.specs.declared.Intake.{Intake}
-use Rattle.intake.proofs.Laws.{line-length}
-use Rattle.claims.proofs.Counts.{count-le}
-use Rattle.claims.proofs.GridLaws.{area-most-cells}
+use Rattle.intake.specs.Intake.{LentSheet}
+use Rattle.intake.proofs.Laws.{line-long}
+use Rattle.claims.proofs.Theorems.{area-bounds}
 use Rattle.claims.proofs.Sheets.{accepted-passed}
 use Rattle.sheet.proofs.Lists.{length-list, written-at}
 use Rattle.claims.proofs.Written.{one-to-nine, at-most-depth}
 use Rattle.lines.specs.Fields.{longer}
-use Rattle.listing.specs.Listing.{listingText, refusalText}
+use Rattle.listing.specs.Listing.{listingText}
 use Rattle.listing.specs.Writing.{textInto, accepted}
 use Rattle.sheet.proofs.Within.{rows-cols-most, depth-most}
 use Rattle.listing.proofs.Answers.{text-into}
-use Rattle.listing.proofs.Lengths.{refusal-most, listing-written, listing-most-18-digits}
+use Rattle.listing.proofs.Lengths.{refusal-most, Bounded, listing-written, listing-most}
 use Rattle.reading.specs.Lines.{linesOf}
 use Rattle.reading.specs.Feed.{largestCount}
 use Rattle.report.specs.declared.Verdict.{Verdict}
@@ -55,20 +54,21 @@ lines-most (b ∷ s) = go (eqb b 10) refl (lines-most s)
     go true e h = rw e (omega arith)
     go false e h = rw e (omega (arith, longer-length b (linesOf s)))
 
-takes-length : {i j : Intake} {dirs d : List ℕ} {lines : List (List ℕ)} → Takes i dirs lines j d
-    → length d ≡ length dirs
+takes-length : {i j : Intake} {T U : LentSheet} {lines : List (List ℕ)} → Takes i T lines j U
+    → length (U .dirs) ≡ length (T .dirs)
 takes-length takes-none = refl
-takes-length (takes-line {i} {j} {dirs} line e t) = takes-length t ∙ line-length i line dirs
+takes-length (takes-line {i} {j} {T} line e t) = takes-length t ∙ line-long i line T .dirs-long
 
 -- ---- the listing of an accepted sheet
 
 module _ (S : Sheet) (L : Lent) (accepted : outcome S L ≡ Accepted) where
-  area-small : cells (S .grid) ≤ 65536 → (c : ℕ) → area S c ≤ 65536
+  -- an area has at most 8 digits
+  area-small : (c : ℕ) → area S c < 10 ^ 8
   unfolding area
-  area-small most c = go (inside (S .grid) c) refl
+  area-small c = go (inside (S .grid) c) refl
     where
-      go : (t : Bool) → inside (S .grid) c ≡ t → area S c ≤ 65536
-      go true e = omega (arith, area-most-cells S c e, count-le (cells (S .grid)) (inside (S .grid)))
+      go : (t : Bool) → inside (S .grid) c ≡ t → area S c < 10 ^ 8
+      go true e = let b = area-bounds S L accepted in omega (arith, b .most c e, b .most-of-all)
       go false e = rw e (omega arith)
 
   label-small : (c : ℕ) → labelOf S c < 10 ^ 18
@@ -89,33 +89,39 @@ module _ (S : Sheet) (L : Lent) (accepted : outcome S L ≡ Accepted) where
           ))
       go false e = rw e (omega arith)
 
-  pub listed-most : length (listingText (S .grid) (areasOf S) (labelsOf S)) ≤ 19 + cells (S .grid) * 33
+  pub listed-most : length (listingText (S .grid) (areasOf S) (labelsOf S)) ≤ 19 + cells (S .grid) * 36
   unfolding areasOf labelsOf
   listed-most =
       let n = cells (S .grid) in
       let most = rows-cols-most (S .grid .rows) (S .grid .cols) (accepted-passed S L accepted .sizes) in
+      let bounded : Bounded (S .grid) (written (areasOf S) []) (written (labelsOf S) []) 8 18 = record {
+        rows-most = most .0;
+        cols-most = most .1;
+        area-digits = omega arith;
+        label-digits = omega arith;
+        areas-below = λ c l. rw (written-at (area S) n c [] l) (area-small c);
+        labels-below = λ c l. rw (written-at (labelOf S) n c [] l) (label-small c);
+      } in
       rw (← listing-written (S .grid) (areasOf S) (labelsOf S) [] [] (length-list (area S) 0 n)
       (length-list (labelOf S) 0 n))
-      (listing-most-18-digits (S .grid) (written (areasOf S) []) (written (labelsOf S) []) (most .0) (most .1)
-      (λ c l. rw (written-at (area S) n c [] l) (area-small (cells-most (most .0) (most .1)) c))
-      (λ c l. rw (written-at (labelOf S) n c [] l) (label-small c)))
+      (listing-most (S .grid) (written (areasOf S) []) (written (labelsOf S) []) bounded)
 
 -- ---- the report
 
-small : (numbers : List ℕ) → AllOf (λ n. n ≤ 15) numbers → (number : ℕ) → oneOf numbers number ≡ true → number ≤ 15
-small = one-of (λ n. n ≤ 15)
+small : (numbers : List ℕ) → AllOf (λ n. n ≤ 17) numbers → (number : ℕ) → oneOf numbers number ≡ true → number ≤ 17
+small = one-of (λ n. n ≤ 17)
 
-module _ (dirs : List ℕ) (L : Lent) (bytes : List ℕ) (few : length bytes < largestCount) where
+module _ (T : LentSheet) (L : Lent) (bytes : List ℕ) (few : length bytes < largestCount) where
   -- a refusal's number and place are small, and a labelled sheet has a direction byte lent for each cell
   abbrev Small : Verdict → Type 0
-  Small (Refused number place) = (number ≤ 15) × (place < 2 ^ 64)
-  Small (Labelled z) = z .rows * z .cols ≤ length dirs
+  Small (Refused number place) = (number ≤ 17) × (place < 2 ^ 64)
+  Small (Labelled z) = z .rows * z .cols ≤ length (T .dirs)
 
-  ending-small : {v : Verdict} → Ending dirs L bytes v → Small v
+  ending-small : {v : Verdict} → Ending T L bytes v → Small v
   ending-small (line-refused {number} {place} r) = (
     small lineNumbers (
       omega arith,
-      (omega arith, (omega arith, (omega arith, (omega arith, (omega arith, (omega arith, tt)))))),
+      (omega arith, (omega arith, (omega arith, (omega arith, (omega arith, (omega arith, (omega arith, tt))))))),
     ) number (r .number-is),
     omega (arith, r .place-is, lines-most bytes, ap length (r .lines) ∙ length-append (r .before) (r .line ∷ r .after)),
   )
@@ -130,25 +136,25 @@ module _ (dirs : List ℕ) (L : Lent) (bytes : List ℕ) (few : length bytes < l
     ) number (r .number-is),
     omega (arith, file-number (r .file) L number place (r .refused) .1),
   )
-  ending-small (labelled {z} r) = omega (arith, file-fits (r .file) .lent-enough, takes-length (r .file .lines .takes))
+  ending-small (labelled {z} r) = omega (arith, file-fits (r .file) .dirs-enough, takes-length (r .file .lines .takes))
 
-  module _ (most : ℕ) (refusal : 39 ≤ most) (listing : 19 + length dirs * 33 ≤ most) where
-    verdict-most : (v : Verdict) → fileVerdict dirs L bytes ≡ v → Small v → length (report dirs L bytes) ≤ most
+  module _ (most : ℕ) (refusal : 39 ≤ most) (listing : 19 + length (T .dirs) * 36 ≤ most) where
+    verdict-most : (v : Verdict) → fileVerdict T L bytes ≡ v → Small v → length (report T L bytes) ≤ most
     verdict-most (Refused number place) e s =
-        rw (file-refused dirs L bytes number place e) (omega (
+        rw (file-refused T L bytes number place e) (omega (
           arith,
           refusal-most number place (omega (arith, s .0)) (s .1),
         ))
     verdict-most (Labelled z) e s =
-        rw (file-listed dirs L bytes z e)
-        (omega (arith, listed-most (fileSheet dirs bytes z) L (file-accepted dirs L bytes z e), mul-le-mul-right 33 s))
+        rw (file-listed T L bytes z e)
+        (omega (arith, listed-most (fileSheet T bytes z) L (file-accepted T L bytes z e), mul-le-mul-right 36 s))
 
-    pub report-most : length (report dirs L bytes) ≤ most
-    report-most = verdict-most (fileVerdict dirs L bytes) refl (ending-small (file-ending dirs L bytes))
+    pub report-most : length (report T L bytes) ≤ most
+    report-most = verdict-most (fileVerdict T L bytes) refl (ending-small (file-ending T L bytes))
 
--- the program lends 2,048 direction bytes and a buffer of 19 + 2,048 × 33 bytes: no report is longer
-pub program-report : (dirs : List ℕ) (L : Lent) (bytes buffer : List ℕ) → length bytes < largestCount
-    → length dirs ≡ programCells → length buffer ≡ programBytes
-    → textInto (report dirs L bytes) buffer ≡ accepted (report dirs L bytes) buffer
-program-report dirs L bytes buffer few lent room =
-    text-into (report dirs L bytes) buffer (rw room (report-most dirs L bytes few 67603 (omega arith) (omega arith)))
+-- the program lends 2,048 direction bytes and a buffer of 19 + 2,048 × 36 bytes: no report is longer
+pub program-report : (T : LentSheet) (L : Lent) (bytes buffer : List ℕ) → length bytes < largestCount
+    → length (T .dirs) ≡ programCells → length buffer ≡ programBytes
+    → textInto (report T L bytes) buffer ≡ accepted (report T L bytes) buffer
+program-report T L bytes buffer few lent room =
+    text-into (report T L bytes) buffer (rw room (report-most T L bytes few programBytes (omega arith) (omega arith)))

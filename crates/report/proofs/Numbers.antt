@@ -2,44 +2,50 @@
 use mathlib.Core.Path.{_≡_, refl, ap}
 use mathlib.Core.Bool.{Bool, true, false, cond, false≢true}
 use mathlib.Core.List.{List, [], _∷_}
-use Prim.Native.Nat.{ℕ, suc, _<_, _≤_}
+use Prim.Native.Nat.{ℕ, zero, suc, _+_, _<_, _≤_}
 use native.Mathlib.Omega.{arith}
 use borrow.Author.Tests.{eqb-true, le-leb}
-use lib.Dec.{eqb, leb}
+use lib.Dec.{eqb, ltb}
 use lib.ListN.{length, getD}
 use Rattle.sheet.specs.declared.Found.{Found}
 use Rattle.sheet.specs.declared.Found.the-variants.{At, Nothing}
 use Rattle.sheet.specs.declared.Outcome.{Outcome as LabelOutcome}
 use Rattle.sheet.specs.declared.Outcome.the-variants.{Accepted as Labelled, Refused as NotLabelled}
-use Rattle.sheet.specs.Direction.{isCode, cellNumber}
 use Rattle.sheet.specs.Sheet.{Grid, Sheet, cells, inside, first}
 use Rattle.sheet.specs.Refusal.{Lent, badCode, undrained, outletFrom, firstAfter, secondOutlet, refusedAt}
-use Rattle.sheet.specs.Refusal.{refusedIfNone, sizesFit, depthFits, slicesFit, outcomeOn, outcome}
+use Rattle.sheet.specs.Refusal.{refusedIfNone, sizesFit, depthFits, slicesFit, weightsFit, outcomeOn}
+use Rattle.sheet.specs.Refusal.{outcomeFrom17, outcome}
 use Rattle.sheet.proofs.First.{at-first}
 use Rattle.sheet.proofs.Cells.{cells-most}
+use Rattle.sheet.proofs.Weights.{all-fit}
 use Rattle.names.specs.declared.NamesLine.{NamesLine}
 use Rattle.names.specs.declared.NamesLine.the-variants.{Columns as Named, Bad as BadNames}
 use Rattle.lines.specs.declared.columns.Columns.{Columns}
 use Rattle.lines.specs.declared.values.ValuesLine.{ValuesLine}
 use Rattle.lines.specs.declared.values.ValuesLine.the-variants.{Values as Valued, Bad as BadValues}
-use Rattle.names.specs.Columns.{sizeColumns, cellColumns}
+use Rattle.names.specs.Columns.{sizeColumns, weightColumns, cellColumns}
 use Rattle.names.specs.Names.{namesLine}
+use Rattle.lines.specs.Columns.{columnCount, weightCount}
 use Rattle.lines.specs.Values.{valuesLine}
 use Rattle.intake.specs.declared.Sizes.{Sizes}
 use Rattle.intake.specs.declared.Cell.{Cell}
 use Rattle.intake.specs.declared.Stage.{Stage}
-use Rattle.intake.specs.declared.Stage.the-variants.{WaitingForSizeNames, WaitingForSizes, WaitingForCellNames}
-use Rattle.intake.specs.declared.Stage.the-variants.{TakingCells, Ended}
+use Rattle.intake.specs.declared.Stage.the-variants.{WaitingForSizeNames, WaitingForSizes}
+use Rattle.intake.specs.declared.Stage.the-variants.{WaitingForWeightOrCellNames, WaitingForWeight}
+use Rattle.intake.specs.declared.Stage.the-variants.{WaitingForCellNames, TakingCells, Ended}
 use Rattle.intake.specs.declared.Intake.{Intake}
 use Rattle.intake.specs.declared.Taken.{Taken}
 use Rattle.intake.specs.declared.TakenOutcome.{TakenOutcome}
 use Rattle.intake.specs.declared.TakenOutcome.the-variants.{Accepted, Refused}
-use Rattle.intake.specs.Faults.{sizesIn, cellIn, cellCount, onSheet, sizesFault, cellFault}
-use Rattle.intake.specs.Intake.{After, accept, refuse, unless, sizesWritten, cellWritten, onSizeNames, onSizes}
-use Rattle.intake.specs.Intake.{onCellNames, onCells, stateFault, lineIn, lineAfter, endIn, endTaken}
+use Rattle.intake.specs.Faults.{Test, firstFailing, sizesIn, cellIn, sizesTests, sizesFault, rowTests, rowFault}
+use Rattle.intake.specs.Faults.{weightTests, weightFault, cellTests, cellFault}
+use Rattle.intake.specs.Intake.{LentSheet, After, accept, refuse, unless, sizesWritten, weightWritten, cellWritten}
+use Rattle.intake.specs.Intake.{onSizeNames, onSizes, onCellNames, onWeightOrCellNames, afterWeights, onWeight}
+use Rattle.intake.specs.Intake.{onCells, stateFault, lineIn, lineAfter, endIn, endTaken}
 use Rattle.intake.proofs.FaultLaws.{Fits}
+use Rattle.intake.proofs.Weights.{reached-weights}
 use Rattle.intake.proofs.Laws.{Reached, at-start, by-line, by-end, Holds, ended, reached-sizes}
-use Rattle.labelling.specs.Labelling.{sheet}
+use Rattle.labelling.specs.FromIntake.{sheetOf}
 use Rattle.report.specs.Conditions.{oneOf, lineNumbers, endNumbers, sheetNumbers, Takes, takes-none, takes-line}
 use Rattle.report.specs.Conditions.{FileEnded}
 
@@ -66,36 +72,52 @@ one-of P (n ∷ numbers) all number e = go (eqb number n) refl e (λ later. one-
 abbrev Fault : ℕ → Type 0
 Fault fault = oneOf (0 ∷ lineNumbers) fault ≡ true
 
--- the first of three checks that fails
-checks-fault : (a b c : Bool) (x y z : ℕ) → Fault x → Fault y → Fault z → Fault (cond a (cond b (cond c 0 x) y) z)
-checks-fault true true true x y z hx hy hz = refl
-checks-fault true true false x y z hx hy hz = hx
-checks-fault true false c x y z hx hy hz = hy
-checks-fault false b c x y z hx hy hz = hz
+-- tests with such numbers
+abbrev Numbered : List Test → Type 0
+Numbered [] = Unit
+Numbered (t ∷ ts) = Fault (t .number) × Numbered ts
 
-sizes-fault : (z : Sizes) (lent : ℕ) → Fault (sizesFault z lent)
+tests-fault : (ts : List Test) → Numbered ts → Fault (firstFailing ts)
+unfolding firstFailing
+tests-fault [] n = refl
+tests-fault (t ∷ ts) n = go (t .passed) (tests-fault ts (n .1))
+  where
+    go : (b : Bool) → Fault (firstFailing ts) → Fault (cond b (firstFailing ts) (t .number))
+    go true later = later
+    go false later = n .0
+
+sizes-fault : (z : Sizes) (dirs weights : ℕ) → Fault (sizesFault z dirs weights)
 unfolding sizesFault
-sizes-fault z lent =
-    checks-fault (sizesFit (z .rows) (z .cols)) (depthFits (z .depth)) (leb (cellCount z) lent) 3 2 1 refl refl refl
+sizes-fault z dirs weights = tests-fault (sizesTests z dirs weights) (refl, (refl, (refl, tt)))
+
+row-fault : (z : Sizes) (row dirs weights : ℕ) → Fault (rowFault z row dirs weights)
+unfolding rowFault
+row-fault z row dirs weights = tests-fault (rowTests z row dirs weights) (refl, (refl, (refl, (refl, tt))))
+
+weight-fault : (weight : ℕ) → Fault (weightFault weight)
+unfolding weightFault
+weight-fault weight = tests-fault (weightTests weight) (refl, tt)
 
 cell-fault : (z : Sizes) (x : Cell) (dirs : List ℕ) → Fault (cellFault z x dirs)
 unfolding cellFault
-cell-fault z x dirs =
-    checks-fault (onSheet z x) (isCode (x .dir))
-    (eqb (getD dirs (cellNumber (z .cols) (x .row) (x .col)) 0) 0) 10 4 9 refl refl refl
+cell-fault z x dirs = tests-fault (cellTests z x dirs) (refl, (refl, (refl, tt)))
 
-state-fault : (s : Stage) (lent : ℕ) → Fault (stateFault s lent)
+state-fault : (s : Stage) (dirs weights : ℕ) → Fault (stateFault s dirs weights)
 unfolding stateFault
-state-fault WaitingForSizeNames lent = refl
-state-fault (WaitingForSizes c) lent = refl
-state-fault (WaitingForCellNames z) lent = sizes-fault z lent
-state-fault (TakingCells z c) lent = sizes-fault z lent
-state-fault (Ended z) lent = refl
+state-fault WaitingForSizeNames dirs weights = refl
+state-fault (WaitingForSizes c) dirs weights = refl
+state-fault (WaitingForWeightOrCellNames z) dirs weights = sizes-fault z dirs weights
+state-fault (WaitingForWeight z row) dirs weights = row-fault z row dirs weights
+state-fault (WaitingForCellNames z) dirs weights = sizes-fault z dirs weights
+state-fault (TakingCells z c) dirs weights = sizes-fault z dirs weights
+state-fault (Ended z) dirs weights = refl
 
 -- a stage before the end
 abbrev pub NotEnded : Stage → Type 0
 NotEnded WaitingForSizeNames = Unit
 NotEnded (WaitingForSizes c) = Unit
+NotEnded (WaitingForWeightOrCellNames z) = Unit
+NotEnded (WaitingForWeight z row) = Unit
 NotEnded (WaitingForCellNames z) = Unit
 NotEnded (TakingCells z c) = Unit
 NotEnded (Ended z) = ⊥
@@ -108,12 +130,12 @@ Going (Refused number) s = oneOf lineNumbers number ≡ true
 abbrev Fine : Taken → Type 0
 Fine t = Going (t .outcome) (t .intake .stage)
 
-unless-fine : (fault : ℕ) (s : Stage) (dirs : List ℕ) (next : After) → Fault fault → Fine (next .taken)
-    → Fine (unless fault s dirs next .taken)
+unless-fine : (fault : ℕ) (s : Stage) (T : LentSheet) (next : After) → Fault fault → Fine (next .taken)
+    → Fine (unless fault s T next .taken)
 unfolding unless
-unless-fine fault s dirs next h g = go (eqb fault 0) h
+unless-fine fault s T next h g = go (eqb fault 0) h
   where
-    go : (b : Bool) → cond b true (oneOf lineNumbers fault) ≡ true → Fine (cond b next (refuse s dirs fault) .taken)
+    go : (b : Bool) → cond b true (oneOf lineNumbers fault) ≡ true → Fine (cond b next (refuse s T fault) .taken)
     go true e = g
     go false e = e
 
@@ -122,60 +144,84 @@ unfolding onSizeNames
 on-size-names (Named c) = tt
 on-size-names BadNames = refl
 
-on-cell-names : (z : Sizes) (n : NamesLine) → Fine (onCellNames z n)
+on-cell-names : (s : Stage) (z : Sizes) (n : NamesLine) → Fine (onCellNames s z n)
 unfolding onCellNames
-on-cell-names z (Named c) = tt
-on-cell-names z BadNames = refl
+on-cell-names s z (Named c) = tt
+on-cell-names s z BadNames = refl
 
-on-sizes : (c : Columns) (v : ValuesLine) (dirs : List ℕ) → Fine (onSizes c v dirs .taken)
+on-weight-or-cell-names : (z : Sizes) (n cell-names : NamesLine) → Fine (onWeightOrCellNames z n cell-names)
+unfolding onWeightOrCellNames
+on-weight-or-cell-names z (Named c) cell-names = tt
+on-weight-or-cell-names z BadNames cell-names = on-cell-names (WaitingForWeightOrCellNames z) z cell-names
+
+on-sizes : (c : Columns) (v : ValuesLine) (T : LentSheet) → Fine (onSizes c v T .taken)
 unfolding onSizes
-on-sizes c (Valued v) dirs =
+on-sizes c (Valued v) T =
     let z : Sizes = sizesIn c v in
-    unless-fine (sizesFault z (length dirs)) (WaitingForSizes c) dirs
-    (accept (WaitingForCellNames z) (sizesWritten z dirs))
-    (sizes-fault z (length dirs)) tt
-on-sizes c BadValues dirs = refl
+    unless-fine (sizesFault z (length (T .dirs)) (length (T .weights))) (WaitingForSizes c) T
+    (accept (WaitingForWeightOrCellNames z) (sizesWritten z T)) (sizes-fault z _ _) tt
+on-sizes c BadValues T = refl
 
-on-cells : (z : Sizes) (c : Columns) (v : ValuesLine) (dirs : List ℕ) → Fine (onCells z c v dirs .taken)
+after-weights : (z : Sizes) (count : ℕ) → NotEnded (afterWeights z count)
+unfolding afterWeights
+after-weights z count = go (ltb count (z .rows))
+  where
+    go : (b : Bool) → NotEnded (cond b (WaitingForWeight z count) (WaitingForCellNames z))
+    go true = tt
+    go false = tt
+
+on-weight : (z : Sizes) (row : ℕ) (v : ValuesLine) (T : LentSheet) → Fine (onWeight z row v T .taken)
+unfolding onWeight
+on-weight z row (Valued v) T =
+    unless-fine (weightFault (v .first)) (WaitingForWeight z row) T
+    (accept (afterWeights z (row + 1)) (weightWritten row (v .first) T)) (weight-fault (v .first))
+    (after-weights z (row + 1))
+on-weight z row BadValues T = refl
+
+on-cells : (z : Sizes) (c : Columns) (v : ValuesLine) (T : LentSheet) → Fine (onCells z c v T .taken)
 unfolding onCells
-on-cells z c (Valued v) dirs =
+on-cells z c (Valued v) T =
     let x : Cell = cellIn c v in
-    unless-fine (cellFault z x dirs) (TakingCells z c) dirs (accept (TakingCells z c) (cellWritten z x dirs))
-    (cell-fault z x dirs) tt
-on-cells z c BadValues dirs = refl
+    unless-fine (cellFault z x (T .dirs)) (TakingCells z c) T (accept (TakingCells z c) (cellWritten z x T))
+    (cell-fault z x (T .dirs)) tt
+on-cells z c BadValues T = refl
 
-line-in-fine : (s : Stage) (line dirs : List ℕ) → NotEnded s → Fine (lineIn s line dirs .taken)
+line-in-fine : (s : Stage) (line : List ℕ) (T : LentSheet) → NotEnded s → Fine (lineIn s line T .taken)
 unfolding lineIn
-line-in-fine WaitingForSizeNames line dirs n = on-size-names (namesLine sizeColumns line)
-line-in-fine (WaitingForSizes c) line dirs n = on-sizes c (valuesLine line) dirs
-line-in-fine (WaitingForCellNames z) line dirs n = on-cell-names z (namesLine cellColumns line)
-line-in-fine (TakingCells z c) line dirs n = on-cells z c (valuesLine line) dirs
-line-in-fine (Ended z) line dirs n = absurd n
+line-in-fine WaitingForSizeNames line T n = on-size-names (namesLine sizeColumns line)
+line-in-fine (WaitingForSizes c) line T n = on-sizes c (valuesLine columnCount line) T
+line-in-fine (WaitingForWeightOrCellNames z) line T n =
+    on-weight-or-cell-names z (namesLine weightColumns line) (namesLine cellColumns line)
+line-in-fine (WaitingForWeight z row) line T n = on-weight z row (valuesLine weightCount line) T
+line-in-fine (WaitingForCellNames z) line T n =
+    on-cell-names (WaitingForCellNames z) z (namesLine cellColumns line)
+line-in-fine (TakingCells z c) line T n = on-cells z c (valuesLine columnCount line) T
+line-in-fine (Ended z) line T n = absurd n
 
-line-fine : (i : Intake) (line dirs : List ℕ) → NotEnded (i .stage) → Fine (lineAfter i line dirs .taken)
+line-fine : (i : Intake) (line : List ℕ) (T : LentSheet) → NotEnded (i .stage) → Fine (lineAfter i line T .taken)
 unfolding lineAfter
-line-fine i line dirs n =
-    unless-fine (stateFault (i .stage) (length dirs)) (i .stage) dirs (lineIn (i .stage) line dirs)
-    (state-fault (i .stage) (length dirs)) (line-in-fine (i .stage) line dirs n)
+line-fine i line T n =
+    unless-fine (stateFault (i .stage) (length (T .dirs)) (length (T .weights))) (i .stage) T
+    (lineIn (i .stage) line T) (state-fault (i .stage) _ _) (line-in-fine (i .stage) line T n)
 
-pub line-number : (i : Intake) (line dirs : List ℕ) (number : ℕ) → NotEnded (i .stage)
-    → lineAfter i line dirs .taken .outcome ≡ Refused number → oneOf lineNumbers number ≡ true
-line-number i line dirs number n e = rw e at (line-fine i line dirs n)
+pub line-number : (i : Intake) (line : List ℕ) (T : LentSheet) (number : ℕ) → NotEnded (i .stage)
+    → lineAfter i line T .taken .outcome ≡ Refused number → oneOf lineNumbers number ≡ true
+line-number i line T number n e = rw e at (line-fine i line T n)
 
-line-on : (i : Intake) (line dirs : List ℕ) → NotEnded (i .stage) → lineAfter i line dirs .taken .outcome ≡ Accepted
-    → NotEnded (lineAfter i line dirs .taken .intake .stage)
-line-on i line dirs n e = rw e at (line-fine i line dirs n)
+line-on : (i : Intake) (line : List ℕ) (T : LentSheet) → NotEnded (i .stage)
+    → lineAfter i line T .taken .outcome ≡ Accepted → NotEnded (lineAfter i line T .taken .intake .stage)
+line-on i line T n e = rw e at (line-fine i line T n)
 
 -- accepted lines do not end the intake, and reach its state
-pub takes-on : {i j : Intake} {dirs d : List ℕ} {lines : List (List ℕ)} → Takes i dirs lines j d → NotEnded (i .stage)
+pub takes-on : {i j : Intake} {T U : LentSheet} {lines : List (List ℕ)} → Takes i T lines j U → NotEnded (i .stage)
     → NotEnded (j .stage)
 takes-on takes-none n = n
-takes-on (takes-line {i} {j} {dirs} line e t) n = takes-on t (line-on i line dirs n e)
+takes-on (takes-line {i} {j} {T} line e t) n = takes-on t (line-on i line T n e)
 
-pub takes-reached : {i j : Intake} {dirs d : List ℕ} {lines : List (List ℕ)} → Takes i dirs lines j d → Reached i dirs
-    → Reached j d
+pub takes-reached : {i j : Intake} {T U : LentSheet} {lines : List (List ℕ)} → Takes i T lines j U → Reached i T
+    → Reached j U
 takes-reached takes-none r = r
-takes-reached (takes-line {i} {j} {dirs} line e t) r = takes-reached t (by-line r line e)
+takes-reached (takes-line {i} {j} {T} line e t) r = takes-reached t (by-line r line e)
 
 -- ---- the end's
 
@@ -187,6 +233,8 @@ end-in-fine : (s : Stage) → NotEnded s → EndFine (endIn s .outcome)
 unfolding endIn
 end-in-fine WaitingForSizeNames n = refl
 end-in-fine (WaitingForSizes c) n = refl
+end-in-fine (WaitingForWeightOrCellNames z) n = refl
+end-in-fine (WaitingForWeight z row) n = refl
 end-in-fine (WaitingForCellNames z) n = refl
 end-in-fine (TakingCells z c) n = tt
 end-in-fine (Ended z) n = absurd n
@@ -237,7 +285,8 @@ outcome-on-fine G =
     refused-at 4 (cells G) (first (badCode G) (cells G)) _ refl (first-below (badCode G) (cells G))
     (refused-if-none 5 (cells G) (first (inside G) (cells G)) _ refl
     (refused-at 6 (cells G) (first (undrained G) (cells G)) _ refl (first-below (undrained G) (cells G))
-    (refused-at 7 (cells G) (secondOutlet G) Labelled refl (after-below (outletFrom G) (cells G) (first (outletFrom G 0) (cells G))) tt)))
+    (refused-at 7 (cells G) (secondOutlet G) Labelled refl
+    (after-below (outletFrom G) (cells G) (first (outletFrom G 0) (cells G))) tt)))
 
 sheet-widened : (n m : ℕ) (o : LabelOutcome) → n ≤ m → SheetFine n o → SheetFine m o
 sheet-widened n m Labelled h s = tt
@@ -247,10 +296,10 @@ sheet-or : (b : Bool) (x y : LabelOutcome) → SheetFine 65536 x → SheetFine 6
 sheet-or true x y hx hy = hx
 sheet-or false x y hx hy = hy
 
--- sizes within document 01's bounds pass the first two checks
+-- sizes within document 01's bounds pass the first two checks, and weights from 1 to 1000 pass 17
 module _ (S : Sheet) (L : Lent) (rows-some : 1 ≤ S .grid .rows) (rows-most : S .grid .rows ≤ 256)
     (cols-some : 1 ≤ S .grid .cols) (cols-most : S .grid .cols ≤ 256) (depth-some : 1 ≤ S .depth)
-    (depth-most : S .depth ≤ 18) where
+    (depth-most : S .depth ≤ 18) (weights-fit : weightsFit (S .grid .rows) (S .weights) ≡ true) where
   sizes-passed : sizesFit (S .grid .rows) (S .grid .cols) ≡ true
   unfolding sizesFit
   sizes-passed =
@@ -265,11 +314,15 @@ module _ (S : Sheet) (L : Lent) (rows-some : 1 ≤ S .grid .rows) (rows-most : S
   unfolding depthFits
   depth-passed = rw (le-leb 1 (S .depth) depth-some, le-leb (S .depth) 18 depth-most)
 
+  outcome-from-17 : outcomeFrom17 S ≡ outcomeOn (S .grid)
+  unfolding outcomeFrom17
+  outcome-from-17 = rw weights-fit
+
   outcome-fine : SheetFine 65536 (outcome S L)
   unfolding outcome
   outcome-fine =
-      rw (sizes-passed, depth-passed)
-      (sheet-or (slicesFit (S .grid) L) (outcomeOn (S .grid)) (NotLabelled 3 0)
+      rw (sizes-passed, depth-passed, outcome-from-17)
+      (sheet-or (slicesFit S L) (outcomeOn (S .grid)) (NotLabelled 3 0)
       (sheet-widened (cells (S .grid)) 65536 (outcomeOn (S .grid)) (cells-most rows-most cols-most)
       (outcome-on-fine (S .grid)))
       (refl, omega arith))
@@ -278,18 +331,27 @@ module _ (S : Sheet) (L : Lent) (rows-some : 1 ≤ S .grid .rows) (rows-most : S
       → (oneOf sheetNumbers number ≡ true) × (place ≤ 65536)
   sheet-number number place e = rw e at outcome-fine
 
--- the sizes of a file whose lines and end are accepted are within document 01's bounds
-pub file-fits : {dirs bytes : List ℕ} {z : Sizes} (file : FileEnded dirs bytes z) → Fits z (length (file .lines .held))
-file-fits {dirs} {bytes} {z} file =
-    let holds : Holds (endTaken (file .lines .intake) .intake .stage) z = rw
-    (ap (λ (t : Taken). t .intake .stage) (file .ended)) ended in
-    reached-sizes
-    (by-end (takes-reached (file .lines .takes) (at-start dirs)) (ap (λ (t : Taken). t .outcome) (file .ended))) holds
+-- a file whose lines and end are accepted
+module _ {T : LentSheet} {bytes : List ℕ} {z : Sizes} (file : FileEnded T bytes z) where
+  reached : Reached (endTaken (file .lines .intake) .intake) (file .lines .held)
+  reached =
+      by-end (takes-reached (file .lines .takes) (at-start T)) (ap (λ (t : Taken). t .outcome) (file .ended))
 
-pub file-number : {dirs bytes : List ℕ} {z : Sizes} (file : FileEnded dirs bytes z) (L : Lent) (number place : ℕ)
-    → outcome (sheet (z .rows) (z .cols) (z .depth) (file .lines .held)) L ≡ NotLabelled number place
-    → (oneOf sheetNumbers number ≡ true) × (place ≤ 65536)
-file-number {dirs} {bytes} {z} file L number place e =
-    let f = file-fits file in
-    sheet-number (sheet (z .rows) (z .cols) (z .depth) (file .lines .held)) L (f .rows-some) (f .rows-most)
-    (f .cols-some) (f .cols-most) (f .depth-some) (f .depth-most) number place e
+  holds : Holds (endTaken (file .lines .intake) .intake .stage) z
+  holds = rw (ap (λ (t : Taken). t .intake .stage) (file .ended)) ended
+
+  -- its sizes are within document 01's bounds, and its weights from 1 to 1000
+  pub file-fits : Fits z (length (file .lines .held .dirs)) (length (file .lines .held .weights))
+  file-fits = reached-sizes reached holds
+
+  file-weights : weightsFit (z .rows) (file .lines .held .weights) ≡ true
+  file-weights = all-fit (z .rows) (file .lines .held .weights) (reached-weights reached holds)
+
+  -- so none of 1, 2 and 17 refuses its sheet
+  pub file-number : (L : Lent) (number place : ℕ)
+      → outcome (sheetOf z (file .lines .held)) L ≡ NotLabelled number place
+      → (oneOf sheetNumbers number ≡ true) × (place ≤ 65536)
+  file-number L number place e =
+      sheet-number (sheetOf z (file .lines .held)) L (file-fits .rows-some) (file-fits .rows-most)
+      (file-fits .cols-some) (file-fits .cols-most) (file-fits .depth-some) (file-fits .depth-most) file-weights
+      number place e

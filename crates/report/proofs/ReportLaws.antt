@@ -15,20 +15,19 @@ use Rattle.sheet.specs.Area.{area}
 use Rattle.sheet.specs.Refusal.{Lent, slicesFit, outcome, ifAccepted, lentAfter}
 use Rattle.sheet.proofs.Within.{both-true}
 use Rattle.intake.specs.declared.Sizes.{Sizes}
-use Rattle.intake.specs.Intake.{endedSizes}
+use Rattle.intake.specs.Intake.{LentSheet, endedSizes}
 use Rattle.claims.proofs.Sheets.{accepted-passed}
 use Rattle.sheet.proofs.Lists.{length-list}
-use Rattle.labelling.specs.Labelling.{sheet}
-use Rattle.labelling.specs.FromIntake.{lentWith, intakeLent}
+use Rattle.labelling.specs.FromIntake.{sheetOf, lentWith, intakeLent}
 use Rattle.listing.specs.declared.Listing.{Listing}
-use Rattle.listing.specs.Listing.{listingText, refusalText}
+use Rattle.listing.specs.Listing.{listingText}
 use Rattle.listing.specs.Writing.{listingValues, Listed, textInto, listingInto, refusalInto}
 use Rattle.listing.proofs.Answers.{listing-into}
 use Rattle.listing.proofs.Lengths.{listing-written}
 use Rattle.reading.specs.declared.Read.{Read}
 use Rattle.reading.specs.declared.Read.the-variants.{Refused as NotRead, Ended}
 use Rattle.report.specs.declared.Verdict.{Verdict}
-use Rattle.report.specs.declared.Verdict.the-variants.{Refused, Labelled}
+use Rattle.report.specs.declared.Verdict.the-variants.{Labelled}
 use Rattle.report.specs.Report.{sheetVerdict, sizesVerdict, verdictOf, readLent, reportText, verdictInto}
 use Rattle.report.specs.Report.{Reported, reportInto}
 use Rattle.report.specs.Demand.{sheetListing}
@@ -75,68 +74,68 @@ module _ (S : Sheet) (L : Lent) (accepted : outcome S L ≡ Accepted) where
 abbrev Told : Verdict → List ℕ → Lent → List ℕ → Type 0
 Told v dirs L buffer = verdictInto v dirs (L .areas) (L .labels) buffer ≡ textInto (reportText v dirs L) buffer
 
-sizes-told : (o : Option Sizes) (dirs : List ℕ) (L : Lent) (buffer : List ℕ)
-    → Told (sizesVerdict o dirs L) dirs (lentWith o dirs L) buffer
+sizes-told : (o : Option Sizes) (T : LentSheet) (L : Lent) (buffer : List ℕ)
+    → Told (sizesVerdict o T L) (T .dirs) (lentWith o T L) buffer
 unfolding sizesVerdict sheetVerdict lentWith verdictInto reportText refusalInto
-sizes-told none dirs L buffer = refl
-sizes-told (some z) dirs L buffer = go (outcome S L) refl
+sizes-told none T L buffer = refl
+sizes-told (some z) T L buffer = go (outcome S L) refl
   where
     S : Sheet
-    S = sheet (z .rows) (z .cols) (z .depth) dirs
+    S = sheetOf z T
 
-    go : (o : Outcome) → outcome S L ≡ o → Told (sheetVerdict z o) dirs (lentAfter S L) buffer
+    go : (o : Outcome) → outcome S L ≡ o → Told (sheetVerdict z o) (T .dirs) (lentAfter S L) buffer
     go Accepted e = sheet-into S L e buffer
     go (NotLabelled number place) e = refl
 
-read-told : (read : Read) (dirs : List ℕ) (L : Lent) (buffer : List ℕ)
-    → Told (verdictOf read dirs L) dirs (readLent read dirs L) buffer
+read-told : (read : Read) (T : LentSheet) (L : Lent) (buffer : List ℕ)
+    → Told (verdictOf read T L) (T .dirs) (readLent read T L) buffer
 unfolding verdictOf readLent intakeLent verdictInto reportText refusalInto
-read-told (NotRead number place) dirs L buffer = refl
-read-told (Ended i) dirs L buffer = sizes-told (endedSizes (i .stage)) dirs L buffer
+read-told (NotRead number place) T L buffer = refl
+read-told (Ended i) T L buffer = sizes-told (endedSizes (i .stage)) T L buffer
 
-module _ (read : Read) (dirs buffer : List ℕ) (L : Lent) where
+module _ (read : Read) (T : LentSheet) (buffer : List ℕ) (L : Lent) where
   -- what was written from a verdict and what is lent afterwards is the report
-  reported : {v : Verdict} {lent : Lent} {w : Listed} → v ≡ verdictOf read dirs L → lent ≡ readLent read dirs L
-      → w ≡ verdictInto v dirs (lent .areas) (lent .labels) buffer
+  reported : {v : Verdict} {lent : Lent} {w : Listed} → v ≡ verdictOf read T L → lent ≡ readLent read T L
+      → w ≡ verdictInto v (T .dirs) (lent .areas) (lent .labels) buffer
       → _≡_ {A = Reported} (record { answer = w .answer; buffer = w .buffer; lent = lent })
-      (reportInto read dirs L buffer)
+      (reportInto read T L buffer)
   unfolding reportInto
   reported {v} {lent} {w} ve le we =
-      let e : w ≡ textInto (reportText (verdictOf read dirs L) dirs (readLent read dirs L)) buffer =
+      let e : w ≡ textInto (reportText (verdictOf read T L) (T .dirs) (readLent read T L)) buffer =
       we
-      ∙ ap (λ (x : Verdict). verdictInto x dirs (lent .areas) (lent .labels) buffer) ve
-      ∙ ap (λ (x : Lent). verdictInto (verdictOf read dirs L) dirs (x .areas) (x .labels) buffer) le
-      ∙ read-told read dirs L buffer in
+      ∙ ap (λ (x : Verdict). verdictInto x (T .dirs) (lent .areas) (lent .labels) buffer) ve
+      ∙ ap (λ (x : Lent). verdictInto (verdictOf read T L) (T .dirs) (x .areas) (x .labels) buffer) le
+      ∙ read-told read T L buffer in
       λ k. record { answer = e k .answer; buffer = e k .buffer; lent = le k }
 
-  pub promises : {v : Verdict} {lent : Lent} {answer : Listing} {after : List ℕ} → v ≡ verdictOf read dirs L
-      → lent ≡ readLent read dirs L
-      → record { answer = answer; buffer = after } ≡ verdictInto v dirs (lent .areas) (lent .labels) buffer
-      → (_≡_ {A = Reported} (record { answer = answer; buffer = after; lent = lent }) (reportInto read dirs L buffer))
-      × (listingValues answer ≡ listingValues (reportInto read dirs L buffer .answer))
+  pub promises : {v : Verdict} {lent : Lent} {answer : Listing} {after : List ℕ} → v ≡ verdictOf read T L
+      → lent ≡ readLent read T L
+      → record { answer = answer; buffer = after } ≡ verdictInto v (T .dirs) (lent .areas) (lent .labels) buffer
+      → (_≡_ {A = Reported} (record { answer = answer; buffer = after; lent = lent }) (reportInto read T L buffer))
+      × (listingValues answer ≡ listingValues (reportInto read T L buffer .answer))
   promises ve le we =
       let e = reported ve le we in
       (e, ap (λ (r : Reported). listingValues (r .answer)) e)
 
 -- ---- the listing of a labelled file
 
-sizes-listed : (o : Option Sizes) (dirs : List ℕ) (L : Lent) (z : Sizes) → sizesVerdict o dirs L ≡ Labelled z
-    → reportText (Labelled z) dirs (lentWith o dirs L) ≡ sheetListing (sheet (z .rows) (z .cols) (z .depth) dirs)
+sizes-listed : (o : Option Sizes) (T : LentSheet) (L : Lent) (z : Sizes) → sizesVerdict o T L ≡ Labelled z
+    → reportText (Labelled z) (T .dirs) (lentWith o T L) ≡ sheetListing (sheetOf z T)
 unfolding sizesVerdict sheetVerdict lentWith reportText
-sizes-listed none dirs L z e = let y : _≡_ {A = ℕ} 0 1 = cc in absurd (omega arith)
-sizes-listed (some x) dirs L z e = go (outcome S L) refl e
+sizes-listed none T L z e = let y : _≡_ {A = ℕ} 0 1 = cc in absurd (omega arith)
+sizes-listed (some x) T L z e = go (outcome S L) refl e
   where
     S : Sheet
-    S = sheet (x .rows) (x .cols) (x .depth) dirs
+    S = sheetOf x T
 
     go : (o : Outcome) → outcome S L ≡ o → sheetVerdict x o ≡ Labelled z
-        → listingText (sheet (z .rows) (z .cols) (z .depth) dirs .grid) (lentAfter S L .areas) (lentAfter S L .labels)
-        ≡ sheetListing (sheet (z .rows) (z .cols) (z .depth) dirs)
+        → listingText (sheetOf z T .grid) (lentAfter S L .areas) (lentAfter S L .labels)
+        ≡ sheetListing (sheetOf z T)
     go Accepted a e = let same : x ≡ z = cc in rw (← same) (sheet-text S L a)
     go (NotLabelled number place) a e = let y : _≡_ {A = ℕ} 0 1 = cc in absurd (omega arith)
 
-pub read-listed : (read : Read) (dirs : List ℕ) (L : Lent) (z : Sizes) → verdictOf read dirs L ≡ Labelled z
-    → reportText (Labelled z) dirs (readLent read dirs L) ≡ sheetListing (sheet (z .rows) (z .cols) (z .depth) dirs)
+pub read-listed : (read : Read) (T : LentSheet) (L : Lent) (z : Sizes) → verdictOf read T L ≡ Labelled z
+    → reportText (Labelled z) (T .dirs) (readLent read T L) ≡ sheetListing (sheetOf z T)
 unfolding verdictOf readLent intakeLent
-read-listed (NotRead number place) dirs L z e = let y : _≡_ {A = ℕ} 0 1 = cc in absurd (omega arith)
-read-listed (Ended i) dirs L z e = sizes-listed (endedSizes (i .stage)) dirs L z e
+read-listed (NotRead number place) T L z e = let y : _≡_ {A = ℕ} 0 1 = cc in absurd (omega arith)
+read-listed (Ended i) T L z e = sizes-listed (endedSizes (i .stage)) T L z e

@@ -3,70 +3,72 @@
 use mathlib.Core.Path.{_≡_}
 use mathlib.Core.Bool.{true}
 use mathlib.Core.List.{List}
-use Prim.Native.Nat.{ℕ, _+_, _*_, _<_}
+use Prim.Native.Nat.{ℕ, _<_}
 use lib.ListN.{length}
 use Rattle.lines.specs.Fields.{lineBytes}
 use Rattle.sheet.specs.Sheet.{Grid, Sheet}
 use Rattle.sheet.specs.Label.{areasOf, labelsOf}
 use Rattle.sheet.specs.Refusal.{Lent}
 use Rattle.intake.specs.declared.Sizes.{Sizes}
-use Rattle.labelling.specs.Labelling.{sheet}
+use Rattle.intake.specs.Intake.{LentSheet}
+use Rattle.labelling.specs.FromIntake.{sheetOf}
 use Rattle.listing.specs.Listing.{listingText, refusalText}
 use Rattle.listing.specs.Writing.{textInto, accepted}
 use Rattle.reading.specs.Lines.{readFile}
 use Rattle.reading.specs.Feed.{largestCount}
 use Rattle.reading.specs.Pieces.{joined, readPieces}
 use Rattle.report.specs.declared.Verdict.the-variants.{Refused, Labelled}
-use Rattle.report.specs.Report.{fileVerdict, fileLent, report, Reported, reportedAs, reportInto}
+use Rattle.report.specs.Report.{fileVerdict, fileLent, report, reportedAs, reportInto}
 use Rattle.report.specs.Conditions.{oneOf, fileNumbers, Ending}
 
 -- a file that is refused with the number, where this is lent
 pub record RefusedWith (number : ℕ) : Type 0 where
-  pub dirs : List ℕ
+  pub sheet : LentSheet
   pub lent : Lent
   pub bytes : List ℕ
   pub place : ℕ
-  pub verdict : fileVerdict dirs lent bytes ≡ Refused number place
+  pub verdict : fileVerdict sheet lent bytes ≡ Refused number place
 
 -- which numbers a refusal of a file can have
 pub record FileRefusals : Type 0 where
-  pub only : (dirs : List ℕ) (L : Lent) (bytes : List ℕ) (number place : ℕ)
-      → fileVerdict dirs L bytes ≡ Refused number place → oneOf fileNumbers number ≡ true
+  pub only : (T : LentSheet) (L : Lent) (bytes : List ℕ) (number place : ℕ)
+      → fileVerdict T L bytes ≡ Refused number place → oneOf fileNumbers number ≡ true
   pub each : (number : ℕ) → oneOf fileNumbers number ≡ true → RefusedWith number
 
 -- the sheet that a file's lines leave, and its listing with the areas and labels of the definition
-abbrev pub fileSheet : List ℕ → List ℕ → Sizes → Sheet
-fileSheet dirs bytes z = sheet (z .rows) (z .cols) (z .depth) (readFile dirs bytes .dirs)
+abbrev pub fileSheet : LentSheet → List ℕ → Sizes → Sheet
+fileSheet T bytes z = sheetOf z (readFile T bytes .lent)
 
 abbrev pub sheetListing : Sheet → List ℕ
 sheetListing S = listingText (S .grid) (areasOf S) (labelsOf S)
 
--- what the program lends: 2,048 direction bytes, and a buffer for a heading and 33 bytes a cell
+-- what the program lends: 2,048 direction bytes, and a buffer for a heading and 36 bytes a cell, of which an area has
+-- up to 8
 abbrev pub programCells : ℕ
 programCells = 2048
 
 abbrev pub programBytes : ℕ
-programBytes = 67603
+programBytes = 73747
 
 pub record DemandOne : Type 0 where
   -- a file is labelled or refused, by document 01's conditions and in its order
-  pub ending : (dirs : List ℕ) (L : Lent) (bytes : List ℕ) → Ending dirs L bytes (fileVerdict dirs L bytes)
+  pub ending : (T : LentSheet) (L : Lent) (bytes : List ℕ) → Ending T L bytes (fileVerdict T L bytes)
   pub numbers : FileRefusals
   -- the report of a refused file is the two lines with its number and place
-  pub refused : (dirs : List ℕ) (L : Lent) (bytes : List ℕ) (number place : ℕ)
-      → fileVerdict dirs L bytes ≡ Refused number place → report dirs L bytes ≡ refusalText number place
+  pub refused : (T : LentSheet) (L : Lent) (bytes : List ℕ) (number place : ℕ)
+      → fileVerdict T L bytes ≡ Refused number place → report T L bytes ≡ refusalText number place
   -- the report of a labelled one is its full listing
-  pub listed : (dirs : List ℕ) (L : Lent) (bytes : List ℕ) (z : Sizes)
-      → fileVerdict dirs L bytes ≡ Labelled z → report dirs L bytes ≡ sheetListing (fileSheet dirs bytes z)
+  pub listed : (T : LentSheet) (L : Lent) (bytes : List ℕ) (z : Sizes)
+      → fileVerdict T L bytes ≡ Labelled z → report T L bytes ≡ sheetListing (fileSheet T bytes z)
   -- no text is both
   pub apart : (G : Grid) (areas labels : List ℕ) (number place : ℕ)
       → listingText G areas labels ≡ refusalText number place → ⊥
   -- the calls that read a file in chunks and write its report give that report, however the file is cut
-  pub in-pieces : (pieces : List (List ℕ)) (line dirs buffer : List ℕ) (L : Lent)
+  pub in-pieces : (pieces : List (List ℕ)) (line buffer : List ℕ) (T : LentSheet) (L : Lent)
       → length line ≡ lineBytes → length (joined pieces) < largestCount
-      → reportInto (readPieces line dirs pieces .read) (readPieces line dirs pieces .dirs) L buffer
-      ≡ reportedAs (report dirs L (joined pieces)) buffer (fileLent dirs L (joined pieces))
+      → reportInto (readPieces line T pieces .read) (readPieces line T pieces .lent) L buffer
+      ≡ reportedAs (report T L (joined pieces)) buffer (fileLent T L (joined pieces))
   -- the program's buffer is long enough for every file
-  pub fits : (dirs : List ℕ) (L : Lent) (bytes buffer : List ℕ)
-      → length bytes < largestCount → length dirs ≡ programCells → length buffer ≡ programBytes
-      → textInto (report dirs L bytes) buffer ≡ accepted (report dirs L bytes) buffer
+  pub fits : (T : LentSheet) (L : Lent) (bytes buffer : List ℕ)
+      → length bytes < largestCount → length (T .dirs) ≡ programCells → length buffer ≡ programBytes
+      → textInto (report T L bytes) buffer ≡ accepted (report T L bytes) buffer

@@ -7,9 +7,8 @@ use Rattle.sheet.specs.declared.Outcome.the-variants.{Accepted, Refused as NotL
 use Rattle.sheet.specs.Sheet.{grid}
 use Rattle.sheet.specs.Refusal.{Lent, outcome}
 use Rattle.intake.specs.declared.Sizes.{Sizes}
-use Rattle.intake.specs.Intake.{endedSizes}
-use Rattle.labelling.specs.Labelling.{sheet}
-use Rattle.labelling.specs.FromIntake.{intakeLent}
+use Rattle.intake.specs.Intake.{LentSheet, endedSizes}
+use Rattle.labelling.specs.FromIntake.{sheetOf, intakeLent}
 use Rattle.listing.specs.declared.Listing.{Listing}
 use Rattle.listing.specs.Listing.{listingText, refusalText}
 use Rattle.listing.specs.Writing.{Listed, textInto, listingInto, refusalInto}
@@ -39,22 +38,23 @@ unfoldable pub sheetVerdict : Sizes → Outcome → Verdict
 sheetVerdict z Accepted = Labelled z
 sheetVerdict z (NotLabelled number place) = Refused number place
 
--- 15 without sizes, which an intake has once it has ended; else by labelling a sheet of these sizes
-unfoldable pub sizesVerdict : Option Sizes → List ℕ → Lent → Verdict
+-- 15 without sizes, which an intake has once it has ended; else by labelling a sheet of these sizes, with the
+-- direction bytes and weights that were lent to the intake
+unfoldable pub sizesVerdict : Option Sizes → LentSheet → Lent → Verdict
 unfolding outcome sheetVerdict
-sizesVerdict none dirs L = Refused 15 0
-sizesVerdict (some z) dirs L = sheetVerdict z (outcome (sheet (z .rows) (z .cols) (z .depth) dirs) L)
+sizesVerdict none T L = Refused 15 0
+sizesVerdict (some z) T L = sheetVerdict z (outcome (sheetOf z T) L)
 
 -- the verdict on a file that was read, where this is lent to labelling
-unfoldable pub verdictOf : Read → List ℕ → Lent → Verdict
+unfoldable pub verdictOf : Read → LentSheet → Lent → Verdict
 unfolding sizesVerdict endedSizes
-verdictOf (NotRead number place) dirs L = Refused number place
-verdictOf (Ended i) dirs L = sizesVerdict (endedSizes (i .stage)) dirs L
+verdictOf (NotRead number place) T L = Refused number place
+verdictOf (Ended i) T L = sizesVerdict (endedSizes (i .stage)) T L
 
 -- what is lent to labelling, afterwards: with the areas and labels of a labelled sheet
-unfoldable pub readLent : Read → List ℕ → Lent → Lent
-readLent (NotRead number place) dirs L = L
-readLent (Ended i) dirs L = intakeLent i dirs L
+unfoldable pub readLent : Read → LentSheet → Lent → Lent
+readLent (NotRead number place) T L = L
+readLent (Ended i) T L = intakeLent i T L
 
 -- ---- its text
 
@@ -71,15 +71,15 @@ verdictInto (Labelled z) dirs areas labels buffer = listingInto (grid (z .rows) 
 -- ---- a file
 
 -- the verdict on a file with these bytes, what is lent afterwards, and its report
-unfoldable pub fileVerdict : List ℕ → Lent → List ℕ → Verdict
-fileVerdict dirs L bytes = let f : FileRead = readFile dirs bytes in verdictOf (f .read) (f .dirs) L
+unfoldable pub fileVerdict : LentSheet → Lent → List ℕ → Verdict
+fileVerdict T L bytes = let f : FileRead = readFile T bytes in verdictOf (f .read) (f .lent) L
 
-unfoldable pub fileLent : List ℕ → Lent → List ℕ → Lent
-fileLent dirs L bytes = let f : FileRead = readFile dirs bytes in readLent (f .read) (f .dirs) L
+unfoldable pub fileLent : LentSheet → Lent → List ℕ → Lent
+fileLent T L bytes = let f : FileRead = readFile T bytes in readLent (f .read) (f .lent) L
 
-unfoldable pub report : List ℕ → Lent → List ℕ → List ℕ
+unfoldable pub report : LentSheet → Lent → List ℕ → List ℕ
 unfolding fileVerdict fileLent
-report dirs L bytes = reportText (fileVerdict dirs L bytes) (readFile dirs bytes .dirs) (fileLent dirs L bytes)
+report T L bytes = reportText (fileVerdict T L bytes) (readFile T bytes .lent .dirs) (fileLent T L bytes)
 
 -- ---- the call that writes a report
 
@@ -93,7 +93,7 @@ abbrev pub reportedAs : List ℕ → List ℕ → Lent → Reported
 reportedAs text buffer L =
     record { answer = textInto text buffer .answer; buffer = textInto text buffer .buffer; lent = L }
 
-unfoldable pub reportInto : Read → List ℕ → Lent → List ℕ → Reported
-reportInto read dirs L buffer =
-    let after : Lent = readLent read dirs L in
-    reportedAs (reportText (verdictOf read dirs L) dirs after) buffer after
+unfoldable pub reportInto : Read → LentSheet → Lent → List ℕ → Reported
+reportInto read T L buffer =
+    let after : Lent = readLent read T L in
+    reportedAs (reportText (verdictOf read T L) (T .dirs) after) buffer after

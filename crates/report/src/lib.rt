@@ -1,7 +1,7 @@
 // The report of a file that was read: a verdict on it, and the text that tells it.
 ghost use mathlib.Core.Option.{some};
 ghost use mathlib.Core.Path.{_≡_};
-ghost use Rattle.intake.specs.Intake.{endedSizes};
+ghost use Rattle.intake.specs.Intake.{lentSheet, endedSizes};
 ghost use Rattle.labelling.specs.Labelling.{lent};
 ghost use Rattle.labelling.specs.FromIntake.{lentWith};
 ghost use Rattle.listing.specs.Writing.{listingValues};
@@ -27,14 +27,15 @@ pub enum Verdict {
 fn sheet_verdict(
     sizes: Sizes,
     dirs: &[u8],
+    weights: &[u16],
     areas: &mut [u32],
     labels: &mut [u64],
     work: &mut [u32],
 ) -> Verdict
-    ensures verdict { λ r. ⌜ r ≡ sizesVerdict (some sizes) (now (dirs .entry))
+    ensures verdict { λ r. ⌜ r ≡ sizesVerdict (some sizes) (lentSheet (now (dirs .entry)) (now (weights .entry)))
         (lent (now (areas .entry)) (now (labels .entry)) (now (work .entry))) ⌝ }
     ensures lent { λ _. ⌜ lent (now (areas .exit)) (now (labels .exit)) (now (work .exit))
-        ≡ lentWith (some sizes) (now (dirs .entry))
+        ≡ lentWith (some sizes) (lentSheet (now (dirs .entry)) (now (weights .entry)))
         (lent (now (areas .entry)) (now (labels .entry)) (now (work .entry))) ⌝ }
 {
     let outcome = label(
@@ -42,6 +43,7 @@ fn sheet_verdict(
         sizes.cols,
         sizes.depth,
         dirs,
+        weights,
         areas,
         labels,
         work,
@@ -56,22 +58,25 @@ fn sheet_verdict(
 fn stage_verdict(
     stage: Stage,
     dirs: &[u8],
+    weights: &[u16],
     areas: &mut [u32],
     labels: &mut [u64],
     work: &mut [u32],
 ) -> Verdict
-    ensures verdict { λ r. ⌜ r ≡ sizesVerdict (endedSizes stage) (now (dirs .entry))
+    ensures verdict { λ r. ⌜ r ≡ sizesVerdict (endedSizes stage) (lentSheet (now (dirs .entry)) (now (weights .entry)))
         (lent (now (areas .entry)) (now (labels .entry)) (now (work .entry))) ⌝ }
     ensures lent { λ _. ⌜ lent (now (areas .exit)) (now (labels .exit)) (now (work .exit))
-        ≡ lentWith (endedSizes stage) (now (dirs .entry))
+        ≡ lentWith (endedSizes stage) (lentSheet (now (dirs .entry)) (now (weights .entry)))
         (lent (now (areas .entry)) (now (labels .entry)) (now (work .entry))) ⌝ }
 {
     match stage {
         Stage::WaitingForSizeNames => Verdict::Refused(15, 0),
         Stage::WaitingForSizes(_) => Verdict::Refused(15, 0),
+        Stage::WaitingForWeightOrCellNames(_) => Verdict::Refused(15, 0),
+        Stage::WaitingForWeight(_, _) => Verdict::Refused(15, 0),
         Stage::WaitingForCellNames(_) => Verdict::Refused(15, 0),
         Stage::TakingCells(_, _) => Verdict::Refused(15, 0),
-        Stage::Ended(sizes) => sheet_verdict(sizes, dirs, areas, labels, work),
+        Stage::Ended(sizes) => sheet_verdict(sizes, dirs, weights, areas, labels, work),
     }
 }
 
@@ -79,23 +84,25 @@ fn stage_verdict(
 pub fn verdict_of(
     read: Read,
     dirs: &[u8],
+    weights: &[u16],
     areas: &mut [u32],
     labels: &mut [u64],
     work: &mut [u32],
 ) -> Verdict
-    ensures verdict { λ r. ⌜ r ≡ verdictOf read (now (dirs .entry))
+    ensures verdict { λ r. ⌜ r ≡ verdictOf read (lentSheet (now (dirs .entry)) (now (weights .entry)))
         (lent (now (areas .entry)) (now (labels .entry)) (now (work .entry))) ⌝ }
     ensures values { λ r. ⌜ verdictValues r
-        ≡ verdictValues (verdictOf read (now (dirs .entry))
+        ≡ verdictValues (verdictOf read (lentSheet (now (dirs .entry)) (now (weights .entry)))
         (lent (now (areas .entry)) (now (labels .entry)) (now (work .entry)))) ⌝ }
     ensures lent { λ _. ⌜ lent (now (areas .exit)) (now (labels .exit)) (now (work .exit))
-        ≡ readLent read (now (dirs .entry)) (lent (now (areas .entry)) (now (labels .entry)) (now (work .entry))) ⌝ }
+        ≡ readLent read (lentSheet (now (dirs .entry)) (now (weights .entry)))
+        (lent (now (areas .entry)) (now (labels .entry)) (now (work .entry))) ⌝ }
 {
     match read {
         Read::Refused(number, place) => Verdict::Refused(number, place),
         Read::Ended(intake) => {
             let stage = intake.stage;
-            stage_verdict(stage, dirs, areas, labels, work)
+            stage_verdict(stage, dirs, weights, areas, labels, work)
         }
     }
 }
@@ -121,6 +128,7 @@ fn write_verdict(
 pub fn write_report(
     read: Read,
     dirs: &[u8],
+    weights: &[u16],
     areas: &mut [u32],
     labels: &mut [u64],
     work: &mut [u32],
@@ -132,12 +140,12 @@ pub fn write_report(
       lent = lent (now (areas .exit))
           (now (labels .exit)) (now (work .exit));
     }
-        ≡ reportInto read (now (dirs .entry)) (lent (now (areas .entry)) (now (labels .entry)) (now (work .entry)))
-        (now (out .entry)) ⌝ }
+        ≡ reportInto read (lentSheet (now (dirs .entry)) (now (weights .entry)))
+        (lent (now (areas .entry)) (now (labels .entry)) (now (work .entry))) (now (out .entry)) ⌝ }
     ensures values { λ r. ⌜ listingValues r
-        ≡ listingValues (reportInto read (now (dirs .entry))
+        ≡ listingValues (reportInto read (lentSheet (now (dirs .entry)) (now (weights .entry)))
         (lent (now (areas .entry)) (now (labels .entry)) (now (work .entry))) (now (out .entry)) .answer) ⌝ }
 {
-    let verdict = verdict_of(read, dirs, areas, labels, work);
+    let verdict = verdict_of(read, dirs, weights, areas, labels, work);
     write_verdict(verdict, dirs, areas, labels, out)
 }

@@ -5,11 +5,11 @@ use mathlib.Core.List.{List, [], _∷_, map}
 use Prim.Native.Nat.{ℕ}
 use Rattle.sheet.specs.Sheet.{Sheet}
 use Rattle.sheet.specs.Label.{labelDigits, number}
-use Rattle.sheet.specs.Cases.{sampleA}
+use Rattle.sheet.specs.Cases.{sampleA, sheet}
 use Rattle.claims.specs.Dictionary.{isBefore}
 
 abbrev pub sampleSheet : Sheet
-sampleSheet = record { grid = sampleA; depth = 2 }
+sampleSheet = sheet sampleA 2
 
 -- each cell, then its donors from lightest to heaviest, each with all that drains to it
 abbrev pub sampleOrder : List ℕ

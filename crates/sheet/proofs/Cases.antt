@@ -1,6 +1,6 @@
 -- The worked cases hold of the definitions, by computation.
 use mathlib.Core.Path.{_≡_, refl}
-use Rattle.sheet.specs.Cases.{cases, listing, refusals, orders, traps, allComputed, allStated}
+use Rattle.sheet.specs.Cases.{cases, listing, refusals, orders, traps, weighted, allComputed, allStated}
 
 -- all cases marked * in document 01
 pub all-cases : allComputed cases ≡ allStated cases
@@ -22,3 +22,7 @@ all-orders = refl
 pub all-traps : allComputed traps ≡ allStated traps
 unfolding traps
 all-traps = refl
+
+pub all-weighted : allComputed weighted ≡ allStated weighted
+unfolding weighted
+all-weighted = refl

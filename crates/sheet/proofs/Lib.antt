@@ -4,3 +4,4 @@ pub mod First
 pub mod Lists
 pub mod Digits
 pub mod Within
+pub mod Weights

@@ -1,7 +1,8 @@
--- Document 01's area and its order among cells.
+-- Document 01's area, with document 02's weights, and its order among cells.
 use mathlib.Core.Bool.{Bool, false, cond}
-use Prim.Native.Nat.{ℕ, zero, suc, _+_}
+use Prim.Native.Nat.{ℕ, zero, suc, _+_, _/_}
 use lib.Dec.{eqb, ltb}
+use lib.ListN.{getD}
 use Rattle.sheet.specs.Sheet.{Grid, Sheet, cells, inside, next}
 use Rattle.sheet.specs.Water.{passes}
 
@@ -20,9 +21,9 @@ unfoldable pub drainsInto : Grid → ℕ → ℕ → Bool
 unfolding inside next passes
 drainsInto G c q = cond (inside G q) (passes (next G) (cells G) q c) false
 
--- a cell's own weight in an area: areas count cells
+-- a cell's own weight in an area: that of its row
 unfoldable pub weight : Sheet → ℕ → ℕ
-weight S c = 1
+weight S c = getD (S .weights) (c / S .grid .cols) 0
 
 -- "area" of an inside cell: the sum of the weights of the inside cells, itself included, whose water passes it;
 -- outside cells have area 0

@@ -1,5 +1,5 @@
--- Worked cases: what the definitions compute beside what document 01 states. Those that it marks * stand in one list,
--- in its order.
+-- Worked cases: what the definitions compute beside what documents 01 and 02 state. Those that document 01 marks *
+-- stand in one list, in its order.
 use mathlib.Core.Bool.{cond}
 use mathlib.Core.List.{List, [], _∷_, _++_}
 use Prim.Native.Nat.{ℕ, _*_}
@@ -8,7 +8,7 @@ use lib.ListN.{replicate}
 use Rattle.sheet.specs.Sheet.{Grid, Sheet, grid}
 use Rattle.sheet.specs.Area.{area}
 use Rattle.sheet.specs.River.{network, stem, mouth, Run, river}
-use Rattle.sheet.specs.Label.{labelOf, outlet}
+use Rattle.sheet.specs.Label.{labelOf, outlet, listFrom}
 use Rattle.sheet.specs.Refusal.{Lent, outcome, OutcomeValues, outcomeValues, lentAfter}
 use Rattle.sheet.specs.Flow.{flow, answerNumber}
 
@@ -23,8 +23,12 @@ case computed stated = record { computed = computed; stated = stated }
 abbrev pub sampleA : Grid
 sampleA = grid 3 4 (0 ∷ 4 ∷ 16 ∷ 8 ∷ 16 ∷ 16 ∷ 16 ∷ 16 ∷ 64 ∷ 64 ∷ 32 ∷ 64 ∷ [])
 
-abbrev sheet : Grid → ℕ → Sheet
-sheet G depth = record { grid = G; depth = depth }
+-- a sheet with weights, and one without: each is then 1
+abbrev pub weightedSheet : Grid → ℕ → List ℕ → Sheet
+weightedSheet G depth weights = record { grid = G; depth = depth; weights = weights }
+
+abbrev pub sheet : Grid → ℕ → Sheet
+sheet G depth = weightedSheet G depth (replicate (G .rows) 1)
 
 -- the mouths that stand straight after a stem cell in a river list
 abbrev mouths : Run → List ℕ
@@ -117,6 +121,36 @@ traps =
     ∷ case (answerNumber (flow 3 9 105) ∷ answerNumber (flow 3 105 105) ∷ answerNumber (flow 0 105 105) ∷ [])
     (139 ∷ 139 ∷ 130 ∷ [])
     ∷ case (answerNumber (flow 19 1 2) ∷ answerNumber (flow 18 1 2) ∷ []) (130 ∷ 1 ∷ [])
+    ∷ []
+
+-- two cells that flow into the one between them, the outlet: one cell a row
+abbrev pub confluence : Grid
+confluence = grid 3 1 (4 ∷ 16 ∷ 64 ∷ [])
+
+-- the areas of the first n cells, then their labels
+abbrev areasAndLabels : Sheet → ℕ → List ℕ
+areasAndLabels S n = listFrom (area S) 0 n ++ listFrom (labelOf S) 0 n
+
+-- Weights: the heavier row is the river; of equal areas the larger cell number, as without weights; a weight is that of
+-- its row, and those past the rows are not looked at. 17 at 0 and 1001, not at 1 and 1000, and for a row without an
+-- inside cell. 3 is tested before it, 4 after it; after it the work places are 0, and nothing else is written.
+unfoldable pub weighted : List Case
+unfolding area labelOf listFrom outcome lentAfter
+weighted =
+    let refused : Lent = lentAfter (weightedSheet confluence 1 (1 ∷ 1001 ∷ 1 ∷ [])) (lentFor 3) in
+    case (areasAndLabels (weightedSheet confluence 1 (5 ∷ 1 ∷ 3 ∷ [])) 3) (5 ∷ 9 ∷ 3 ∷ 3 ∷ 1 ∷ 2 ∷ [])
+    ∷ case (areasAndLabels (weightedSheet confluence 1 (3 ∷ 1 ∷ 3 ∷ [])) 3) (3 ∷ 7 ∷ 3 ∷ 2 ∷ 1 ∷ 3 ∷ [])
+    ∷ case (areasAndLabels (sheet confluence 1) 3) (1 ∷ 3 ∷ 1 ∷ 2 ∷ 1 ∷ 3 ∷ [])
+    ∷ case (areasAndLabels (weightedSheet (grid 1 2 (16 ∷ 16 ∷ [])) 1 (7 ∷ 0 ∷ [])) 2) (14 ∷ 7 ∷ 0 ∷ 0 ∷ [])
+    ∷ case (outcomeIs (weightedSheet (grid 1 2 (16 ∷ 16 ∷ [])) 1 (7 ∷ 0 ∷ [])) (lentFor 2)) (0 ∷ 0 ∷ [])
+    ∷ case (outcomeIs (weightedSheet confluence 1 (1000 ∷ 1 ∷ 1000 ∷ [])) (lentFor 3)) (0 ∷ 0 ∷ [])
+    ∷ case (outcomeIs (weightedSheet confluence 1 (0 ∷ 1 ∷ 1 ∷ [])) (lentFor 3)) (17 ∷ 0 ∷ [])
+    ∷ case (outcomeIs (weightedSheet confluence 1 (1 ∷ 1 ∷ 1001 ∷ [])) (lentFor 3)) (17 ∷ 0 ∷ [])
+    ∷ case (outcomeIs (weightedSheet (grid 2 1 (1 ∷ 0 ∷ [])) 1 (1 ∷ 0 ∷ [])) (lentFor 2)) (17 ∷ 0 ∷ [])
+    ∷ case (outcomeIs (weightedSheet confluence 1 (0 ∷ 0 ∷ [])) (lentFor 3)) (3 ∷ 0 ∷ [])
+    ∷ case (outcomeIs (weightedSheet confluence 1 (0 ∷ 0 ∷ 0 ∷ [])) (lentFor 2)) (3 ∷ 0 ∷ [])
+    ∷ case (outcomeIs (weightedSheet (grid 1 1 (3 ∷ [])) 1 (0 ∷ [])) (lentFor 1)) (17 ∷ 0 ∷ [])
+    ∷ case (refused .areas ++ refused .labels ++ refused .work) (replicate 6 7 ++ replicate 24 0)
     ∷ []
 
 abbrev pub allComputed : List Case → List (List ℕ)

@@ -1,10 +1,10 @@
--- Document 01's outcome of labelling: refusals 1 to 7 in order, with their places, and what each lent slice holds
--- afterwards.
-use mathlib.Core.Bool.{Bool, false, cond, not}
+-- The outcome of labelling: document 01's refusals 1 to 7 in order, with their places, with document 02's 17 straight
+-- after 3, and what each lent slice holds afterwards.
+use mathlib.Core.Bool.{Bool, true, false, cond, not}
 use mathlib.Core.List.{List, _++_}
-use Prim.Native.Nat.{ℕ, suc, _*_}
+use Prim.Native.Nat.{ℕ, zero, suc, _*_}
 use lib.Dec.{leb}
-use lib.ListN.{length, drop, replicate}
+use lib.ListN.{length, drop, replicate, getD}
 use Rattle.sheet.specs.declared.Found.{Found}
 use Rattle.sheet.specs.declared.Found.the-variants.{At, Nothing}
 use Rattle.sheet.specs.declared.Outcome.{Outcome}
@@ -14,7 +14,7 @@ use Rattle.sheet.specs.Sheet.{Grid, Sheet, cells, dirAt, inside, next, i
 use Rattle.sheet.specs.Water.{reachesOutlet}
 use Rattle.sheet.specs.Label.{areasOf, labelsOf}
 
--- what is lent to labelling beside the directions: areas (32-bit), labels (64-bit), work places (32-bit)
+-- what is lent to labelling beside the directions and weights: areas (32-bit), labels (64-bit), work places (32-bit)
 pub record Lent : Type 0 where
   pub areas : List ℕ
   pub labels : List ℕ
@@ -36,12 +36,25 @@ unfoldable pub depthFits : ℕ → Bool
 unfolding within
 depthFits depth = within 18 depth
 
--- with n = rows × columns: n directions, n areas, n labels, 8n work places
-unfoldable pub slicesFit : Grid → Lent → Bool
-slicesFit G L =
-    both (leb (cells G) (length (G .dirs)))
-    (both (leb (cells G) (length (L .areas)))
-    (both (leb (cells G) (length (L .labels))) (leb (8 * cells G) (length (L .work)))))
+-- with n = rows × columns: n directions, one weight a row, n areas, n labels, 8n work places
+unfoldable pub slicesFit : Sheet → Lent → Bool
+slicesFit S L =
+    let n = cells (S .grid) in
+    both (leb n (length (S .grid .dirs)))
+    (both (leb (S .grid .rows) (length (S .weights)))
+    (both (leb n (length (L .areas)))
+    (both (leb n (length (L .labels))) (leb (8 * n) (length (L .work))))))
+
+-- 17: a weight outside 1 to 1000
+unfoldable pub weightFits : ℕ → Bool
+unfolding within
+weightFits weight = within 1000 weight
+
+-- of the first weights, as many as there are rows; those past the rows are not looked at
+unfoldable pub weightsFit : ℕ → List ℕ → Bool
+unfolding weightFits
+weightsFit zero weights = true
+weightsFit (suc row) weights = let rest = weightsFit row weights in both rest (weightFits (getD weights row 0))
 
 -- the cells for which 4, 5, 6 and 7 look
 unfoldable pub badCode : Grid → ℕ → Bool
@@ -84,13 +97,19 @@ outcomeOn G =
     (refusedAt 6 (first (undrained G) (cells G))
     (refusedAt 7 (secondOutlet G) Accepted)))
 
--- 1, 2 and 3, in this order, before them
+-- 17 before them, with place 0
+unfoldable pub outcomeFrom17 : Sheet → Outcome
+unfolding weightsFit outcomeOn
+outcomeFrom17 S =
+    let rest : Outcome = outcomeOn (S .grid) in cond (weightsFit (S .grid .rows) (S .weights)) rest (Refused 17 0)
+
+-- 1, 2 and 3, in this order, before 17
 unfoldable pub outcome : Sheet → Lent → Outcome
-unfolding sizesFit depthFits slicesFit outcomeOn
+unfolding sizesFit depthFits slicesFit outcomeFrom17
 outcome S L =
-    let rest : Outcome = outcomeOn (S .grid) in
+    let rest : Outcome = outcomeFrom17 S in
     cond (sizesFit (S .grid .rows) (S .grid .cols))
-    (cond (depthFits (S .depth)) (cond (slicesFit (S .grid) L) rest (Refused 3 0)) (Refused 2 0)) (Refused 1 0)
+    (cond (depthFits (S .depth)) (cond (slicesFit S L) rest (Refused 3 0)) (Refused 2 0)) (Refused 1 0)
 
 -- document 01's number and place of an outcome; both are 0 where it is accepted
 pub record OutcomeValues : Type 0 where
@@ -117,6 +136,6 @@ lentAfter S L = record {
   areas = ifAccepted (outcome S L) (areasOf S) (L .areas);
   labels = ifAccepted (outcome S L) (labelsOf S) (L .labels);
   work =
-      cond (both (sizesFit (S .grid .rows) (S .grid .cols)) (both (depthFits (S .depth)) (slicesFit (S .grid) L)))
+      cond (both (sizesFit (S .grid .rows) (S .grid .cols)) (both (depthFits (S .depth)) (slicesFit S L)))
       (written (replicate (8 * cells (S .grid)) 0) (L .work)) (L .work);
 }

@@ -21,10 +21,11 @@ pub record Grid : Type 0 where
 abbrev pub grid : ℕ → ℕ → List ℕ → Grid
 grid rows cols dirs = record { rows = rows; cols = cols; dirs = dirs }
 
--- "sheet": a grid, and the depth in digits of its labels
+-- "sheet": a grid, the depth in digits of its labels, and its weights, one a row; more weights than rows may be lent
 pub record Sheet : Type 0 where
   pub grid : Grid
   pub depth : ℕ
+  pub weights : List ℕ
 
 -- n = rows × columns
 abbrev pub cells : Grid → ℕ

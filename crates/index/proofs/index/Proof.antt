@@ -21,7 +21,7 @@ use Rattle.labelling.proofs.first_checks.Reads as first-checks-reads
 
 -- Points of the function, each from a later one.
 abbrev start : tie.After-slice-known3 → tie.Start
-start c = c .before .before .before .before
+start c = c .before .before .before .before .before
 
 abbrev after-slice-known3 : tie.After-first-checks → tie.After-slice-known3
 after-slice-known3 c = c .before .before .before .before
@@ -40,7 +40,9 @@ after-work c = c .before .before .before .before .before .before .before
 
 -- the sheet and what is lent
 abbrev S : tie.After-first-checks → Sheet
-S c = let a = (start (after-slice-known3 c)) .args in sheet (a .rows) (a .cols) (a .depth) (a .dirs .now)
+S c =
+    let a = (start (after-slice-known3 c)) .args in
+    sheet (a .rows) (a .cols) (a .depth) (a .dirs .now) (a .weights .now)
 
 abbrev L : tie.After-first-checks → Lent
 L c = let a = (start (after-slice-known3 c)) .args in lent (a .areas .now) (a .labels .now) (a .work .now)

@@ -15,11 +15,11 @@ use Rattle.labelling.proofs.clear_places.Reads as clear-places-reads
 use Rattle.labelling.proofs.label_in_order.Reads as label-in-order-reads
 
 -- Points of the function, each from a later one.
-abbrev start : tie.After-slice-known6 → tie.Start
-start c = c .before .before .before .before .before .before .before
+abbrev start : tie.After-slice-known3 → tie.Start
+start c = c .before .before .before .before .before
 
-abbrev after-slice-known6 : tie.After-label-in-order → tie.After-slice-known6
-after-slice-known6 c = c .before .before .before .before
+abbrev after-slice-known3 : tie.After-label-in-order → tie.After-slice-known3
+after-slice-known3 c = c .before .before .before .before .before .before .before
 
 abbrev after-label-in-order : tie.After-slice-known9 → tie.After-label-in-order
 after-label-in-order c = c .before .before .before .before .before .before
@@ -34,7 +34,7 @@ abbrev after-clear-places : tie.After-slice-known13 → tie.After-clear-places
 after-clear-places c = c .before .before
 
 label-in-order-requires : tie.Need-label-in-order-requires
-label-in-order-requires c κs = (start (c .before .before .before)) .pre .0
+label-in-order-requires c κs = (start (c .before .before .before .before .before .before)) .pre .0
 
 mul-index-in-order : tie.Need-mul-index-in-order
 mul-index-in-order c = search needs
@@ -43,9 +43,9 @@ index-in-order-requires : tie.Need-index-in-order-requires
 index-in-order-requires c κs =
     let l = after-label-in-order (c .before .before .before .before .before) in
     let f = l .label-in-order in
-    let p = (start (after-slice-known6 l)) .pre .0 in λ e.
-    in-order (cells-most (p .sized .rows-most) (p .sized .cols-most)) (f .kept .1 .1 .1 .1 .1 .1 .0 ∙ p .work)
-    (omega (arith, f .kept .1 .1 .1 .1 .1 .0, p .labels)) (f .ensures .order e)
+    let p = (start (after-slice-known3 l)) .pre .0 in λ e.
+    in-order (cells-most (p .sized .rows-most) (p .sized .cols-most)) (f .kept .1 .1 .1 .1 .1 .1 .1 .0 ∙ p .work)
+    (omega (arith, f .kept .1 .1 .1 .1 .1 .1 .0, p .labels)) (f .ensures .order e)
 
 clear-places-requires : tie.Need-clear-places-requires
 clear-places-requires c κs = search needs
@@ -73,10 +73,10 @@ returns c =
     let i = after-index-in-order ((after-clear-places c) .before) in
     let l = after-label-in-order (after-slice-known9 i) in
     let f = l .label-in-order in
-    let p = (start (after-slice-known6 l)) .pre in
+    let p = (start (after-slice-known3 l)) .pre in
     indexed-fitting _ _ (p .1) (f .ensures) _ (i .index-in-order .ensures .0) (i .index-in-order .ensures .1)
     ((after-clear-places c) .clear-places .ensures ∙
-    ap (λ (k : ℕ). replicate k 0) (f .kept .1 .1 .1 .1 .1 .1 .0 ∙ p .0 .work))
+    ap (λ (k : ℕ). replicate k 0) (f .kept .1 .1 .1 .1 .1 .1 .1 .0 ∙ p .0 .work))
 
 pub index-fitting-spec : {M : Type 1} → statement M
 index-fitting-spec =

@@ -20,7 +20,7 @@ use Rattle.labelling.proofs.label_fitting.Reads as label-fitting-reads
 
 -- Points of the function, each from a later one.
 abbrev start : tie.After-first-checks → tie.Start
-start c = c .before .before .before .before .before
+start c = c .before .before .before .before .before .before
 
 abbrev after-first-checks : tie.After-enum-told → tie.After-first-checks
 after-first-checks c = c .before .before
@@ -30,7 +30,7 @@ after-enum-told c = c .before .before .before
 
 -- the sheet and what is lent
 abbrev S : tie.After-first-checks → Sheet
-S c = let a = (start c) .args in sheet (a .rows) (a .cols) (a .depth) (a .dirs .now)
+S c = let a = (start c) .args in sheet (a .rows) (a .cols) (a .depth) (a .dirs .now) (a .weights .now)
 
 abbrev L : tie.After-first-checks → Lent
 L c = let a = (start c) .args in lent (a .areas .now) (a .labels .now) (a .work .now)

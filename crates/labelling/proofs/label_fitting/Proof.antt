@@ -11,11 +11,11 @@ use Rattle.labelling.proofs.clear_places.Reads as clear-places-reads
 use Rattle.labelling.proofs.label_in_order.Reads as label-in-order-reads
 
 -- Points of the function, each from a later one.
-abbrev start : tie.After-shared-slice-known → tie.Start
-start c = c .before
+abbrev start : tie.After-shared-slice-known2 → tie.Start
+start c = c .before .before
 
-abbrev after-shared-slice-known : tie.After-label-in-order → tie.After-shared-slice-known
-after-shared-slice-known c = c .before .before .before .before .before .before .before
+abbrev after-slices : tie.After-label-in-order → tie.After-shared-slice-known2
+after-slices c = c .before .before .before .before .before .before .before
 
 abbrev after-label-in-order : tie.After-areas → tie.After-label-in-order
 after-label-in-order c = c .before
@@ -24,7 +24,7 @@ abbrev after-areas : tie.After-clear-places → tie.After-areas
 after-areas c = c .before .before .before .before .before .before .before
 
 label-in-order-requires : tie.Need-label-in-order-requires
-label-in-order-requires c κs = c .before .before .before .before .before .before .before .pre
+label-in-order-requires c κs = (start (c .before .before .before .before .before .before)) .pre
 
 clear-places-requires : tie.Need-clear-places-requires
 clear-places-requires c κs = search needs
@@ -41,8 +41,8 @@ same-length-3 c = search needs
 returns : tie.Need-returns
 returns c =
     let f = (after-label-in-order (after-areas (c .before .before))) .label-in-order in
-    let long = f .kept .1 .1 .1 .1 .1 .1 .0 ∙
-    (start (after-shared-slice-known (after-label-in-order (after-areas (c .before .before))))) .pre .work in (
+    let long = f .kept .1 .1 .1 .1 .1 .1 .1 .0 ∙
+    (start (after-slices (after-label-in-order (after-areas (c .before .before))))) .pre .work in (
       f .ensures .outcome,
       (
         f .ensures .areas,

@@ -2,18 +2,18 @@
 use mathlib.Core.Path.{_∙_}
 use Prim.Native.Nat.{_*_}
 use borrow.Author.Needs.{needs}
-use Rattle.labelling.proofs.Steps.{unranked, cleared-long, other-work, inspected}
+use Rattle.labelling.proofs.Steps.{unranked, cleared-long, other-work}
 use Rattle.labelling.proofs.label_in_order.Statement.{statement}
 use Rattle.labelling.proofs.label_in_order.Tie as tie
 use Rattle.labelling.proofs.label_in_order.Reads as reads
 use Rattle.labelling.proofs.label_in_order.Lts as lts
-use Rattle.drainage.proofs.inspect.inspect.Reads as inspect-reads
+use Rattle.labelling.proofs.inspect.Reads as inspect-reads
 use Rattle.labelling.proofs.clear_places.Reads as clear-places-reads
 use Rattle.labelling.proofs.write_if_accepted.Reads as write-if-accepted-reads
 
 -- Points of the function, each from a later one.
 abbrev start : tie.After-clear-places → tie.Start
-start c = c .before .before .before .before .before .before
+start c = c .before .before .before .before .before .before .before
 
 abbrev after-clear-places : tie.After-inspect → tie.After-clear-places
 after-clear-places c = c .before .before .before .before
@@ -49,6 +49,7 @@ inspect-requires : tie.Need-inspect-requires
 inspect-requires c κs =
     let s = (start (c .before .before .before)) in (
       s .pre .sized,
+      s .pre .weights,
       unranked (s .args .rows * s .args .cols) (s .args .work .now) (s .pre .work)
           (c .before .before .before .clear-places .ensures),
     )
@@ -59,10 +60,10 @@ write-if-accepted-requires c κs =
     let a = after-clear-places i in
     let s = start a in (
       other-work (s .pre)
-          (i .inspect .kept .1 .1 .1 .0
+          (i .inspect .kept .1 .1 .1 .1 .0
           ∙ cleared-long (s .args .rows * s .args .cols) (s .args .work .now) (s .pre .work)
           (a .clear-places .ensures)),
-      inspected (i .inspect .ensures),
+      i .inspect .ensures (s .args .depth) .passed,
     )
 
 same-length : tie.Need-same-length
@@ -79,7 +80,7 @@ returns c =
     let w = c .before .before .before .before .before .before .write-if-accepted .ensures in
     record {
       outcome =
-          (after-inspect (c .before .before .before .before .before .before)) .inspect .ensures .outcome;
+          (after-inspect (c .before .before .before .before .before .before)) .inspect .ensures _ .outcome;
       areas = w .0;
       labels = w .1 .0;
       order = w .1 .1;

@@ -10,7 +10,7 @@ use Rattle.labelling.proofs.write_labels.Reads as write-labels-reads
 
 -- Points of the function, each from a later one.
 abbrev start : tie.After-enum-told → tie.Start
-start c = c .before .before .before .before .before .before
+start c = c .before .before .before .before .before .before .before
 
 abbrev after-enum-told : tie.After-write-labels → tie.After-enum-told
 after-enum-told c = c .before .before .before .before

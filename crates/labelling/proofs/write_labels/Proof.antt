@@ -1,5 +1,5 @@
 -- `write_labels` meets its contract: each step hands the next what it asks.
-use Prim.Native.Nat.{_*_}
+use Prim.Native.Nat.{_*_, _≤_}
 use mathlib.Core.Path.{_≡_, refl, sym, _∙_}
 use native.Mathlib.Omega.{arith}
 use borrow.Author.Needs.{needs}
@@ -8,7 +8,7 @@ use Rattle.sheet.proofs.Cells.{cells-most}
 use Rattle.upstream.specs.Work.{cellsPart, orderedSizesPart}
 use Rattle.labelling.specs.Labelling.{sheet}
 use Rattle.labelling.proofs.Steps.{queued-most, surveyed, part-is, network-in, network-of, places, some-cell}
-use Rattle.labelling.proofs.Steps.{labels-written}
+use Rattle.labelling.proofs.Steps.{labels-written, weighted, rest-accepted}
 use Rattle.labelling.proofs.write_labels.Statement.{statement}
 use Rattle.labelling.proofs.write_labels.Tie as tie
 use Rattle.labelling.proofs.write_labels.Reads as reads
@@ -19,8 +19,11 @@ use Rattle.order.proofs.positions.arrange.Reads as arrange-reads
 use Rattle.rivers.proofs.units.label_basin.Reads as label-basin-reads
 
 -- Points of the function, each from a later one.
+abbrev after-slices : tie.After-measure → tie.After-slice-known
+after-slices c = c .before .before .before .before .before
+
 abbrev start : tie.After-measure → tie.Start
-start c = c .before .before .before .before .before .before .before
+start c = (after-slices c) .before .before .before
 
 abbrev after-measure : tie.After-arrange → tie.After-measure
 after-measure c = c .before .before .before .before .before .before .before
@@ -35,14 +38,19 @@ abbrev after-labels : tie.After-label-basin → tie.After-labels
 after-labels c = c .before .before .before .before .before .before .before
 
 measure-requires : tie.Need-measure-requires
-measure-requires c κs = search needs
+measure-requires c κs =
+    let s = c .before .before .before .before .before .before .before in
+    let p = s .pre in
+    let a = s .args in
+    let S = sheet (a .rows) (a .cols) (a .depth) (a .dirs .now) (a .weights .now) in
+    (p .0 .sized, p .1 .drained, weighted S (p .0) (p .1), p .0 .areas, omega (arith, p .0 .work))
 
 arrange-requires : tie.Need-arrange-requires
 arrange-requires c κs =
     let p = (start (c .before .before .before .before .before .before)) .pre in
     surveyed (p .0) (p .1) (c .before .before .before .before .before .before .measure .ensures .0)
-    (c .before .before .before .before .before .before .measure .ensures .1 _ refl)
-    (c .before .before .before .before .before .before .measure .kept .1 .1 .1 .0)
+    (c .before .before .before .before .before .before .measure .ensures .1 _ refl refl)
+    (c .before .before .before .before .before .before .measure .kept .1 .1 .1 .1 .0)
 
 mul-n : tie.Need-mul-n
 mul-n c = search needs
@@ -50,8 +58,15 @@ mul-n c = search needs
 clear-labels-requires : tie.Need-clear-labels-requires
 clear-labels-requires c κs = search needs
 
+-- so few cells that multiples of their number fit
+few : (c : tie.After-slice-known7)
+    → let a = (start (after-measure (after-arrange (c .before .before)))) .args in a .rows * a .cols ≤ 65536
+few c =
+    let p = (start (after-measure (after-arrange (c .before .before)))) .pre in
+    cells-most (p .0 .sized .rows-most) (p .0 .sized .cols-most)
+
 mul-cells : tie.Need-mul-cells
-mul-cells c = search needs
+mul-cells c = omega (arith, few c)
 
 add-cells-end : tie.Need-add-cells-end
 add-cells-end c =
@@ -59,7 +74,7 @@ add-cells-end c =
     omega (arith, queued-most (p .1 .drained), cells-most (p .0 .sized .rows-most) (p .0 .sized .cols-most))
 
 mul-sizes : tie.Need-mul-sizes
-mul-sizes c = search needs
+mul-sizes c = omega (arith, few c)
 
 add-sizes-end : tie.Need-add-sizes-end
 add-sizes-end c =
@@ -67,7 +82,7 @@ add-sizes-end c =
     omega (arith, queued-most (p .1 .drained), cells-most (p .0 .sized .rows-most) (p .0 .sized .cols-most))
 
 mul-label-basin : tie.Need-mul-label-basin
-mul-label-basin c = search needs
+mul-label-basin c = omega (arith, few c)
 
 sub-label-basin : tie.Need-sub-label-basin
 sub-label-basin c = search needs
@@ -82,7 +97,7 @@ part-label-basin-end c =
       arith,
       queued-most (p .1 .drained),
       p .0 .work,
-      (after-measure (after-arrange (after-clear-labels (c .before .before)))) .measure .kept .1 .1 .1 .0,
+      (after-measure (after-arrange (after-clear-labels (c .before .before)))) .measure .kept .1 .1 .1 .1 .0,
       c .before .before .before .before .before .before .before .arrange .kept .1 .1 .1 .1 .1 .0,
     )
 
@@ -104,7 +119,7 @@ part-label-basin-end-2 c =
       arith,
       queued-most (p .1 .drained),
       p .0 .work,
-      (after-measure (after-arrange (after-clear-labels (c .before .before .before)))) .measure .kept .1 .1 .1 .0,
+      (after-measure (after-arrange (after-clear-labels (c .before .before .before)))) .measure .kept .1 .1 .1 .1 .0,
       (after-arrange (after-clear-labels (c .before .before .before))) .arrange .kept .1 .1 .1 .1 .1 .0,
     )
 
@@ -116,25 +131,26 @@ label-basin-requires c κs =
     let a = (start
     (after-measure (after-arrange (after-clear-labels (c .before .before .before .before .before .before))))) .args in
     let n = a .rows * a .cols in
-    let S = sheet (a .rows) (a .cols) (a .depth) (a .dirs .now) in
+    let S = sheet (a .rows) (a .cols) (a .depth) (a .dirs .now) (a .weights .now) in
+    let accepted = rest-accepted S (p .1) in
     let e = network-in S (a .areas .now)
     ((after-measure
-    (after-arrange (after-clear-labels (c .before .before .before .before .before .before)))) .measure .ensures .1 S refl) in
+    (after-arrange (after-clear-labels (c .before .before .before .before .before .before)))) .measure .ensures .1 S refl refl) in
     let r = (after-arrange
     (after-clear-labels (c .before .before .before .before .before .before))) .arrange .ensures .0 in
     rw (part-is (cellsPart * n) (a .queued), part-is (orderedSizesPart * n) (a .queued)) (
       p .0 .depth-most,
       (
-        some-cell S (p .1 .accepted) e r,
+        some-cell S accepted e r,
         (
-          network-of S (p .1 .accepted) e r,
-          places S (p .1 .accepted) e r _ _
+          network-of S accepted e r,
+          places S accepted e r _ _
               (omega (
                 arith,
                 p .0 .areas,
                 (after-measure
                     (after-arrange
-                    (after-clear-labels (c .before .before .before .before .before .before)))) .measure .kept .1 .1 .1 .1 .1 .0,
+                    (after-clear-labels (c .before .before .before .before .before .before)))) .measure .kept .1 .1 .1 .1 .1 .1 .0,
               )) (omega (
                 arith,
                 p .0 .labels,
@@ -160,17 +176,18 @@ returns c =
     let a = (start (after-measure (after-arrange (after-clear-labels (after-labels (c .before .before)))))) .args in
     let n = a .rows * a .cols in
     let r = (after-arrange (after-clear-labels (after-labels (c .before .before)))) .arrange .ensures .0 in
-    let S = sheet (a .rows) (a .cols) (a .depth) (a .dirs .now) in
+    let S = sheet (a .rows) (a .cols) (a .depth) (a .dirs .now) (a .weights .now) in
+    let accepted = rest-accepted S (p .1) in
     let areas =
     (after-measure
-    (after-arrange (after-clear-labels (after-labels (c .before .before))))) .measure .ensures .1 S refl in
+    (after-arrange (after-clear-labels (after-labels (c .before .before))))) .measure .ensures .1 S refl refl in
     let e = rw (
       part-is (cellsPart * n) (a .queued),
       part-is (orderedSizesPart * n) (a .queued),
     ) at (c .before .before .label-basin .ensures) in (
       areas,
       (
-        labels-written S (p .1 .accepted) (network-in S (a .areas .now) areas) r (a .labels .now) (p .0 .labels)
+        labels-written S accepted (network-in S (a .areas .now) areas) r (a .labels .now) (p .0 .labels)
             ((after-clear-labels (after-labels (c .before .before))) .clear-labels .ensures) e,
         r,
       ),

@@ -14,11 +14,14 @@ chain : (f name : List ℕ) (column : Column) {other given result : Column} → 
 chain f name column e g = e ∙ ap (columnIf f name column) g
 
 -- Points of the function, each from a later one.
-abbrev after-column-if : tie.After-column-if2 → tie.After-column-if
-after-column-if c = c .before .before
+abbrev after-column-if : tie.After-column-if3 → tie.After-column-if
+after-column-if c = c .before .before .before .before
 
-abbrev after-column-if2 : tie.After-column-if3 → tie.After-column-if2
-after-column-if2 c = c .before .before
+abbrev after-column-if3 : tie.After-column-if5 → tie.After-column-if3
+after-column-if3 c = c .before .before .before .before
+
+abbrev after-column-if5 : tie.After-column-if7 → tie.After-column-if5
+after-column-if5 c = c .before .before .before .before
 
 slice-aggregate-column-if : tie.Need-slice-aggregate-column-if
 slice-aggregate-column-if c = search needs
@@ -56,14 +59,24 @@ slice-aggregate-column-if-6 c = search needs
 column-if-requires-6 : tie.Need-column-if-requires-6
 column-if-requires-6 c κs = search needs
 
+slice-aggregate-column-if-7 : tie.Need-slice-aggregate-column-if-7
+slice-aggregate-column-if-7 c = search needs
+
+column-if-requires-7 : tie.Need-column-if-requires-7
+column-if-requires-7 c κs = search needs
+
 returns : tie.Need-returns
 unfolding columnNamed
 returns c =
-    chain _ _ _ (c .column-if6 .ensures)
-    (chain _ _ _ (c .before .before .column-if5 .ensures)
-    (chain _ _ _ (c .before .before .before .before .column-if4 .ensures)
-    (chain _ _ _ (c .before .before .before .before .before .before .column-if3 .ensures)
-    (chain _ _ _ ((after-column-if2 (c .before .before .before .before .before .before)) .column-if2 .ensures) ((after-column-if (after-column-if2 (c .before .before .before .before .before .before))) .column-if .ensures)))))
+    let five = after-column-if5 c in
+    let three = after-column-if3 five in
+    let one = after-column-if three in
+    chain _ _ _ (c .column-if7 .ensures)
+    (chain _ _ _ (c .before .before .column-if6 .ensures)
+    (chain _ _ _ (five .column-if5 .ensures)
+    (chain _ _ _ (five .before .before .column-if4 .ensures)
+    (chain _ _ _ (three .column-if3 .ensures)
+    (chain _ _ _ (three .before .before .column-if2 .ensures) (one .column-if .ensures))))))
 
 pub column-named-spec : {M : Type 1} → statement M
 column-named-spec =
@@ -81,4 +94,6 @@ column-named-spec =
     column-if-requires-5
     slice-aggregate-column-if-6
     column-if-requires-6
+    slice-aggregate-column-if-7
+    column-if-requires-7
     returns)

@@ -10,10 +10,11 @@ use Rattle.programs.proofs.read_once.Reads as read-once-reads
 use Rattle.reading.proofs.Reader.new.Reads as new-reads
 
 abbrev Inv-loop : tie.InvT-loop
-Inv-loop line₀ dirs₀ reader₀ turns₀ line dirs reader turns = length dirs ≡ length dirs₀
+Inv-loop line₀ dirs₀ weights₀ reader₀ turns₀ line dirs weights reader turns =
+    (length dirs ≡ length dirs₀) × (length weights ≡ length weights₀)
 
 abbrev μ-loop : tie.MeasureT-loop
-μ-loop line₀ dirs₀ reader₀ turns₀ line dirs reader turns = turns
+μ-loop line₀ dirs₀ weights₀ reader₀ turns₀ line dirs weights reader turns = turns
 
 new-requires : tie.Need-new-requires Inv-loop μ-loop
 new-requires c κs = search needs
@@ -42,20 +43,29 @@ enum-known-last c = search needs
 same-length : tie.Need-same-length Inv-loop μ-loop
 same-length c = search needs
 
+same-length-2 : tie.Need-same-length-2 Inv-loop μ-loop
+same-length-2 c = search needs
+
 returns : tie.Need-returns Inv-loop μ-loop
 returns c = search needs
 
 enum-told : tie.Need-enum-told Inv-loop μ-loop
 enum-told c = search needs
 
-same-length-2 : tie.Need-same-length-2 Inv-loop μ-loop
-same-length-2 c = search needs
+same-length-3 : tie.Need-same-length-3 Inv-loop μ-loop
+same-length-3 c = search needs
+
+same-length-4 : tie.Need-same-length-4 Inv-loop μ-loop
+same-length-4 c = search needs
 
 returns-2 : tie.Need-returns-2 Inv-loop μ-loop
 returns-2 c = search needs
 
-same-length-3 : tie.Need-same-length-3 Inv-loop μ-loop
-same-length-3 c = search needs
+same-length-5 : tie.Need-same-length-5 Inv-loop μ-loop
+same-length-5 c = search needs
+
+same-length-6 : tie.Need-same-length-6 Inv-loop μ-loop
+same-length-6 c = search needs
 
 returns-3 : tie.Need-returns-3 Inv-loop μ-loop
 returns-3 c = search needs
@@ -75,9 +85,12 @@ read-all-spec =
     loop-again
     enum-known-last
     same-length
+    same-length-2
     returns
     enum-told
-    same-length-2
-    returns-2
     same-length-3
+    same-length-4
+    returns-2
+    same-length-5
+    same-length-6
     returns-3)

@@ -13,9 +13,12 @@ next-line-requires c κs = search needs
 same-length : tie.Need-same-length
 same-length c = search needs
 
+same-length-2 : tie.Need-same-length-2
+same-length-2 c = search needs
+
 returns : tie.Need-returns
 unfolding handLine
-returns c = λ line. rw (← c .before .before .before .before .line .ensures .0, c .next-line .ensures)
+returns c = λ line. rw (← c .before .before .before .before .before .before .line .ensures .0, c .next-line .ensures)
 
 pub hand-line-spec : {M : Type 1} → statement M
-hand-line-spec = tie.close (tie.spec line-requires next-line-requires same-length returns)
+hand-line-spec = tie.close (tie.spec line-requires next-line-requires same-length same-length-2 returns)

@@ -4,6 +4,10 @@ use borrow.Author.Needs.{needs}
 use Rattle.reading.proofs.long_line.Statement.{statement}
 use Rattle.reading.proofs.long_line.Tie as tie
 
+-- Points of the function, each from a later one.
+abbrev after-hand-line : tie.After-slice-known4 → tie.After-hand-line
+after-hand-line c = c .before .before .before .before
+
 slice-aggregate-hand-line : tie.Need-slice-aggregate-hand-line
 slice-aggregate-hand-line c = search needs
 
@@ -13,10 +17,13 @@ hand-line-requires c κs = search needs
 same-length : tie.Need-same-length
 same-length c = search needs
 
+same-length-2 : tie.Need-same-length-2
+same-length-2 c = search needs
+
 returns : tie.Need-returns
 unfolding longLine
-returns c = c .before .before .hand-line .ensures
+returns c = (after-hand-line c) .hand-line .ensures
 
 pub long-line-spec : {M : Type 1} → statement M
 long-line-spec =
-    tie.close (tie.spec slice-aggregate-hand-line hand-line-requires same-length returns)
+    tie.close (tie.spec slice-aggregate-hand-line hand-line-requires same-length same-length-2 returns)

@@ -12,7 +12,7 @@ use Rattle.drainage.proofs.measure.measure.Tie as tie
 
 -- Points of the function, each from a later one.
 abbrev start : tie.After-sizes → tie.Start
-start c = c .before .before .before .before .before .before
+start c = c .before .before .before .before .before .before .before
 
 abbrev after-sizes : tie.After-areas → tie.After-sizes
 after-sizes c = c .before .before .before .before .before .before .before
@@ -26,9 +26,10 @@ areas-requires c κs =
     let e = c .before .before .before .before .before .before .sizes .ensures in (
       p .0,
       rw (e .0) (drained-same (with-sizes-same _ _ _ (p .1 .searched .upstream .queue .room)) (p .1)),
+      p .2,
       omega (
         arith,
-        p .2,
+        p .3,
         c .before .before .before .before .before .before .sizes .kept .1 .1 .1 .1 .1 .0,
       ),
     )
@@ -45,7 +46,7 @@ returns c =
     let G = grid (a .rows) (a .cols) (a .dirs .now) in
     let e = (after-sizes (c .before .before)) .sizes .ensures in (
       e .0,
-      λ S s. (rw (e .1) at (c .before .before .areas .ensures S s))
+      λ S s w. (rw (e .1) at (c .before .before .areas .ensures S s w))
           ∙ written-over (areasOf S) (sizesOf G) (a .lent-areas .now)
           (sizes-long G ∙ ap cells (sym s) ∙ sym (areas-long S)),
     )

@@ -1,6 +1,7 @@
 -- `sizes` meets its contract.
 use mathlib.Core.Path.{_≡_, sym, _∙_, ap}
 use Prim.Native.Nat.{_*_, _-_}
+use native.Mathlib.Omega.{arith}
 use lib.ListN.{length}
 use borrow.Rule.Slice.PartMut.{putMid}
 use Rattle.sheet.specs.Sheet.{grid}
@@ -15,39 +16,39 @@ use Rattle.drainage.proofs.measure.sizes.Statement.{statement}
 use Rattle.drainage.proofs.measure.sizes.Tie as tie
 
 -- Points of the function, each from a later one.
-abbrev start : tie.After-own-counts → tie.Start
+abbrev start : tie.After-own-values → tie.Start
 start c = c .before .before .before .before .before
 
-abbrev after-own-counts : tie.After-gather → tie.After-own-counts
-after-own-counts c = c .before .before .before .before .before
+abbrev after-own-values : tie.After-gather → tie.After-own-values
+after-own-values c = c .before .before .before .before .before
 
 mul-n : tie.Need-mul-n
 mul-n c = search needs
 
-own-counts-requires : tie.Need-own-counts-requires
-own-counts-requires c κs = search needs
+own-values-requires : tie.Need-own-values-requires
+own-values-requires c κs = search needs
 
 -- the own counts
-own : (c : tie.After-own-counts)
+own : (c : tie.After-own-values)
     → let a =
-    c .before .before .before .before .before .args in c .own-counts .last .1 .1 .0 ≡ filled
+    c .before .before .before .before .before .args in c .own-values .last .1 .1 .1 .0 ≡ filled
     (ownValues (a .dirs .now) ones) (a .rows * a .cols) (a .areas .now)
-own c = c .own-counts .ensures ∙ sym (filled-written _ _ _)
+own c = c .own-values .ensures ∙ sym (filled-written _ _ _)
 
 gather-requires : tie.Need-gather-requires
 gather-requires c κs =
     let p = (start (c .before .before .before .before)) .pre in
     rw (own (c .before .before .before .before))
-    (own-gathers (p .1) _ (cells-most (p .0 .rows-most) (p .0 .cols-most)) (p .2))
+    (own-gathers (p .1) ones _ (λ c l. omega arith) (cells-most (p .0 .rows-most) (p .0 .cols-most)) (p .2))
 
 -- the sizes
 gathered : (c : tie.After-gather)
     → let a =
-    (start (after-own-counts c)) .args in c .gather .last .1 .1 .1 .0 ≡ written
+    (start (after-own-values c)) .args in c .gather .last .1 .1 .1 .0 ≡ written
     (sizesOf (grid (a .rows) (a .cols) (a .dirs .now))) (a .areas .now)
 gathered c =
     (rw (own (c .before .before .before .before .before)) at (c .gather .ensures)) ∙ sizes-written
-    ((start (after-own-counts c)) .pre .1) _
+    ((start (after-own-values c)) .pre .1) _
 
 mul-from : tie.Need-mul-from
 mul-from c = search needs
@@ -75,13 +76,13 @@ same-length-2 c = search needs
 
 returns : tie.Need-returns
 returns c =
-    let a = (start (after-own-counts (c .before .before .before .before .before .before .before))) .args in
+    let a = (start (after-own-values (c .before .before .before .before .before .before .before))) .args in
     let G = grid (a .rows) (a .cols) (a .dirs .now) in
     let n = a .rows * a .cols in (
       ap (putMid (sizesPart * n) (length (a .work .now) - sizesPart * n) (a .work .now))
           (c .before .before .copy .ensures)
           ∙ sizes-put n (a .work .now) (sizesOf G) _ (a .areas .now)
-          ((start (after-own-counts (c .before .before .before .before .before .before .before))) .pre .1 .searched .upstream .queue .room) (sizes-long G) (gathered (c .before .before .before .before .before .before .before)),
+          ((start (after-own-values (c .before .before .before .before .before .before .before))) .pre .1 .searched .upstream .queue .room) (sizes-long G) (gathered (c .before .before .before .before .before .before .before)),
       gathered (c .before .before .before .before .before .before .before),
     )
 
@@ -90,7 +91,7 @@ sizes-spec =
     tie.close
     (tie.spec
     mul-n
-    own-counts-requires
+    own-values-requires
     gather-requires
     mul-from
     mul-copy

@@ -31,6 +31,12 @@ enum-told-3 c = search needs
 enum-told-4 : tie.Need-enum-told-4
 enum-told-4 c = search needs
 
+enum-told-5 : tie.Need-enum-told-5
+enum-told-5 c = search needs
+
+enum-told-6 : tie.Need-enum-told-6
+enum-told-6 c = search needs
+
 enum-known-stage : tie.Need-enum-known-stage
 enum-known-stage c = search needs
 
@@ -53,6 +59,14 @@ returns-4 : tie.Need-returns-4
 unfolding intakeIndexed intakeLent intakeIndexAfter
 returns-4 c = rw (c .enum-told4 .given .1) (refl, (refl, (refl, refl)))
 
+returns-5 : tie.Need-returns-5
+unfolding intakeIndexed intakeLent intakeIndexAfter
+returns-5 c = rw (c .enum-told5 .given .1) (refl, (refl, (refl, refl)))
+
+returns-6 : tie.Need-returns-6
+unfolding intakeIndexed intakeLent intakeIndexAfter
+returns-6 c = rw (c .enum-told6 .given .1) (refl, (refl, (refl, refl)))
+
 same-length : tie.Need-same-length
 same-length c = search needs
 
@@ -71,9 +85,9 @@ same-length-5 c = search needs
 same-length-6 : tie.Need-same-length-6
 same-length-6 c = search needs
 
-returns-5 : tie.Need-returns-5
+returns-7 : tie.Need-returns-7
 unfolding intakeIndexed intakeLent intakeIndexAfter
-returns-5 c =
+returns-7 c =
     let i = after-index (after-work c) in rw ((after-stage (i .before)) .stage .given .1) (i .index .ensures)
 
 pub index-intake-spec : {M : Type 1} → statement M
@@ -84,16 +98,20 @@ index-intake-spec =
     enum-told-2
     enum-told-3
     enum-told-4
+    enum-told-5
+    enum-told-6
     enum-known-stage
     index-requires
     returns
     returns-2
     returns-3
     returns-4
+    returns-5
+    returns-6
     same-length
     same-length-2
     same-length-3
     same-length-4
     same-length-5
     same-length-6
-    returns-5)
+    returns-7)

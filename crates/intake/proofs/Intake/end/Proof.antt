@@ -28,17 +28,29 @@ enum-told-3 c = search needs
 answer-requires-3 : tie.Need-answer-requires-3
 answer-requires-3 c κs = search needs
 
-enum-known-stage : tie.Need-enum-known-stage
-enum-known-stage c = search needs
+enum-told-4 : tie.Need-enum-told-4
+enum-told-4 c = search needs
 
 answer-requires-4 : tie.Need-answer-requires-4
 answer-requires-4 c κs = search needs
 
-enum-told-4 : tie.Need-enum-told-4
-enum-told-4 c = search needs
+enum-told-5 : tie.Need-enum-told-5
+enum-told-5 c = search needs
 
 answer-requires-5 : tie.Need-answer-requires-5
 answer-requires-5 c κs = search needs
+
+enum-known-stage : tie.Need-enum-known-stage
+enum-known-stage c = search needs
+
+answer-requires-6 : tie.Need-answer-requires-6
+answer-requires-6 c κs = search needs
+
+enum-told-6 : tie.Need-enum-told-6
+enum-told-6 c = search needs
+
+answer-requires-7 : tie.Need-answer-requires-7
+answer-requires-7 c κs = search needs
 
 returns : tie.Need-returns
 unfolding endTaken
@@ -54,11 +66,19 @@ returns-3 c = with-values values (simp (c .before .enum-told3 .given .1, c .answ
 
 returns-4 : tie.Need-returns-4
 unfolding endTaken
-returns-4 c = with-values values (simp (c .before .before .stage .given .1, c .answer4 .ensures))
+returns-4 c = with-values values (simp (c .before .enum-told4 .given .1, c .answer4 .ensures))
 
 returns-5 : tie.Need-returns-5
 unfolding endTaken
-returns-5 c = with-values values (simp (c .before .enum-told4 .given .1, c .answer5 .ensures))
+returns-5 c = with-values values (simp (c .before .enum-told5 .given .1, c .answer5 .ensures))
+
+returns-6 : tie.Need-returns-6
+unfolding endTaken
+returns-6 c = with-values values (simp (c .before .before .stage .given .1, c .answer6 .ensures))
+
+returns-7 : tie.Need-returns-7
+unfolding endTaken
+returns-7 c = with-values values (simp (c .before .enum-told6 .given .1, c .answer7 .ensures))
 
 pub end-spec : {M : Type 1} → statement M
 end-spec =
@@ -70,12 +90,18 @@ end-spec =
     answer-requires-2
     enum-told-3
     answer-requires-3
-    enum-known-stage
-    answer-requires-4
     enum-told-4
+    answer-requires-4
+    enum-told-5
     answer-requires-5
+    enum-known-stage
+    answer-requires-6
+    enum-told-6
+    answer-requires-7
     returns
     returns-2
     returns-3
     returns-4
-    returns-5)
+    returns-5
+    returns-6
+    returns-7)

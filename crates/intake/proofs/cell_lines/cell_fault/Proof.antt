@@ -2,11 +2,10 @@
 use native.Mathlib.Omega.{arith}
 use mathlib.Core.Path.{_≡_, sym}
 use mathlib.Core.Bool.{true}
-use lib.ListN.{length}
 use borrow.Author.Needs.{needs}
 use borrow.Author.Tests.{eq-eqb, ne-eqb}
 use Rattle.intake.specs.Faults.{onSheet, cellFault}
-use Rattle.intake.proofs.FaultLaws.{Placed, sizes-fit, on-sheet-placed}
+use Rattle.intake.proofs.FaultLaws.{Placed, on-sheet-placed}
 use Rattle.intake.proofs.cell_lines.cell_fault.Statement.{statement}
 use Rattle.intake.proofs.cell_lines.cell_fault.Tie as tie
 
@@ -18,11 +17,11 @@ is-dir-requires c κs = search needs
 
 -- where both tests are passed, the cell's byte is lent
 placed : (c : tie.Then2)
-    → let a = c .before .before .before .before .before .args in Placed (a .sizes) (a .cell) (length (a .dirs .now))
+    → let a = c .before .before .before .before .before .args in Placed (a .sizes) (a .cell) (a .dirs .now)
 placed c =
     let a = c .before .before .before .before .before .args in
     let on : onSheet (a .sizes) (a .cell) ≡ true = cc in
-    on-sheet-placed _ _ _ (sizes-fit _ _ (c .before .before .before .before .before .pre)) on
+    on-sheet-placed _ _ _ (c .before .before .before .before .before .pre) on
 
 mul-if3 : tie.Need-mul-if3
 mul-if3 c = let p = placed (c .before .before) in omega (arith, p .number-small)

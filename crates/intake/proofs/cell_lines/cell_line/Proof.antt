@@ -20,6 +20,7 @@ answer-requires c κs = search needs
 returns : tie.Need-returns
 unfolding onCells
 returns c =
+    λ weights.
     simp (sym (c .before .before .before .read-values .ensures .0) ∙ c .before .enum-told .given .1, c .answer .ensures)
 
 take-cell-requires : tie.Need-take-cell-requires
@@ -30,10 +31,10 @@ same-length c = search needs
 
 returns-2 : tie.Need-returns-2
 returns-2 c =
-    simp (
+    λ weights. simp (
       sym (c .before .before .before .before .before .before .before .read-values .ensures .0)
           ∙ c .before .before .before .before .before .values .given .1,
-      c .before .before .take-cell .ensures,
+      c .before .before .take-cell .ensures weights,
     )
 
 pub cell-line-spec : {M : Type 1} → statement M

@@ -30,7 +30,8 @@ returns c =
     let none = sym
     (c .before .before .before .before .before .before .cell-fault .ensures)
     ∙ c .before .before .before .before .before .if1 .taken in
-    simp (c .answer .ensures, c .before .before .before .write-cell .ensures) (sym (cell-accepted _ _ _ _ in-line none))
+    let wrote = c .before .before .before .write-cell .ensures in
+    λ weights. simp (c .answer .ensures, wrote weights) (sym (cell-accepted _ _ _ _ in-line none))
 
 answer-requires-2 : tie.Need-answer-requires-2
 answer-requires-2 c κs = search needs
@@ -42,7 +43,8 @@ returns-2 : tie.Need-returns-2
 returns-2 c =
     let in-line = c .before .before .before .before .cell-in .ensures in
     let fault = c .before .before .cell-fault .ensures in
-    simp (c .answer2 .ensures, fault) (sym (cell-refused _ _ _ _ in-line (λ e. c .before .if1 .left (fault ∙ e))))
+    λ weights. simp (c .answer2 .ensures, fault)
+    (sym (cell-refused _ _ _ _ in-line (λ e. c .before .if1 .left (fault ∙ e))))
 
 pub take-cell-spec : {M : Type 1} → statement M
 take-cell-spec =

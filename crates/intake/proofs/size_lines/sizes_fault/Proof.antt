@@ -1,12 +1,6 @@
 -- `sizes_fault` meets its contract.
-use native.Mathlib.Omega.{arith}
-use mathlib.Core.Path.{_≡_, sym}
-use mathlib.Core.Bool.{true}
+use mathlib.Core.Path.{sym, _∙_}
 use borrow.Author.Needs.{needs}
-use borrow.Author.Tests.{le-leb, lt-leb}
-use Rattle.sheet.specs.Refusal.{sizesFit}
-use Rattle.sheet.proofs.Cells.{cells-most}
-use Rattle.sheet.proofs.Within.{rows-cols-most}
 use Rattle.intake.specs.Faults.{sizesFault}
 use Rattle.intake.proofs.size_lines.sizes_fault.Statement.{statement}
 use Rattle.intake.proofs.size_lines.sizes_fault.Tie as tie
@@ -17,13 +11,8 @@ sizes-fit-requires c κs = search needs
 depth-fits-requires : tie.Need-depth-fits-requires
 depth-fits-requires c κs = search needs
 
-mul-if3 : tie.Need-mul-if3
-mul-if3 c =
-    let t = c .before in
-    let z = t .before .before .before .before .args .sizes in
-    let fit : sizesFit (z .rows) (z .cols) ≡ true = cc in
-    let most = rows-cols-most _ _ fit in
-    omega (arith, cells-most (most .0) (most .1))
+lent-enough-requires : tie.Need-lent-enough-requires
+lent-enough-requires c κs = sym (c .before .before .before .sizes-fit .ensures) ∙ c .before .if1 .taken
 
 returns : tie.Need-returns
 unfolding sizesFault
@@ -34,7 +23,7 @@ returns c =
       sym (t .before .before .depth-fits .ensures),
       t .before .if1 .taken,
       t .if2 .taken,
-      le-leb _ _ (c .if3 .taken),
+      sym (c .before .lent-enough .ensures) ∙ c .if3 .taken,
     )
 
 returns-2 : tie.Need-returns-2
@@ -46,7 +35,7 @@ returns-2 c =
       sym (t .before .before .depth-fits .ensures),
       t .before .if1 .taken,
       t .if2 .taken,
-      lt-leb _ _ (c .if3 .left),
+      sym (c .before .lent-enough .ensures) ∙ c .if3 .left,
     )
 
 returns-3 : tie.Need-returns-3
@@ -66,4 +55,4 @@ returns-4 c = simp (sym (c .before .before .sizes-fit .ensures), sym (c .before 
 pub sizes-fault-spec : {M : Type 1} → statement M
 sizes-fault-spec =
     tie.close
-    (tie.spec sizes-fit-requires depth-fits-requires mul-if3 returns returns-2 returns-3 returns-4)
+    (tie.spec sizes-fit-requires depth-fits-requires lent-enough-requires returns returns-2 returns-3 returns-4)

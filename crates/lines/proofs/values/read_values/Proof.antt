@@ -9,13 +9,13 @@ use Rattle.lines.proofs.values.read_values.Statement.{statement}
 use Rattle.lines.proofs.values.read_values.Tie as tie
 
 returns : tie.Need-returns
-returns c = with-values lineValues (sym (values-long _ (omega arith)))
+returns c = with-values lineValues (sym (values-long _ _ (omega arith)))
 
 values-in-requires : tie.Need-values-in-requires
 values-in-requires c κs = search needs
 
 returns-2 : tie.Need-returns-2
-returns-2 c = with-values lineValues (c .values-in .ensures ∙ sym (values-fit _ (omega arith)))
+returns-2 c = with-values lineValues (c .values-in .ensures ∙ sym (values-fit _ _ (omega arith)))
 
 pub read-values-spec : {M : Type 1} → statement M
 read-values-spec = tie.close (tie.spec returns values-in-requires returns-2)

@@ -14,9 +14,12 @@ end-read-requires c κs = search needs
 same-length : tie.Need-same-length
 same-length c = search needs
 
+same-length-2 : tie.Need-same-length-2
+same-length-2 c = search needs
+
 returns : tie.Need-returns
 unfolding finished
-returns c = promises (rw (← c .before .before .before .last-line .ensures, c .end-read .ensures))
+returns c = promises (rw (← c .before .before .before .before .before .last-line .ensures, c .end-read .ensures))
 
 pub finish-spec : {M : Type 1} → statement M
-finish-spec = tie.close (tie.spec last-line-requires end-read-requires same-length returns)
+finish-spec = tie.close (tie.spec last-line-requires end-read-requires same-length same-length-2 returns)

@@ -1,0 +1,65 @@
+/* Times the calls of an older library beside those of this one, on the same sheets in one run, and prints the
+   ratios. */
+#include <stdint.h>
+#include <stdio.h>
+#include <stdlib.h>
+#include <string.h>
+#include "old.h"
+#include "pfafstetter.h"
+#include "sheets.h"
+
+static uint32_t new_areas[CELLS];
+static uint64_t new_labels[CELLS];
+
+static uint64_t new_label(int side, int depth) {
+    size_t n = (size_t)side * side;
+    return pf_label(side, side, depth, dirs, n, weights, side, areas, n, labels, n, work, 8 * n);
+}
+
+static uint64_t new_index(int side, int depth) {
+    size_t n = (size_t)side * side;
+    return pf_index(side, side, depth, dirs, n, weights, side, areas, n, labels, n, work, 8 * n, units, n, outlets, n,
+                    counts, n);
+}
+
+/* Do both calls give the same answer, areas and labels? */
+static int same_results(call_of new_call, call_of old_call, int side, int depth) {
+    uint64_t answer = new_call(side, depth);
+    memcpy(new_areas, areas, sizeof areas), memcpy(new_labels, labels, sizeof labels);
+    memset(areas, 0, sizeof areas), memset(labels, 0, sizeof labels);
+    size_t n = (size_t)side * side;
+    return old_call(side, depth) == answer && memcmp(areas, new_areas, n * sizeof areas[0]) == 0
+           && memcmp(labels, new_labels, n * sizeof labels[0]) == 0;
+}
+
+/* Prints both times of a call for the sheet that was made last, and gives new / old. */
+static double ratio_of(call_of new_call, call_of old_call, const char *name, const char *shape, int side, int depth) {
+    double p, q;
+    if (!same_results(new_call, old_call, side, depth)) {
+        printf("%s, %s, %d x %d, depth %d: the results differ\n", name, shape, side, side, depth);
+        exit(1);
+    }
+    least_times(new_call, old_call, side, depth, &p, &q);
+    printf("%-8s  %-6s  %3d x %-3d  depth %2d  old %7.3f  new %7.3f  new / old %.2f\n", name, shape, side, side, depth,
+           q * 1e3, p * 1e3, p / q);
+    return p / q;
+}
+
+int main(void) {
+    static const int sides[] = {64, 256}, depths[] = {1, 3, 18};
+    double worst = 0, ratio;
+    weights_of_1();
+    printf("milliseconds of a call, weights 1\n");
+    for (size_t s = 0; s < SHAPES; s++)
+        for (size_t i = 0; i < 2; i++) {
+            shapes[s].make(sides[i]);
+            for (size_t d = 0; d < 3; d++) {
+                ratio = ratio_of(new_label, old_label, "pf_label", shapes[s].name, sides[i], depths[d]);
+                if (ratio > worst) worst = ratio;
+            }
+            ratio = ratio_of(new_index, old_index, "pf_index", shapes[s].name, sides[i], 18);
+            if (ratio > worst) worst = ratio;
+        }
+    printf("largest new / old %.2f\n", worst);
+    return 0;
+}

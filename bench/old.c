@@ -1,0 +1,24 @@
+/* Calls of an older library, whose names bench/compare has changed. This is compiled with that library's own header,
+   and with OLD_WEIGHTS if its calls take weights. */
+#define pf_label old_pf_label
+#define pf_index old_pf_index
+#include "pfafstetter.h"
+#include "old.h"
+#include "sheets.h"
+
+#ifdef OLD_WEIGHTS
+#define LENT_WEIGHTS weights, (size_t)side,
+#else
+#define LENT_WEIGHTS
+#endif
+
+uint64_t old_label(int side, int depth) {
+    size_t n = (size_t)side * side;
+    return pf_label(side, side, depth, dirs, n, LENT_WEIGHTS areas, n, labels, n, work, 8 * n);
+}
+
+uint64_t old_index(int side, int depth) {
+    size_t n = (size_t)side * side;
+    return pf_index(side, side, depth, dirs, n, LENT_WEIGHTS areas, n, labels, n, work, 8 * n, units, n, outlets, n,
+                    counts, n);
+}

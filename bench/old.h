@@ -1,0 +1,7 @@
+/* Calls of an older library on the sheet that was made last. */
+#ifndef OLD_H
+#define OLD_H
+#include <stdint.h>
+uint64_t old_label(int side, int depth);
+uint64_t old_index(int side, int depth);
+#endif

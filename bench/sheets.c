@@ -1,0 +1,98 @@
+/* The sheets of the benchmark, and how calls on them are timed. */
+#include <string.h>
+#include <time.h>
+#include "sheets.h"
+
+enum { EAST = 1, WEST = 16, NORTHWEST = 32, NORTH = 64, MAX_WEIGHT = 1000 };
+
+uint8_t dirs[CELLS];
+uint16_t weights[SIDE];
+uint32_t areas[CELLS], work[8 * CELLS], outlets[CELLS], counts[CELLS];
+uint64_t labels[CELLS], units[CELLS];
+
+static uint64_t seed = 88172645463325252ull;
+
+static uint32_t below(uint32_t n) {
+    seed ^= seed << 13, seed ^= seed >> 7, seed ^= seed << 17;
+    return (uint32_t)(seed % n);
+}
+
+/* One river through all cells, row by row, to and fro; its outlet is cell 0. */
+static void snake(int side) {
+    for (int row = 0; row < side; row++)
+        for (int col = 0; col < side; col++) {
+            int first = row % 2 == 0 ? col == 0 : col == side - 1;
+            dirs[row * side + col] = first ? NORTH : row % 2 == 0 ? WEST : EAST;
+        }
+}
+
+/* A river along row 0 with one tributary from each column. */
+static void comb(int side) {
+    for (int row = 0; row < side; row++)
+        for (int col = 0; col < side; col++) dirs[row * side + col] = row == 0 ? WEST : NORTH;
+}
+
+/* Each cell flows west, northwest or north, by chance, to the outlet at cell 0. */
+static void tree(int side) {
+    static const uint8_t codes[3] = {WEST, NORTHWEST, NORTH};
+    for (int row = 0; row < side; row++)
+        for (int col = 0; col < side; col++)
+            dirs[row * side + col] = row == 0 ? WEST : col == 0 ? NORTH : codes[below(3)];
+}
+
+/* Grown from the outlet: a cell beside the basin, by chance, joins it through a neighbour, by chance. */
+static void random_basin(int side) {
+    static const int row_step[8] = {0, 1, 1, 1, 0, -1, -1, -1}, col_step[8] = {1, 1, 0, -1, -1, -1, 0, 1};
+    static uint32_t border[CELLS * 8];
+    size_t count = 0;
+    memset(dirs, 0, (size_t)side * side);
+    dirs[0] = WEST;
+    border[count++] = 0;
+    while (count > 0) {
+        size_t at = below((uint32_t)count);
+        uint32_t cell = border[at];
+        int row = (int)cell / side, col = (int)cell % side, free_count = 0, free_steps[8];
+        for (int k = 0; k < 8; k++) {
+            int r = row - row_step[k], c = col - col_step[k];
+            if (r >= 0 && c >= 0 && r < side && c < side && dirs[r * side + c] == 0) free_steps[free_count++] = k;
+        }
+        if (free_count == 0) { border[at] = border[--count]; continue; }
+        int k = free_steps[below((uint32_t)free_count)];
+        uint32_t joined = (uint32_t)((row - row_step[k]) * side + col - col_step[k]);
+        dirs[joined] = (uint8_t)(1 << k);
+        border[count++] = joined;
+    }
+}
+
+const struct shape shapes[SHAPES] = {{"comb", comb}, {"tree", tree}, {"snake", snake}, {"random", random_basin}};
+
+void weights_of_1(void) {
+    for (int row = 0; row < SIDE; row++) weights[row] = 1;
+}
+
+void weights_by_chance(void) {
+    for (int row = 0; row < SIDE; row++) weights[row] = (uint16_t)(1 + below(MAX_WEIGHT));
+}
+
+static double now(void) {
+    struct timespec t;
+    clock_gettime(CLOCK_MONOTONIC, &t);
+    return (double)t.tv_sec + 1e-9 * (double)t.tv_nsec;
+}
+
+/* The time of one call, in seconds, over several: more on a small sheet. */
+static double time_of(call_of call, int side, int depth) {
+    int calls = 2 * (SIDE / side) * (SIDE / side);
+    double start = now();
+    for (int i = 0; i < calls; i++) call(side, depth);
+    return (now() - start) / calls;
+}
+
+void least_times(call_of first, call_of second, int side, int depth, double *p, double *q) {
+    *p = *q = 1e9;
+    for (int round = 0; round < 50; round++) {
+        int is_first = round % 4 == 0 || round % 4 == 3; /* first, second, second, first */
+        double time = time_of(is_first ? first : second, side, depth), *least = is_first ? p : q;
+        if (time < *least) *least = time;
+    }
+}

@@ -1,0 +1,48 @@
+-- What lines do to the weights: statements about lineAfter.
+use mathlib.Core.Path.{_≡_}
+use mathlib.Core.Bool.{Bool, true, false}
+use mathlib.Core.List.{List}
+use Prim.Native.Nat.{ℕ}
+use lib.ListN.{length, getD}
+use Rattle.lines.specs.declared.values.Values.{Values}
+use Rattle.lines.specs.declared.values.ValuesLine.the-variants.{Values as Valued}
+use Rattle.lines.specs.Columns.{weightCount}
+use Rattle.lines.specs.Values.{valuesLine}
+use Rattle.sheet.specs.Refusal.{weightFits}
+use Rattle.intake.specs.declared.Sizes.{Sizes}
+use Rattle.intake.specs.declared.Stage.{Stage}
+use Rattle.intake.specs.declared.Stage.the-variants.{WaitingForSizeNames, WaitingForSizes}
+use Rattle.intake.specs.declared.Stage.the-variants.{WaitingForWeightOrCellNames, WaitingForWeight}
+use Rattle.intake.specs.declared.Stage.the-variants.{WaitingForCellNames, TakingCells, Ended}
+use Rattle.intake.specs.declared.Intake.{Intake}
+use Rattle.intake.specs.declared.TakenOutcome.the-variants.{Accepted}
+use Rattle.intake.specs.Intake.{LentSheet, lineAfter}
+
+-- what an accepted weight line leaves: its row's weight is its value, from 1 to 1000, and all else is as it was
+pub record OwnWeight (row : ℕ) (line : List ℕ) (lent new : LentSheet) : Type 0 where
+  pub values : Values
+  pub line-is : valuesLine weightCount line ≡ Valued values
+  pub fits : weightFits (values .first) ≡ true
+  pub own : getD (new .weights) row 0 ≡ values .first
+  pub others : (other : ℕ) → (other ≡ row → ⊥) → getD (new .weights) other 0 ≡ getD (lent .weights) other 0
+  pub as-long : length (new .weights) ≡ length (lent .weights)
+  pub dirs-kept : new .dirs ≡ lent .dirs
+
+-- the stages that take sizes, or a weight
+abbrev pub writesWeights : Stage → Bool
+writesWeights WaitingForSizeNames = false
+writesWeights (WaitingForSizes c) = true
+writesWeights (WaitingForWeightOrCellNames z) = false
+writesWeights (WaitingForWeight z row) = true
+writesWeights (WaitingForCellNames z) = false
+writesWeights (TakingCells z c) = false
+writesWeights (Ended z) = false
+
+pub record WeightsAfter : Type 0 where
+  -- an accepted weight line sets its own row's weight and nothing else
+  pub own-row : (z : Sizes) (row : ℕ) (line : List ℕ) (lent : LentSheet)
+      → lineAfter (record { stage = WaitingForWeight z row }) line lent .taken .outcome ≡ Accepted
+      → OwnWeight row line lent (lineAfter (record { stage = WaitingForWeight z row }) line lent .lent)
+  -- no line but those of sizes and of weights touches a weight
+  pub no-other : (i : Intake) (line : List ℕ) (lent : LentSheet) → writesWeights (i .stage) ≡ false
+      → lineAfter i line lent .lent .weights ≡ lent .weights

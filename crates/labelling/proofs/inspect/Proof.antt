@@ -1,0 +1,32 @@
+-- `inspect` meets its contract: by whether the weights fit.
+use mathlib.Core.Path.{sym, _∙_}
+use borrow.Author.Needs.{needs}
+use Rattle.labelling.specs.Labelling.{sheet}
+use Rattle.labelling.proofs.Steps.{inspected, refused-17}
+use Rattle.labelling.proofs.inspect.Statement.{statement}
+use Rattle.labelling.proofs.inspect.Tie as tie
+use Rattle.labelling.proofs.inspect.Reads as reads
+use Rattle.labelling.proofs.inspect.Lts as lts
+use Rattle.checks.proofs.weights_fit.Reads as weights-fit-reads
+use Rattle.drainage.proofs.inspect.inspect.Reads as inspect-reads
+
+weights-fit-requires : tie.Need-weights-fit-requires
+weights-fit-requires c κs = search needs
+
+inspect-requires : tie.Need-inspect-requires
+inspect-requires c κs = search needs
+
+same-length : tie.Need-same-length
+same-length c = search needs
+
+returns : tie.Need-returns
+returns c depth =
+    let w = c .before .before .before .before .before in
+    inspected (sheet _ _ depth _ _) (sym (w .weights-fit .ensures) ∙ c .before .before .before .before .if1 .taken)
+    (c .before .before .inspect .ensures)
+
+returns-2 : tie.Need-returns-2
+returns-2 c depth = refused-17 (sheet _ _ depth _ _) (sym (c .before .weights-fit .ensures) ∙ c .if1 .left)
+
+pub inspect-spec : {M : Type 1} → statement M
+inspect-spec = tie.close (tie.spec weights-fit-requires inspect-requires same-length returns returns-2)

@@ -76,7 +76,7 @@ SHEETS = [
     ('no weights lent', 3, 4, 2, SAMPLE_A, [], 12, 12, 96, 3, 0),
     ('one weight too few', 3, 4, 2, SAMPLE_A, [1, 1], 12, 12, 96, 3, 0),
     ('one weight a row', 3, 4, 2, SAMPLE_A, [1, 1, 1], 12, 12, 96, 0, 0),
-    ('no weights past the rows', 3, 4, 2, SAMPLE_A, [1, 1000, 1, 0, 65535], 12, 12, 96, 0, 0),
+    ('bad weights past the rows', 3, 4, 2, SAMPLE_A, [1, 1000, 1, 0, 65535], 12, 12, 96, 0, 0),
     ('weight 0 in the first row', 3, 4, 2, SAMPLE_A, [0, 1, 1], 12, 12, 96, 17, 0),
     ('weight 1001 in a middle row', 3, 4, 2, SAMPLE_A, [1, 1001, 1], 12, 12, 96, 17, 0),
     ('weight 65535 in the last row', 3, 4, 2, SAMPLE_A, [1, 1, 65535], 12, 12, 96, 17, 0),

@@ -1,5 +1,5 @@
-// The tests of checks 1, 2, 17 and 4 to 7: sizes, depth, weights, and the first cell in reading order that a check looks
-// for.
+// The tests of checks 1, 2, 17 and 4 to 7: sizes, depth, weights, and the first cell in reading order that a check
+// looks for.
 pub mod codes;
 
 use sheet::Found;

@@ -40,7 +40,7 @@ unfoldable pub sum : (ℕ → ℕ) → List ℕ → ℕ
 sum f [] = 0
 sum f (u ∷ us) = f u + sum f us
 
--- "it can reach 65,536,000"
+-- 256 × 256 × 1000: no area is larger. The sheet of 256 by 256 inside cells, each of weight 1000, has it at its outlet
 abbrev pub mostArea : ℕ
 mostArea = 65536000
 

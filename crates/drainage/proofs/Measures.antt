@@ -14,7 +14,7 @@ use Rattle.sheet.specs.declared.Next.{Next}
 use Rattle.sheet.specs.declared.Next.the-variants.{Outlet, To}
 use Rattle.sheet.specs.Sheet.{Grid, Sheet, cells, dirAt, inside, next}
 use Rattle.sheet.specs.Water.{passes, Passes, here, there}
-use Rattle.sheet.specs.Area.{sumOver, drainsInto, weight, area}
+use Rattle.sheet.specs.Area.{sumOver, drainsInto, rowWeight, weight, area}
 use Rattle.sheet.specs.Label.{listFrom, areasOf}
 use Rattle.sheet.specs.Refusal.{written}
 use Rattle.sheet.proofs.Cells.{inside-is, next-outside, next-to-lt, next-goes}
@@ -22,7 +22,7 @@ use Rattle.claims.proofs.Counts.{not-true}
 use Rattle.claims.proofs.Lawful.{passes-true}
 use Rattle.upstream.specs.Work.{sizesPart, rankOf, numbered, nextOfNumber, withSizes}
 use Rattle.upstream.specs.Search.{Drained}
-use Rattle.drainage.specs.Total.{total, nextIn, valueAt, Gathers, totalsIn, ownValue, ownValues, ones, size, rowWeight}
+use Rattle.drainage.specs.Total.{total, nextIn, valueAt, Gathers, totalsIn, ownValue, ownValues, size}
 use Rattle.drainage.specs.Total.{sizesOf}
 use Rattle.claims.proofs.Sums.{sum-alike, sum-zero, sum-each, count-sum}
 use Rattle.upstream.proofs.Queues.{reached-yes, reached-no}
@@ -58,6 +58,10 @@ module _ {G : Grid} {work : List ℕ} {queued : ℕ} (d : Drained G work queued)
   ]
 
 -- ---- sums of own values
+
+-- the values of a count
+abbrev pub ones : ℕ → ℕ
+ones c = 1
 
 -- the sum of f over the inside cells whose water passes an inside cell; 0 for an outside cell
 unfoldable sumInto : Grid → (ℕ → ℕ) → ℕ → ℕ

@@ -2,7 +2,7 @@
 use mathlib.Core.Path.{_≡_}
 use mathlib.Core.Bool.{Bool, true, cond}
 use mathlib.Core.List.{List}
-use Prim.Native.Nat.{ℕ, zero, suc, _+_, _*_, _/_, _≤_, _<_, _^_}
+use Prim.Native.Nat.{ℕ, zero, suc, _+_, _*_, _≤_, _<_, _^_}
 use lib.Dec.{eqb}
 use lib.ListN.{getD, length, set}
 use Rattle.sheet.specs.declared.Next.{Next}
@@ -58,14 +58,6 @@ ownValue code value = cond (eqb code 0) 0 value
 -- what the cells add by themselves, of values f
 abbrev pub ownValues : List ℕ → (ℕ → ℕ) → ℕ → ℕ
 ownValues dirs f c = ownValue (getD dirs c 0) (f c)
-
--- the values of a count
-abbrev pub ones : ℕ → ℕ
-ones c = 1
-
--- the weight of a cell's row
-abbrev pub rowWeight : ℕ → List ℕ → ℕ → ℕ
-rowWeight cols weights c = getD weights (c / cols) 0
 
 -- a weight for each row, and each fits
 pub record Weighted (rows : ℕ) (weights : List ℕ) : Type 0 where

@@ -6,12 +6,13 @@ ghost use Prim.Native.Nat.{_*_, _≤_};
 ghost use lib.ListN.{length, take, drop};
 ghost use Rattle.sheet.specs.Sheet.{Sheet, grid};
 ghost use Rattle.directions.specs.Sizes.{Sized};
+ghost use Rattle.sheet.specs.Area.{rowWeight};
 ghost use Rattle.sheet.specs.Label.{areasOf, listFrom};
 ghost use Rattle.sheet.specs.Refusal.{written};
 ghost use Rattle.upstream.specs.Work.{positionsPart, receiverOf, withSizes};
 ghost use Rattle.upstream.specs.Search.{Drained};
 ghost use Rattle.drainage.specs.Total.{Gathers, Adds, added, totalsIn, valueAt, ownValue, ownValues};
-ghost use Rattle.drainage.specs.Total.{rowWeight, Weighted, sizesOf};
+ghost use Rattle.drainage.specs.Total.{Weighted, sizesOf};
 
 // What a cell adds by itself: the value inside, 0 outside.
 fn own_value(code: u8, value: u32) -> u32

@@ -29,8 +29,8 @@ use Rattle.intake.specs.declared.TakenOutcome.the-variants.{Accepted}
 use Rattle.intake.specs.Faults.{sizesIn, cellIn, sizesFault, weightFault, cellFault}
 use Rattle.intake.specs.Intake.{LentSheet, After, keep, accept, refuse, unless, sizesWritten, weightWritten}
 use Rattle.intake.specs.Intake.{onSizeNames, onSizes, onCellNames, onWeightOrCellNames, afterWeights, onWeight}
-use Rattle.intake.specs.Intake.{cellWritten, onCells, lineIn, lineAfter, endIn, endTaken}
-use Rattle.intake.specs.Weights.{OwnWeight, writesWeights, WeightsAfter}
+use Rattle.intake.specs.Intake.{cellWritten, onCells, stateFault, lineIn, lineAfter, endIn, endTaken}
+use Rattle.intake.specs.Weights.{OwnWeight, OnesSet, writesWeights, WeightsAfter}
 use Rattle.intake.proofs.FaultLaws.{waits-for-row, weight-good}
 use Rattle.intake.proofs.LineLaws.{unless-none, unless-some, weight-accepted, weight-refused, line-good}
 use Rattle.intake.proofs.LineLaws.{line-fault}
@@ -84,6 +84,30 @@ module _ (z : Sizes) (row : ℕ) (line : List ℕ) (lent : LentSheet) where
       judged zero is = read (valuesLine weightCount line) refl is (line-good _ line lent is)
       judged (suc n) is = absurd (refused-not _ _ _ (line-fault _ line lent (λ none. omega (arith, is, none))) e)
 
+module _ (c : Columns) (line : List ℕ) (lent : LentSheet) where
+  abbrev after-sizes : After
+  after-sizes = lineAfter (record { stage = WaitingForSizes c }) line lent
+
+  sizes-one : after-sizes .taken .outcome ≡ Accepted → OnesSet lent after-sizes
+  unfolding lineIn onSizes sizesWritten stateFault
+  sizes-one e = read (valuesLine columnCount line) (line-good _ line lent refl)
+    where
+      faultIn : Values → ℕ
+      faultIn v = sizesFault (sizesIn c v) (length (lent .dirs)) (length (lent .weights))
+
+      judged : (v : Values) (fault : ℕ) → faultIn v ≡ fault → after-sizes ≡ onSizes c (Valued v) lent
+          → OnesSet lent after-sizes
+      judged v zero is a =
+          subst (λ (b : After). OnesSet lent b) (sym (a ∙ unless-none (WaitingForSizes c) lent _ is))
+          (record { sizes = sizesIn c v; stage-is = refl; weights-are = refl })
+      judged v (suc n) is a =
+          let some : faultIn v ≡ 0 → ⊥ = λ none. omega (arith, is, none) in
+          absurd (refused-not _ _ _ (a ∙ unless-some (WaitingForSizes c) lent _ some) e)
+
+      read : (v : ValuesLine) → after-sizes ≡ onSizes c v lent → OnesSet lent after-sizes
+      read (Valued v) a = judged v (faultIn v) refl a
+      read BadValues a = absurd (refused-not _ _ 8 a e)
+
 -- a test that is not passed writes nothing
 unless-kept : (fault : ℕ) (stage : Stage) (lent : LentSheet) (next : After) → next .lent .weights ≡ lent .weights
     → unless fault stage lent next .lent .weights ≡ lent .weights
@@ -113,6 +137,7 @@ line-in-kept (Ended z) line lent e = refl
 pub weights-after : WeightsAfter
 unfolding lineAfter
 weights-after = record {
+  sizes-one = sizes-one;
   own-row = own-row;
   no-other = λ i line lent e. unless-kept (faultOf (i .stage) lent) (i .stage) lent (lineIn (i .stage) line lent)
       (line-in-kept (i .stage) line lent e);

@@ -88,7 +88,8 @@ cellWritten z x lent =
     lentSheet (set (lent .dirs) (cellNumber (z .cols) (x .row) (x .col)) (x .dir)) (lent .weights)
 
 -- Each stage gives 8 for a line that breaks the file's rules for it. One with a byte 10 breaks those of every stage
--- that takes lines (proofs/BadLines.antt); an ended intake gives 13 for it, as for any line.
+-- that takes lines (proofs/BadLines.antt); an ended intake gives 13 for it, and a state with a fault that fault's
+-- number, as for any line.
 unfoldable pub onSizeNames : NamesLine → Taken
 onSizeNames (Named c) = accepted (WaitingForSizes c)
 onSizeNames BadNames = refused WaitingForSizeNames 8

@@ -31,9 +31,10 @@ pub before-sizes : intakeOutcome (record { stage = WaitingForSizes sizeColumns }
 unfolding intakeOutcome
 before-sizes = refl
 
-pub before-names : intakeOutcome (record { stage = WaitingForWeightOrCellNames sizes }) sheetOne one ≡ Refused 15 0
+pub before-weight-name : intakeOutcome (record { stage = WaitingForWeightOrCellNames sizes }) sheetOne one
+    ≡ Refused 15 0
 unfolding intakeOutcome
-before-names = refl
+before-weight-name = refl
 
 pub before-weight : intakeOutcome (record { stage = WaitingForWeight sizes 0 }) sheetOne one ≡ Refused 15 0
 unfolding intakeOutcome

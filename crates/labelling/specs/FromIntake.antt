@@ -9,7 +9,7 @@ use Rattle.intake.specs.declared.Sizes.{Sizes}
 use Rattle.intake.specs.Intake.{LentSheet, endedSizes}
 use Rattle.labelling.specs.Labelling.{sheet}
 
--- the sheet of an intake's sizes, with the direction bytes and weights that are lent
+-- the sheet of an intake's sizes z, with the direction bytes and weights T that were lent to it
 abbrev pub sheetOf : Sizes → LentSheet → Sheet
 sheetOf z T = sheet (z .rows) (z .cols) (z .depth) (T .dirs) (T .weights)
 

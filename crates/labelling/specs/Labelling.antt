@@ -26,7 +26,8 @@ unfoldable pub checkedFirst : ℕ → ℕ → ℕ → ℕ → ℕ → ℕ → �
 unfolding sizesFit depthFits
 checkedFirst rows cols depth dirs weights areas labels work =
     let n = rows * cols in
-    let fit = both (leb n dirs) (both (leb rows weights) (both (leb n areas) (both (leb n labels) (leb (8 * n) work)))) in
+    let written = both (leb n areas) (both (leb n labels) (leb (8 * n) work)) in
+    let fit = both (leb n dirs) (both (leb rows weights) written) in
     cond (sizesFit rows cols) (cond (depthFits depth) (cond fit Accepted (Refused 3 0)) (Refused 2 0)) (Refused 1 0)
 
 abbrev pub firstChecks : Sheet → Lent → Outcome
@@ -43,12 +44,13 @@ pub record Fitting (S : Sheet) (L : Lent) : Type 0 where
   pub labels : cells (S .grid) ≤ length (L .labels)
   pub work : length (L .work) ≡ 8 * cells (S .grid)
 
--- check 17 and checks 4 to 7: what they answer, and, where they are passed, that the work places hold the search
+-- checks 17 and 4 to 7 are passed, and the work places hold the search
 pub record Inspected (S : Sheet) (work : List ℕ) (queued : ℕ) : Type 0 where
   pub accepted : outcomeFrom17 S ≡ Accepted
   pub drained : Drained (S .grid) work queued
   pub single : SingleOutlet (S .grid) work
 
+-- what these checks answer; where they are passed, the work places hold the search
 pub record InspectedAs (S : Sheet) (work : List ℕ) (r : Inspection) : Type 0 where
   pub outcome : r .outcome ≡ outcomeFrom17 S
   pub passed : r .outcome ≡ Accepted → Inspected S work (r .queued)

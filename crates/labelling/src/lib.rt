@@ -130,7 +130,13 @@ fn write_if_accepted(
 }
 
 // Check 17, then 4 to 7, of a sheet that passed checks 1 to 3.
-fn inspect(rows: usize, cols: usize, dirs: &[u8], weights: &[u16], work: &mut [u32]) -> Inspection
+fn inspect_sheet(
+    rows: usize,
+    cols: usize,
+    dirs: &[u8],
+    weights: &[u16],
+    work: &mut [u32],
+) -> Inspection
     requires { ⌜ Sized rows cols (now dirs) × (rows ≤ length (now weights)) × Unranked (rows * cols) (now work) ⌝ }
     ensures { λ r. ⌜ ((depth : ℕ) → InspectedAs (sheet rows cols depth (now (dirs .entry)) (now (weights .entry)))
         (now (work .exit)) r) ⌝ }
@@ -165,7 +171,7 @@ pub fn label_in_order(
     let ranks = parts::RANKS * n;
     let end = ranks + n;
     clear_places(&mut work[ranks..end]);
-    let found = inspect(rows, cols, dirs, weights, work);
+    let found = inspect_sheet(rows, cols, dirs, weights, work);
     write_if_accepted(found, rows, cols, depth, dirs, weights, areas, labels, work);
     found
 }

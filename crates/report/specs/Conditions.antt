@@ -23,7 +23,8 @@ abbrev pub oneOf : List ℕ → ℕ → Bool
 oneOf [] number = false
 oneOf (n ∷ numbers) number = cond (eqb number n) true (oneOf numbers number)
 
--- those that a line of a file can get, the end, and the sheet (not 17: the weights that accepted lines leave fit)
+-- those that a line of a file can get, the end, and the sheet, at most (the sheet not 17: the weights that accepted
+-- lines leave fit)
 abbrev pub lineNumbers : List ℕ
 lineNumbers = 8 ∷ 1 ∷ 2 ∷ 3 ∷ 17 ∷ 9 ∷ 4 ∷ 10 ∷ []
 

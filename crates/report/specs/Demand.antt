@@ -42,8 +42,8 @@ fileSheet T bytes z = sheetOf z (readFile T bytes .lent)
 abbrev pub sheetListing : Sheet → List ℕ
 sheetListing S = listingText (S .grid) (areasOf S) (labelsOf S)
 
--- what the program lends: 2,048 direction bytes, and a buffer for a heading and 36 bytes a cell, of which an area has
--- up to 8
+-- what the program lends: 2,048 direction bytes (and 256 weights, on which the length of a report does not depend), and
+-- a buffer for a heading and 36 bytes a cell, which is enough for areas of up to 8 digits
 abbrev pub programCells : ℕ
 programCells = 2048
 

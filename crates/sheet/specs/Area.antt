@@ -1,5 +1,6 @@
 -- Document 01's area, with document 02's weights, and its order among cells.
 use mathlib.Core.Bool.{Bool, false, cond}
+use mathlib.Core.List.{List}
 use Prim.Native.Nat.{ℕ, zero, suc, _+_, _/_}
 use lib.Dec.{eqb, ltb}
 use lib.ListN.{getD}
@@ -21,9 +22,13 @@ unfoldable pub drainsInto : Grid → ℕ → ℕ → Bool
 unfolding inside next passes
 drainsInto G c q = cond (inside G q) (passes (next G) (cells G) q c) false
 
+-- the weight of a cell's row, of weights one a row
+abbrev pub rowWeight : ℕ → List ℕ → ℕ → ℕ
+rowWeight cols weights c = getD weights (c / cols) 0
+
 -- a cell's own weight in an area: that of its row
 unfoldable pub weight : Sheet → ℕ → ℕ
-weight S c = getD (S .weights) (c / S .grid .cols) 0
+weight S c = rowWeight (S .grid .cols) (S .weights) c
 
 -- "area" of an inside cell: the sum of the weights of the inside cells, itself included, whose water passes it;
 -- outside cells have area 0

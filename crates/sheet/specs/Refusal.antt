@@ -97,7 +97,7 @@ outcomeOn G =
     (refusedAt 6 (first (undrained G) (cells G))
     (refusedAt 7 (secondOutlet G) Accepted)))
 
--- 17 before them, with place 0
+-- 17, with place 0, then 4 to 7
 unfoldable pub outcomeFrom17 : Sheet → Outcome
 unfolding weightsFit outcomeOn
 outcomeFrom17 S =

@@ -7,7 +7,7 @@ use Rattle.labelling.proofs.label_in_order.Statement.{statement}
 use Rattle.labelling.proofs.label_in_order.Tie as tie
 use Rattle.labelling.proofs.label_in_order.Reads as reads
 use Rattle.labelling.proofs.label_in_order.Lts as lts
-use Rattle.labelling.proofs.inspect.Reads as inspect-reads
+use Rattle.labelling.proofs.inspect_sheet.Reads as inspect-sheet-reads
 use Rattle.labelling.proofs.clear_places.Reads as clear-places-reads
 use Rattle.labelling.proofs.write_if_accepted.Reads as write-if-accepted-reads
 
@@ -15,11 +15,11 @@ use Rattle.labelling.proofs.write_if_accepted.Reads as write-if-accepte
 abbrev start : tie.After-clear-places → tie.Start
 start c = c .before .before .before .before .before .before .before
 
-abbrev after-clear-places : tie.After-inspect → tie.After-clear-places
+abbrev after-clear-places : tie.After-inspect-sheet → tie.After-clear-places
 after-clear-places c = c .before .before .before .before
 
-abbrev after-inspect : tie.After-write-if-accepted → tie.After-inspect
-after-inspect c = c .before .before .before .before .before .before
+abbrev after-inspect-sheet : tie.After-write-if-accepted → tie.After-inspect-sheet
+after-inspect-sheet c = c .before .before .before .before .before .before
 
 mul-n : tie.Need-mul-n
 mul-n c = search needs
@@ -45,8 +45,8 @@ part-clear-places-end c = search needs
 clear-places-requires : tie.Need-clear-places-requires
 clear-places-requires c κs = search needs
 
-inspect-requires : tie.Need-inspect-requires
-inspect-requires c κs =
+inspect-sheet-requires : tie.Need-inspect-sheet-requires
+inspect-sheet-requires c κs =
     let s = (start (c .before .before .before)) in (
       s .pre .sized,
       s .pre .weights,
@@ -60,10 +60,10 @@ write-if-accepted-requires c κs =
     let a = after-clear-places i in
     let s = start a in (
       other-work (s .pre)
-          (i .inspect .kept .1 .1 .1 .1 .0
+          (i .inspect-sheet .kept .1 .1 .1 .1 .0
           ∙ cleared-long (s .args .rows * s .args .cols) (s .args .work .now) (s .pre .work)
           (a .clear-places .ensures)),
-      i .inspect .ensures (s .args .depth) .passed,
+      i .inspect-sheet .ensures (s .args .depth) .passed,
     )
 
 same-length : tie.Need-same-length
@@ -80,7 +80,7 @@ returns c =
     let w = c .before .before .before .before .before .before .write-if-accepted .ensures in
     record {
       outcome =
-          (after-inspect (c .before .before .before .before .before .before)) .inspect .ensures _ .outcome;
+          (after-inspect-sheet (c .before .before .before .before .before .before)) .inspect-sheet .ensures _ .outcome;
       areas = w .0;
       labels = w .1 .0;
       order = w .1 .1;
@@ -98,7 +98,7 @@ label-in-order-spec =
     part-clear-places-start
     part-clear-places-end
     clear-places-requires
-    inspect-requires
+    inspect-sheet-requires
     write-if-accepted-requires
     same-length
     same-length-2

@@ -126,18 +126,15 @@ part-label-basin-end-2 c =
 label-basin-requires : tie.Need-label-basin-requires
 unfolding least split
 label-basin-requires c κs =
-    let p = (start
-    (after-measure (after-arrange (after-clear-labels (c .before .before .before .before .before .before))))) .pre in
-    let a = (start
-    (after-measure (after-arrange (after-clear-labels (c .before .before .before .before .before .before))))) .args in
+    let o = after-arrange (after-clear-labels (c .before .before .before .before .before .before)) in
+    let m = after-measure o in
+    let p = (start m) .pre in
+    let a = (start m) .args in
     let n = a .rows * a .cols in
     let S = sheet (a .rows) (a .cols) (a .depth) (a .dirs .now) (a .weights .now) in
     let accepted = rest-accepted S (p .1) in
-    let e = network-in S (a .areas .now)
-    ((after-measure
-    (after-arrange (after-clear-labels (c .before .before .before .before .before .before)))) .measure .ensures .1 S refl refl) in
-    let r = (after-arrange
-    (after-clear-labels (c .before .before .before .before .before .before))) .arrange .ensures .0 in
+    let e = network-in S (a .areas .now) (m .measure .ensures .1 S refl refl) in
+    let r = o .arrange .ensures .0 in
     rw (part-is (cellsPart * n) (a .queued), part-is (orderedSizesPart * n) (a .queued)) (
       p .0 .depth-most,
       (
@@ -148,9 +145,7 @@ label-basin-requires c κs =
               (omega (
                 arith,
                 p .0 .areas,
-                (after-measure
-                    (after-arrange
-                    (after-clear-labels (c .before .before .before .before .before .before)))) .measure .kept .1 .1 .1 .1 .1 .1 .0,
+                m .measure .kept .1 .1 .1 .1 .1 .1 .0,
               )) (omega (
                 arith,
                 p .0 .labels,

@@ -4,7 +4,8 @@ use Prim.Native.Nat.{_*_}
 use Rattle.sheet.specs.Sheet.{grid}
 use Rattle.sheet.proofs.Cells.{cells-most, row-lt}
 use Rattle.sheet.proofs.Weights.{fits-at, weight-bounds}
-use Rattle.drainage.specs.Total.{ownValues, rowWeight}
+use Rattle.sheet.specs.Area.{rowWeight}
+use Rattle.drainage.specs.Total.{ownValues}
 use Rattle.drainage.proofs.Lists.{filled, filled-written}
 use Rattle.drainage.proofs.Measures.{areas-written, own-gathers}
 use borrow.Author.Needs.{needs}

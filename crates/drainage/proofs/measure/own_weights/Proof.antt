@@ -9,7 +9,8 @@ use lib.Seq.{take-all, getD-drop}
 use borrow.Author.Needs.{needs}
 use borrow.Rule.Slice.PartMut.{putMid}
 use Rattle.sheet.proofs.Cells.{cells-most, cell-row, row-end}
-use Rattle.drainage.specs.Total.{ownValue, ownValues, rowWeight}
+use Rattle.sheet.specs.Area.{rowWeight}
+use Rattle.drainage.specs.Total.{ownValues}
 use Rattle.drainage.proofs.Lists.{filled, filled-none, filled-part, filled-long, filled-written}
 use Rattle.drainage.proofs.measure.own_weights.Statement.{statement}
 use Rattle.drainage.proofs.measure.own_weights.Tie as tie
@@ -107,8 +108,9 @@ row-values : (dirs weights : List ℕ) (row cols : ℕ) (k : ℕ) → k < cols
     → ownValues (take (length dirs - row * cols) (drop (row * cols) dirs)) (λ c. getD weights row 0) k
     ≡ ownValues dirs (rowWeight cols weights) (row * cols + k)
 row-values dirs weights row cols k l =
-    let e = take-all (length dirs - row * cols) (drop (row * cols) dirs) (omega (arith, length-drop (row * cols) dirs)) in
-    rw (e, getD-drop (row * cols) dirs k 0, cell-row row l)
+    let first = row * cols in
+    let e = take-all (length dirs - first) (drop first dirs) (omega (arith, length-drop first dirs)) in
+    rw (e, getD-drop first dirs k 0, cell-row row l)
 
 loop-again : tie.Need-loop-again Inv-loop μ-loop
 loop-again c =
@@ -139,8 +141,8 @@ same-length : tie.Need-same-length Inv-loop μ-loop
 same-length c =
     let a = c .before .before .before .before .before .args in
     ap length (whole c)
-    ∙ filled-long (ownValues (a .dirs .now) (rowWeight (a .cols) (a .weights .now))) (a .rows * a .cols) (a .totals .now)
-    (c .before .before .before .before .before .pre .2)
+    ∙ filled-long (ownValues (a .dirs .now) (rowWeight (a .cols) (a .weights .now))) (a .rows * a .cols)
+    (a .totals .now) (c .before .before .before .before .before .pre .2)
 
 returns : tie.Need-returns Inv-loop μ-loop
 returns c = whole c ∙ filled-written _ _ _

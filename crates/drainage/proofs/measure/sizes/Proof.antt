@@ -8,9 +8,9 @@ use Rattle.sheet.specs.Sheet.{grid}
 use Rattle.sheet.specs.Refusal.{written}
 use Rattle.sheet.proofs.Cells.{cells-most}
 use Rattle.upstream.specs.Work.{sizesPart}
-use Rattle.drainage.specs.Total.{ownValues, ones, sizesOf}
+use Rattle.drainage.specs.Total.{ownValues, sizesOf}
 use Rattle.drainage.proofs.Lists.{filled, filled-written}
-use Rattle.drainage.proofs.Measures.{sizes-long, sizes-written, sizes-put, own-gathers}
+use Rattle.drainage.proofs.Measures.{ones, sizes-long, sizes-written, sizes-put, own-gathers}
 use borrow.Author.Needs.{needs}
 use Rattle.drainage.proofs.measure.sizes.Statement.{statement}
 use Rattle.drainage.proofs.measure.sizes.Tie as tie
@@ -76,14 +76,16 @@ same-length-2 c = search needs
 
 returns : tie.Need-returns
 returns c =
-    let a = (start (after-own-values (c .before .before .before .before .before .before .before))) .args in
+    let g = c .before .before .before .before .before .before .before in
+    let s = start (after-own-values g) in
+    let a = s .args in
     let G = grid (a .rows) (a .cols) (a .dirs .now) in
     let n = a .rows * a .cols in (
       ap (putMid (sizesPart * n) (length (a .work .now) - sizesPart * n) (a .work .now))
           (c .before .before .copy .ensures)
-          ∙ sizes-put n (a .work .now) (sizesOf G) _ (a .areas .now)
-          ((start (after-own-values (c .before .before .before .before .before .before .before))) .pre .1 .searched .upstream .queue .room) (sizes-long G) (gathered (c .before .before .before .before .before .before .before)),
-      gathered (c .before .before .before .before .before .before .before),
+          ∙ sizes-put n (a .work .now) (sizesOf G) _ (a .areas .now) (s .pre .1 .searched .upstream .queue .room)
+          (sizes-long G) (gathered g),
+      gathered g,
     )
 
 pub sizes-spec : {M : Type 1} → statement M

@@ -1,12 +1,12 @@
--- `inspect` meets its contract: by whether the weights fit.
+-- `inspect_sheet` meets its contract: by whether the weights fit.
 use mathlib.Core.Path.{sym, _∙_}
 use borrow.Author.Needs.{needs}
 use Rattle.labelling.specs.Labelling.{sheet}
 use Rattle.labelling.proofs.Steps.{inspected, refused-17}
-use Rattle.labelling.proofs.inspect.Statement.{statement}
-use Rattle.labelling.proofs.inspect.Tie as tie
-use Rattle.labelling.proofs.inspect.Reads as reads
-use Rattle.labelling.proofs.inspect.Lts as lts
+use Rattle.labelling.proofs.inspect_sheet.Statement.{statement}
+use Rattle.labelling.proofs.inspect_sheet.Tie as tie
+use Rattle.labelling.proofs.inspect_sheet.Reads as reads
+use Rattle.labelling.proofs.inspect_sheet.Lts as lts
 use Rattle.checks.proofs.weights_fit.Reads as weights-fit-reads
 use Rattle.drainage.proofs.inspect.inspect.Reads as inspect-reads
 
@@ -28,5 +28,5 @@ returns c depth =
 returns-2 : tie.Need-returns-2
 returns-2 c depth = refused-17 (sheet _ _ depth _ _) (sym (c .before .weights-fit .ensures) ∙ c .if1 .left)
 
-pub inspect-spec : {M : Type 1} → statement M
-inspect-spec = tie.close (tie.spec weights-fit-requires inspect-requires same-length returns returns-2)
+pub inspect-sheet-spec : {M : Type 1} → statement M
+inspect-sheet-spec = tie.close (tie.spec weights-fit-requires inspect-requires same-length returns returns-2)

@@ -90,7 +90,7 @@ static double time_of(call_of call, int side, int depth) {
 
 void least_times(call_of first, call_of second, int side, int depth, double *p, double *q) {
     *p = *q = 1e9;
-    for (int round = 0; round < 50; round++) {
+    for (int round = 0; round < 200; round++) {
         int is_first = round % 4 == 0 || round % 4 == 3; /* first, second, second, first */
         double time = time_of(is_first ? first : second, side, depth), *least = is_first ? p : q;
         if (time < *least) *least = time;

@@ -252,11 +252,30 @@ def intake_weight_checks():
         yield 'intake: an end, waiting for row %d' % row, take_end(outside), (14, outside)
 
 
+def intake_withdrawal_checks():
+    cells = Intake('cells', 1, 3, 1, (b'row', b'col', b'dir'))
+    dirs, weights = bytearray([16, 7, 0, 9]), [8]
+
+    def taken(line):
+        return *take_line(cells, line, dirs, weights), bytes(dirs)
+
+    yield 'intake: another code for a listed cell', taken(b'0,0,16'), (10, cells, bytes([16, 7, 0, 9]))
+    yield 'intake: a withdrawal', taken(b'0,0,0'), (0, cells, bytes([0, 7, 0, 9]))
+    yield 'intake: a second withdrawal', taken(b'0,0,0'), (0, cells, bytes([0, 7, 0, 9]))
+    yield 'intake: listed again', taken(b'0,0,1'), (0, cells, bytes([1, 7, 0, 9]))
+    yield 'intake: listed twice after a withdrawal', taken(b'0,0,1'), (10, cells, bytes([1, 7, 0, 9]))
+    yield 'intake: a code where the byte is no code', taken(b'0,1,1'), (10, cells, bytes([1, 7, 0, 9]))
+    yield 'intake: a withdrawal where the byte is no code', taken(b'0,1,0'), (0, cells, bytes([1, 0, 0, 9]))
+    yield 'intake: dir 0 for a cell that is not listed', taken(b'0,2,0'), (0, cells, bytes([1, 0, 0, 9]))
+    yield 'intake: 9 before a withdrawal', taken(b'0,3,0'), (9, cells, bytes([1, 0, 0, 9]))
+    yield 'intake: 4 before 10', taken(b'0,0,3'), (4, cells, bytes([1, 0, 0, 9]))
+
+
 def main():
     files = list(file_checks())
     checks = files + [('there are stored cases', len(files) > 0, True)]
     checks += [*flow_checks(), *sheet_checks(), *sample_checks(), *weight_checks(), *index_checks(), *lookup_checks()]
-    checks += [*intake_checks(), *intake_weight_checks()]
+    checks += [*intake_checks(), *intake_weight_checks(), *intake_withdrawal_checks()]
     failures = [check for check in checks if check[1] != check[2]]
     for name, got, expected in failures:
         print(f'{name}: expected {expected!r:.200}, got {got!r:.200}')

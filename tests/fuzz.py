@@ -144,11 +144,32 @@ def sheet_lines(rng):
             cells.append(dict(zip(CELL_NAMES, (cell // cols, cell % cols, code))))
     if rng.random() < 0.3:
         rng.shuffle(cells)
+    if cells and rng.random() < 0.4:
+        cells = with_withdrawals(rng, cells)
     before = [line(size_names), line(sizes[name] for name in size_names)]
     after = [line(cell_names)] + [line(cell[name] for name in cell_names) for cell in cells]
     if rng.random() < 0.55:
         return before + after
     return with_weights(rng, before, weights.made(rng, rows, cols, dirs), after)
+
+
+def with_withdrawals(rng, cells):
+    """Cells with lines among them that withdraw some, list them again, or do so too often."""
+    cells = list(cells)
+    for _ in range(rng.choice([1, 1, 2, 5])):
+        at = rng.randrange(len(cells))
+        cell = cells[at]
+        none, other = {**cell, b'dir': 0}, {**cell, b'dir': rng.choice(CODES)}
+        if rng.random() < 0.3:  # another code first
+            cells[at:at] = [other, none]
+            continue
+        good = [[none, cell]] * 6 + [[none], [none, none], [none, none, cell], [none, cell, none], [none, other],
+                                     [none, other, none, cell]]
+        bad = [[cell], [other], [none, cell, cell], [none, cell, other], [none, none, cell, none, other, cell]]
+        for later in rng.choice(good if rng.random() < 0.9 else bad):
+            at = rng.choice([at + 1, rng.randint(at + 1, len(cells))])
+            cells.insert(at, later)
+    return cells
 
 
 def with_weights(rng, before, row_weights, after):
@@ -289,14 +310,38 @@ def run(program, rng, data):
 
 
 LISTING_KINDS = ['listings', 'with blanks', 'with weights', 'equal areas by weights',
-                 'another heaviest donor by weights']
+                 'another heaviest donor by weights', 'with a withdrawn cell', 'with one listed again']
+REFUSED_AGAIN = '10 for a withdrawn cell'
+
+
+def withdrawals(data):
+    """Whether a file withdraws a cell, whether it lists one again, and whether its last line that is read does so."""
+    state, dirs, row_weights = reference.Intake(), bytearray(reference.LENT), [0] * reference.LENT_WEIGHTS
+    codes, withdrawn, again, last = {}, set(), False, None
+    for text in reference.lines_of(data):
+        values = dict(zip(state.names, text.split(b',')))
+        taking_cells = state.stage == 'cells'
+        number, state = reference.take_line(state, text, dirs, row_weights)
+        if taking_cells and number in (0, 10):
+            last = int(values[b'row']), int(values[b'col'])
+            code = int(values[b'dir'])
+            if number == 0 and code == 0 and codes.get(last, 0) != 0:
+                withdrawn.add(last)
+            again = again or number == 0 and code != 0 and last in withdrawn
+            codes[last] = code
+        if number != 0:
+            break
+    return len(withdrawn) > 0, again, last in withdrawn
 
 
 def kinds_of(data, answer):
-    """What is counted of a file: its answer; of a listing also blanks, weights, and what these change."""
+    """What is counted of a file: its answer; of a listing also blanks, weights and what these change, withdrawals."""
     if answer.startswith(b'refused'):
-        return [answer.split(b'\n')[1].split(b',')[0].decode()]
+        number = answer.split(b'\n')[1].split(b',')[0].decode()
+        return [number] + [REFUSED_AGAIN] * (number == '10' and withdrawals(data)[2])
     kinds = ['listings']
+    some, again, last = withdrawals(data)
+    kinds += ['with a withdrawn cell'] * some + ['with one listed again'] * again
     if b' ' in data:
         kinds.append('with blanks')
     if b'\n' + WEIGHT + b'\n' in data:
@@ -330,7 +375,7 @@ def main():
             print('file %d differs:\n input %r\n expected %r\n printed %r\n error %r' % (number, data[:2000], expected[:500], out[:500], err[:200]))
     refusals = sorted(int(kind) for kind in counts if kind.isdigit())
     print('refusals: ' + ', '.join('%d: %d' % (number, counts[str(number)]) for number in refusals))
-    print(', '.join('%s: %d' % (kind, counts[kind]) for kind in LISTING_KINDS))
+    print(', '.join('%s: %d' % (kind, counts[kind]) for kind in [REFUSED_AGAIN] + LISTING_KINDS))
     print('%d passed, %d failed' % (passed, failed))
     return 0 if failed == 0 and passed > 0 else 1
 

@@ -261,7 +261,7 @@ def take_cell(state, values, dirs):
     if code != OUTSIDE and code not in STEPS:
         return 4, state
     cell = row * state.cols + col
-    if dirs[cell] != OUTSIDE:
+    if code != OUTSIDE and dirs[cell] != OUTSIDE:  # a line with the code 0 withdraws its cell
         return 10, state
     dirs[cell] = code
     return 0, state

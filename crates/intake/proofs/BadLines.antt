@@ -24,7 +24,8 @@ use Rattle.intake.specs.declared.Intake.{Intake}
 use Rattle.intake.specs.declared.TakenOutcome.the-variants.{Accepted}
 use Rattle.intake.specs.Intake.{LentSheet, After, refuse, unless, lineIn, lineAfter}
 use Rattle.intake.proofs.LineLaws.{unless-none, unless-some}
-use Rattle.intake.proofs.Laws.{stageNumber, faultOf, accepted-not-refused}
+use Rattle.intake.proofs.LineLaws.{accepted-not-refused}
+use Rattle.intake.proofs.Laws.{stageNumber, faultOf}
 
 -- a line that is no names line and no line of values
 pub record BadLine (line : List ℕ) : Type 0 where

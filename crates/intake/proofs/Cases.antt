@@ -15,6 +15,7 @@ use Rattle.intake.specs.declared.Stage.the-variants.{WaitingForCellNames
 use Rattle.intake.specs.declared.Intake.{Intake}
 use Rattle.intake.specs.Intake.{LentSheet, lentSheet, After, accepted, refused, accept, refuse, lineAfter}
 use Rattle.intake.specs.Intake.{endTaken, newIntake}
+use Rattle.intake.specs.CellLines.{cellsListed, lastCode}
 
 abbrev pub sizesOf : ℕ → ℕ → ℕ → Sizes
 sizesOf rows cols depth = record { rows = rows; cols = cols; depth = depth }
@@ -250,18 +251,50 @@ pub nine-before-four : lineAfter (in-stage atCells) (ascii "3,0,3") lent ≡ ref
 unfolding lineAfter
 nine-before-four = refl
 
--- 10: a cell line for a cell whose byte is not 0, also with dir 0
+-- 10: a cell line with one of the eight codes for a cell whose byte is not 0
 pub cell-again : lineAfter (in-stage atCells) (ascii "0,1,4") lent ≡ refuse atCells lent 10
 unfolding lineAfter
 cell-again = refl
 
-pub cell-again-0 : lineAfter (in-stage atCells) (ascii "0,1,0") lent ≡ refuse atCells lent 10
+pub cell-again-other : lineAfter (in-stage atCells) (ascii "0,1,128") lent ≡ refuse atCells lent 10
 unfolding lineAfter
-cell-again-0 = refl
+cell-again-other = refl
 
 pub cell-0 : lineAfter (in-stage atCells) (ascii "0,0,0") lent ≡ accept atCells lent
 unfolding lineAfter
 cell-0 = refl
+
+-- document 02, W4: with dir 0 the cell is withdrawn, and may be listed again, once
+abbrev pub listedAs : ℕ → LentSheet
+listedAs byte = lentSheet (0 ∷ byte ∷ replicate 10 0) weights
+
+pub withdrawn : trace (in-stage atCells) lent (ascii "0,1,0" ∷ ascii "0,1,0" ∷ ascii "0,1,64" ∷ ascii "0,1,64" ∷ []) ≡
+    accept atCells (listedAs 0)
+    ∷ accept atCells (listedAs 0)
+    ∷ accept atCells (listedAs 64)
+    ∷ refuse atCells (listedAs 64) 10
+    ∷ []
+unfolding trace
+withdrawn = refl
+
+pub withdrawn-no-code : lineAfter (in-stage atCells) (ascii "0,1,0") (listedAs 7) ≡ accept atCells (listedAs 0)
+unfolding lineAfter
+withdrawn-no-code = refl
+
+pub withdrawn-outside : lineAfter (in-stage atCells) (ascii "3,1,0") lent ≡ refuse atCells lent 9
+unfolding lineAfter
+withdrawn-outside = refl
+
+-- the last line of a cell counts; what its byte was, where there is none
+abbrev pub linesOfCells : List (List ℕ)
+linesOfCells = ascii "0,1,0" ∷ ascii "0,2,16" ∷ ascii "0,1,64" ∷ ascii "0,2,0" ∷ ascii "0,1" ∷ []
+
+pub last-codes : lastCode 0 1 (cellsListed cellColumns linesOfCells) 4
+    ∷ lastCode 0 2 (cellsListed cellColumns linesOfCells) 4
+    ∷ lastCode 1 2 (cellsListed cellColumns linesOfCells) 4
+    ∷ [] ≡ 64 ∷ 0 ∷ 4 ∷ []
+unfolding lastCode cellsListed
+last-codes = refl
 
 -- 13: a line or an end after the end
 pub line-after-end : lineAfter (in-stage atEnd) (ascii "0,0,1") lent ≡ refuse atEnd lent 13

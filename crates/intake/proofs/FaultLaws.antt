@@ -2,7 +2,7 @@
 use mathlib.Core.Path.{_≡_, refl, sym, _∙_}
 use mathlib.Core.Bool.{Bool, true, false, cond}
 use mathlib.Core.List.{List, [], _∷_}
-use Prim.Native.Nat.{ℕ, zero, suc, _<_, _≤_}
+use Prim.Native.Nat.{ℕ, zero, suc, _+_, _*_, _^_, _<_, _≤_}
 use native.Mathlib.Omega.{arith}
 use lib.Dec.{leb, ltb, eqb}
 use lib.ListN.{length}
@@ -167,6 +167,23 @@ cell-good z x dirs e =
     let nine = passed (onSheet z x) _ 9 (omega arith) e in
     let four = passed (isCode (x .dir)) _ 4 (omega arith) (nine .1) in
     (nine .0, code-most (x .dir) (four .0))
+
+-- a cell without a fault can be written: what its line sets is a byte, and the place is lent
+pub code-fits : (z : Sizes) (x : Cell) (dirs : List ℕ) → cellFault z x dirs ≡ 0 → x .dir < 256
+code-fits z x dirs e = omega (arith, cell-good z x dirs e .1)
+
+module _ (z : Sizes) (x : Cell) (dirs : List ℕ) (s : Sized (z .rows) (z .cols) dirs) (e : cellFault z x dirs ≡ 0) where
+  placed : Placed z x dirs
+  placed = on-sheet-placed z x dirs s (cell-good z x dirs e .0)
+
+  pub row-fits : x .row * z .cols < 2 ^ 64
+  row-fits = omega (arith, placed .number-small)
+
+  pub number-fits : x .row * z .cols + x .col < 2 ^ 64
+  number-fits = omega (arith, placed .number-small)
+
+  pub byte-lent : cellNumber (z .cols) (x .row) (x .col) < length dirs
+  byte-lent = placed .byte-lent
 
 -- ---- states
 

@@ -32,7 +32,7 @@ use Rattle.intake.specs.Intake.{sizesWritten, weightWritten, cellWritten
 use Rattle.intake.specs.Intake.{onWeightOrCellNames, afterWeights, onWeight, onCells, stateFault, lineIn}
 use Rattle.intake.specs.Intake.{lineAfter, endIn, endTaken, newIntake}
 use Rattle.intake.proofs.FaultLaws.{Fits, sizes-fit, row-within, row-good}
-use Rattle.intake.proofs.LineLaws.{unless-none, unless-some}
+use Rattle.intake.proofs.LineLaws.{unless-none, unless-some, accepted-not-refused}
 
 -- the stages in the order of a file with weights
 abbrev pub stageNumber : Stage → ℕ
@@ -199,9 +199,6 @@ unfolding lineAfter
 line-answer i line lent = unless-answer _ _ _ _ (line-in-answer (i .stage) line lent)
 
 -- ---- one line
-
-pub accepted-not-refused : {n : ℕ} → Accepted ≡ Refused n → ⊥
-accepted-not-refused {n} e = let z : _≡_ {A = ℕ} 0 1 = cc in omega arith
 
 module _ (i : Intake) (line : List ℕ) (lent : LentSheet) where
   -- "A refused line or end returns the state it got and writes no byte."

@@ -5,3 +5,4 @@ pub mod LineLaws
 pub mod Laws
 pub mod BadLines
 pub mod Weights
+pub mod CellLines

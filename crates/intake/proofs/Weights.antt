@@ -27,21 +27,17 @@ use Rattle.intake.specs.declared.Stage.the-variants.{WaitingForCellNames
 use Rattle.intake.specs.declared.Intake.{Intake}
 use Rattle.intake.specs.declared.TakenOutcome.the-variants.{Accepted}
 use Rattle.intake.specs.Faults.{sizesIn, cellIn, sizesFault, weightFault, cellFault}
-use Rattle.intake.specs.Intake.{LentSheet, After, keep, accept, refuse, unless, sizesWritten, weightWritten}
+use Rattle.intake.specs.Intake.{LentSheet, After, keep, accept, unless, sizesWritten, weightWritten}
 use Rattle.intake.specs.Intake.{onSizeNames, onSizes, onCellNames, onWeightOrCellNames, afterWeights, onWeight}
 use Rattle.intake.specs.Intake.{cellWritten, onCells, stateFault, lineIn, lineAfter, endIn, endTaken}
 use Rattle.intake.specs.Weights.{OwnWeight, OnesSet, writesWeights, WeightsAfter}
 use Rattle.intake.proofs.FaultLaws.{waits-for-row, weight-good}
-use Rattle.intake.proofs.LineLaws.{unless-none, unless-some, weight-accepted, weight-refused, line-good}
-use Rattle.intake.proofs.LineLaws.{line-fault}
-use Rattle.intake.proofs.Laws.{faultOf, accepted-not-refused, Reached, at-start, by-line, by-end}
+use Rattle.intake.proofs.LineLaws.{unless-none, unless-some, accepted-not-refused, sizes-accepted}
+use Rattle.intake.proofs.LineLaws.{sizes-none, weight-accepted, weight-fits, line-good, line-none}
+use Rattle.intake.proofs.Laws.{faultOf, Reached, at-start, by-line, by-end}
 use Rattle.intake.proofs.Laws.{Holds, weight-or-names, weight-of-row, names, cells, ended}
 
 -- ---- what is done to the weights
-
-refused-not : {a : After} (stage : Stage) (lent : LentSheet) (n : ℕ) → a ≡ refuse stage lent n
-    → a .taken .outcome ≡ Accepted → ⊥
-refused-not stage lent n is e = accepted-not-refused (sym e ∙ ap (λ (b : After). b .taken .outcome) is)
 
 module _ (z : Sizes) (row : ℕ) (line : List ℕ) (lent : LentSheet) where
   abbrev after : After
@@ -62,51 +58,36 @@ module _ (z : Sizes) (row : ℕ) (line : List ℕ) (lent : LentSheet) where
 
   own-row : after .taken .outcome ≡ Accepted → OwnWeight row line lent (after .lent)
   unfolding lineIn
-  own-row e = judged (faultOf (WaitingForWeight z row) lent) refl
+  own-row e =
+      let i : Intake = record { stage = WaitingForWeight z row } in
+      let good = line-none i line lent e in
+      read good (valuesLine weightCount line) refl (line-good i line lent good)
     where
       within : faultOf (WaitingForWeight z row) lent ≡ 0 → row < length (lent .weights)
-      within none = let w = waits-for-row z row _ _ refl none in omega (arith, w .0, w .1)
+      within good = let w = waits-for-row z row _ _ refl good in omega (arith, w .0, w .1)
 
-      weighed : (v : Values) → valuesLine weightCount line ≡ Valued v → faultOf (WaitingForWeight z row) lent ≡ 0
-          → after ≡ onWeight z row (Valued v) lent → (t : Bool) → weightFits (v .first) ≡ t
-          → OwnWeight row line lent (after .lent)
-      weighed v is none a true fits =
-          subst (λ (b : After). OwnWeight row line lent (b .lent)) (sym (a ∙ weight-accepted z row v lent fits))
-          (written v is fits (within none))
-      weighed v is none a false fits = absurd (refused-not _ _ 17 (a ∙ weight-refused z row v lent fits) e)
-
-      read : (v : ValuesLine) → valuesLine weightCount line ≡ v → faultOf (WaitingForWeight z row) lent ≡ 0
+      read : faultOf (WaitingForWeight z row) lent ≡ 0 → (v : ValuesLine) → valuesLine weightCount line ≡ v
           → after ≡ onWeight z row v lent → OwnWeight row line lent (after .lent)
-      read (Valued v) is none a = weighed v is none a (weightFits (v .first)) refl
-      read BadValues is none a = absurd (refused-not _ _ 8 a e)
-
-      judged : (fault : ℕ) → faultOf (WaitingForWeight z row) lent ≡ fault → OwnWeight row line lent (after .lent)
-      judged zero is = read (valuesLine weightCount line) refl is (line-good _ line lent is)
-      judged (suc n) is = absurd (refused-not _ _ _ (line-fault _ line lent (λ none. omega (arith, is, none))) e)
+      read good BadValues is a = absurd (accepted-not-refused (sym e ∙ ap (λ (b : After). b .taken .outcome) a))
+      read good (Valued v) is a =
+          let fits = weight-fits z row v lent (sym (ap (λ (b : After). b .taken .outcome) a) ∙ e) in
+          subst (λ (b : After). OwnWeight row line lent (b .lent)) (sym (a ∙ weight-accepted z row v lent fits))
+          (written v is fits (within good))
 
 module _ (c : Columns) (line : List ℕ) (lent : LentSheet) where
   abbrev after-sizes : After
   after-sizes = lineAfter (record { stage = WaitingForSizes c }) line lent
 
   sizes-one : after-sizes .taken .outcome ≡ Accepted → OnesSet lent after-sizes
-  unfolding lineIn onSizes sizesWritten stateFault
+  unfolding lineIn sizesWritten stateFault
   sizes-one e = read (valuesLine columnCount line) (line-good _ line lent refl)
     where
-      faultIn : Values → ℕ
-      faultIn v = sizesFault (sizesIn c v) (length (lent .dirs)) (length (lent .weights))
-
-      judged : (v : Values) (fault : ℕ) → faultIn v ≡ fault → after-sizes ≡ onSizes c (Valued v) lent
-          → OnesSet lent after-sizes
-      judged v zero is a =
-          subst (λ (b : After). OnesSet lent b) (sym (a ∙ unless-none (WaitingForSizes c) lent _ is))
-          (record { sizes = sizesIn c v; stage-is = refl; weights-are = refl })
-      judged v (suc n) is a =
-          let some : faultIn v ≡ 0 → ⊥ = λ none. omega (arith, is, none) in
-          absurd (refused-not _ _ _ (a ∙ unless-some (WaitingForSizes c) lent _ some) e)
-
       read : (v : ValuesLine) → after-sizes ≡ onSizes c v lent → OnesSet lent after-sizes
-      read (Valued v) a = judged v (faultIn v) refl a
-      read BadValues a = absurd (refused-not _ _ 8 a e)
+      read BadValues a = absurd (accepted-not-refused (sym e ∙ ap (λ (b : After). b .taken .outcome) a))
+      read (Valued v) a =
+          let none = sizes-none c v lent refl (sym (ap (λ (b : After). b .taken .outcome) a) ∙ e) in
+          subst (λ (b : After). OnesSet lent b) (sym (a ∙ sizes-accepted c v lent refl none))
+          (record { sizes = sizesIn c v; stage-is = refl; weights-are = refl })
 
 -- a test that is not passed writes nothing
 unless-kept : (fault : ℕ) (stage : Stage) (lent : LentSheet) (next : After) → next .lent .weights ≡ lent .weights

@@ -1,6 +1,6 @@
 -- What refuses sizes, a state that waits for a weight, a weight line and a cell line: tests in the documents' order,
 -- with their numbers; 0 is no fault.
-use mathlib.Core.Bool.{Bool, cond}
+use mathlib.Core.Bool.{Bool, true, cond}
 use mathlib.Core.List.{List, [], _∷_, _++_}
 use Prim.Native.Nat.{ℕ, _*_}
 use lib.Dec.{leb, ltb, eqb}
@@ -77,14 +77,23 @@ weightFault weight = firstFailing (weightTests weight)
 unfoldable pub onSheet : Sizes → Cell → Bool
 onSheet z x = both (ltb (x .row) (z .rows)) (ltb (x .col) (z .cols))
 
+-- the byte of the cell in a row and column
+abbrev pub byteOf : Sizes → ℕ → ℕ → List ℕ → ℕ
+byteOf z row col dirs = getD dirs (cellNumber (z .cols) row col) 0
+
+-- Document 02, W4: a line with dir 0, a withdrawal, may come for every cell; one with another code for a cell whose
+-- byte is 0.
+unfoldable pub maySet : ℕ → ℕ → Bool
+maySet dir byte = cond (eqb dir 0) true (eqb byte 0)
+
 -- the tests of a cell line
 abbrev pub cellTests : Sizes → Cell → List ℕ → List Test
 cellTests z x dirs =
     test 9 (onSheet z x)
     ∷ test 4 (isCode (x .dir))
-    ∷ test 10 (eqb (getD dirs (cellNumber (z .cols) (x .row) (x .col)) 0) 0)
+    ∷ test 10 (maySet (x .dir) (byteOf z (x .row) (x .col) dirs))
     ∷ []
 
 unfoldable pub cellFault : Sizes → Cell → List ℕ → ℕ
-unfolding firstFailing onSheet isCode
+unfolding firstFailing onSheet isCode maySet
 cellFault z x dirs = firstFailing (cellTests z x dirs)

@@ -7,7 +7,7 @@ ghost use Rattle.lines.specs.Values.{valuesLine};
 ghost use Rattle.lines.specs.declared.values.ValuesLine.{ValuesLine};
 ghost use Rattle.sheet.specs.Direction.{isCode};
 ghost use Rattle.directions.specs.Sizes.{Sized};
-ghost use Rattle.intake.specs.Faults.{cellIn, onSheet, cellFault};
+ghost use Rattle.intake.specs.Faults.{cellIn, onSheet, maySet, cellFault};
 ghost use Rattle.intake.specs.Intake.{lentSheet, cellWritten, onCells};
 use super::Cell;
 use super::Sizes;
@@ -51,6 +51,17 @@ fn is_dir(dir: u32) -> bool
     false
 }
 
+// Whether a line with this dir may come for a cell with this byte: with 0 for every cell, which withdraws it, with
+// another code for a cell whose byte is 0.
+fn may_set(dir: u32, byte: u8) -> bool
+    ensures { λ r. ⌜ r ≡ maySet dir byte ⌝ }
+{
+    if dir == 0 {
+        return true;
+    }
+    byte == 0
+}
+
 // The refusal of a cell by 9, 4, 10, or 0.
 fn cell_fault(sizes: Sizes, cell: Cell, dirs: &[u8]) -> u8
     requires { ⌜ Sized (sizes .rows) (sizes .cols) (now dirs) ⌝ }
@@ -60,7 +71,8 @@ fn cell_fault(sizes: Sizes, cell: Cell, dirs: &[u8]) -> u8
     let code_ok = is_dir(cell.dir);
     if place_ok {
         if code_ok {
-            if dirs[cell.row * sizes.cols + cell.col] == 0 {
+            let byte = dirs[cell.row * sizes.cols + cell.col];
+            if may_set(cell.dir, byte) {
                 return 0;
             }
             return 10;

@@ -3,7 +3,6 @@ use native.Mathlib.Omega.{arith}
 use mathlib.Core.Path.{_≡_, sym}
 use mathlib.Core.Bool.{true}
 use borrow.Author.Needs.{needs}
-use borrow.Author.Tests.{eq-eqb, ne-eqb}
 use Rattle.intake.specs.Faults.{onSheet, cellFault}
 use Rattle.intake.proofs.FaultLaws.{Placed, on-sheet-placed}
 use Rattle.intake.proofs.cell_lines.cell_fault.Statement.{statement}
@@ -23,37 +22,42 @@ placed c =
     let on : onSheet (a .sizes) (a .cell) ≡ true = cc in
     on-sheet-placed _ _ _ (c .before .before .before .before .before .pre) on
 
-mul-if3 : tie.Need-mul-if3
-mul-if3 c = let p = placed (c .before .before) in omega (arith, p .number-small)
+mul-byte : tie.Need-mul-byte
+mul-byte c = let p = placed (c .before .before) in omega (arith, p .number-small)
 
-add-if3 : tie.Need-add-if3
-add-if3 c = let p = placed (c .before .before .before) in omega (arith, p .number-small)
+add-byte : tie.Need-add-byte
+add-byte c = let p = placed (c .before .before .before) in omega (arith, p .number-small)
 
-shared-slice-read-if3 : tie.Need-shared-slice-read-if3
-shared-slice-read-if3 c = placed (c .before .before .before .before) .byte-lent
+shared-slice-read-byte : tie.Need-shared-slice-read-byte
+shared-slice-read-byte c = placed (c .before .before .before .before) .byte-lent
+
+may-set-requires : tie.Need-may-set-requires
+may-set-requires c κs = search needs
 
 returns : tie.Need-returns
 unfolding cellFault
 returns c =
-    let t = c .before .before .before .before .before in
+    let t = c .before .before .before .before .before .before in
     simp (
       sym (t .before .before .before .on-sheet .ensures),
       sym (t .before .before .is-dir .ensures),
       t .before .if1 .taken,
       t .if2 .taken,
-      eq-eqb _ _ (c .if3 .taken),
+      sym (c .before .may-set .ensures),
+      c .if3 .taken,
     )
 
 returns-2 : tie.Need-returns-2
 unfolding cellFault
 returns-2 c =
-    let t = c .before .before .before .before .before in
+    let t = c .before .before .before .before .before .before in
     simp (
       sym (t .before .before .before .on-sheet .ensures),
       sym (t .before .before .is-dir .ensures),
       t .before .if1 .taken,
       t .if2 .taken,
-      ne-eqb _ _ (c .if3 .left),
+      sym (c .before .may-set .ensures),
+      c .if3 .left,
     )
 
 returns-3 : tie.Need-returns-3
@@ -76,9 +80,10 @@ cell-fault-spec =
     (tie.spec
     on-sheet-requires
     is-dir-requires
-    mul-if3
-    add-if3
-    shared-slice-read-if3
+    mul-byte
+    add-byte
+    shared-slice-read-byte
+    may-set-requires
     returns
     returns-2
     returns-3

@@ -259,7 +259,7 @@ def intake_withdrawal_checks():
     def taken(line):
         return *take_line(cells, line, dirs, weights), bytes(dirs)
 
-    yield 'intake: another code for a listed cell', taken(b'0,0,16'), (10, cells, bytes([16, 7, 0, 9]))
+    yield 'intake: a code for a cell that has one', taken(b'0,0,16'), (10, cells, bytes([16, 7, 0, 9]))
     yield 'intake: a withdrawal', taken(b'0,0,0'), (0, cells, bytes([0, 7, 0, 9]))
     yield 'intake: a second withdrawal', taken(b'0,0,0'), (0, cells, bytes([0, 7, 0, 9]))
     yield 'intake: listed again', taken(b'0,0,1'), (0, cells, bytes([1, 7, 0, 9]))
@@ -269,6 +269,7 @@ def intake_withdrawal_checks():
     yield 'intake: dir 0 for a cell that is not listed', taken(b'0,2,0'), (0, cells, bytes([1, 0, 0, 9]))
     yield 'intake: 9 before a withdrawal', taken(b'0,3,0'), (9, cells, bytes([1, 0, 0, 9]))
     yield 'intake: 4 before 10', taken(b'0,0,3'), (4, cells, bytes([1, 0, 0, 9]))
+    yield 'intake: cell lines write no weight', weights, [8]
 
 
 def main():

@@ -165,7 +165,8 @@ def with_withdrawals(rng, cells):
             continue
         good = [[none, cell]] * 6 + [[none], [none, none], [none, none, cell], [none, cell, none], [none, other],
                                      [none, other, none, cell]]
-        bad = [[cell], [other], [none, cell, cell], [none, cell, other], [none, none, cell, none, other, cell]]
+        off_sheet = {**none, rng.choice([b'row', b'col']): rng.choice([256, 99999])}
+        bad = [[off_sheet], [cell], [other], [none, cell, cell], [none, cell, other], [none, none, cell, none, other, cell]]
         for later in rng.choice(good if rng.random() < 0.9 else bad):
             at = rng.choice([at + 1, rng.randint(at + 1, len(cells))])
             cells.insert(at, later)
@@ -315,7 +316,7 @@ REFUSED_AGAIN = '10 for a withdrawn cell'
 
 
 def withdrawals(data):
-    """Whether a file withdraws a cell, whether it lists one again, and whether its last line that is read does so."""
+    """Whether a file withdraws a cell, whether it lists one again, and whether its last cell line names such a cell."""
     state, dirs, row_weights = reference.Intake(), bytearray(reference.LENT), [0] * reference.LENT_WEIGHTS
     codes, withdrawn, again, last = {}, set(), False, None
     for text in reference.lines_of(data):
@@ -335,12 +336,13 @@ def withdrawals(data):
 
 
 def kinds_of(data, answer):
-    """What is counted of a file: its answer; of a listing also blanks, weights and what these change, withdrawals."""
+    """What is counted of a file: its answer; of a listing also blanks, weights and what these change, withdrawals; of
+    10 also whether it was for a cell that had been withdrawn."""
     if answer.startswith(b'refused'):
         number = answer.split(b'\n')[1].split(b',')[0].decode()
         return [number] + [REFUSED_AGAIN] * (number == '10' and withdrawals(data)[2])
     kinds = ['listings']
-    some, again, last = withdrawals(data)
+    some, again, _ = withdrawals(data)
     kinds += ['with a withdrawn cell'] * some + ['with one listed again'] * again
     if b' ' in data:
         kinds.append('with blanks')

@@ -30,8 +30,8 @@ use Rattle.claims.proofs.Dictionary.{before-irreflexive}
 use Rattle.claims.proofs.Units.{drains-map, begins-all}
 use Rattle.claims.proofs.Written.{checks, one-to-nine, at-most-depth, label-written, digits-written}
 use Rattle.claims.proofs.Theorems.{demand-three}
+use Rattle.faults.specs.declared.Sizes.{Sizes}
 use Rattle.intake.specs.declared.Intake.{Intake}
-use Rattle.intake.specs.declared.Sizes.{Sizes}
 use Rattle.intake.specs.Intake.{LentSheet, endedSizes}
 use Rattle.labelling.specs.FromIntake.{sheetOf, lentWith, intakeLent}
 use Rattle.lookup.specs.Lookup.{greatestDepth, startOf, lengthOf, lookupAnswer}

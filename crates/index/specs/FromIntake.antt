@@ -1,8 +1,8 @@
 -- The index call from an intake: 15 if it has not ended, then as a direct call with its sizes.
 use mathlib.Core.Option.{Option, none, some}
 use Rattle.sheet.specs.Refusal.{Lent}
+use Rattle.faults.specs.declared.Sizes.{Sizes}
 use Rattle.intake.specs.declared.Intake.{Intake}
-use Rattle.intake.specs.declared.Sizes.{Sizes}
 use Rattle.intake.specs.Intake.{LentSheet, endedSizes}
 use Rattle.labelling.specs.FromIntake.{sheetOf}
 use Rattle.index.specs.declared.Indexed.{Indexed}

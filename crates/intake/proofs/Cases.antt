@@ -7,7 +7,7 @@ use lib.ListN.{replicate}
 use Rattle.decimal.specs.Ascii.{ascii}
 use Rattle.lines.specs.declared.columns.Column.the-variants.{Rows, Cols, Depth, Row, Col, Dir}
 use Rattle.names.specs.Columns.{sizeColumns, cellColumns}
-use Rattle.intake.specs.declared.Sizes.{Sizes}
+use Rattle.faults.specs.declared.Sizes.{Sizes}
 use Rattle.intake.specs.declared.Stage.{Stage}
 use Rattle.intake.specs.declared.Stage.the-variants.{WaitingForSizeNames, WaitingForSizes}
 use Rattle.intake.specs.declared.Stage.the-variants.{WaitingForWeightOrCellNames, WaitingForWeight}

@@ -18,23 +18,25 @@ use Rattle.lines.specs.Values.{valuesLine}
 use Rattle.sheet.specs.Direction.{cellNumber}
 use Rattle.sheet.proofs.Cells.{cell-lt, cell-row, cell-col}
 use Rattle.sheet.proofs.Within.{both-true}
-use Rattle.intake.specs.declared.Sizes.{Sizes}
-use Rattle.intake.specs.declared.Cell.{Cell}
+use Rattle.faults.specs.declared.Sizes.{Sizes}
+use Rattle.faults.specs.declared.Cell.{Cell}
+use Rattle.faults.specs.Faults.{cellIn, cellCount, onSheet, byteOf, maySet, cellFault}
+use Rattle.faults.proofs.FaultLaws.{on-sheet-placed, cell-good, byte-lent}
 use Rattle.intake.specs.declared.Stage.the-variants.{TakingCells}
 use Rattle.intake.specs.declared.Intake.{Intake}
 use Rattle.intake.specs.declared.TakenOutcome.the-variants.{Accepted}
-use Rattle.intake.specs.Faults.{cellIn, cellCount, onSheet, byteOf, maySet, cellFault}
 use Rattle.intake.specs.Intake.{LentSheet, After, accept, refuse, cellWritten, onCells, lineIn, lineAfter}
-use Rattle.intake.specs.CellLines.{takingCells, CodeLine, AllAccepted, none, first, withCell, cellsListed}
+use Rattle.intake.specs.Takes.{Takes, takes-none, takes-line}
+use Rattle.intake.specs.CellLines.{takingCells, CellLine, withCell, cellsListed}
 use Rattle.intake.specs.CellLines.{isNamed, lastCode, BytesAfter, CellLines}
-use Rattle.intake.proofs.FaultLaws.{on-sheet-placed, cell-good, byte-lent, takes-cells}
+use Rattle.intake.proofs.StateLaws.{takes-cells}
 use Rattle.intake.proofs.LineLaws.{accepted-not-refused, cell-accepted, cell-refused, cell-none}
 use Rattle.intake.proofs.LineLaws.{line-good, line-none}
 use Rattle.intake.proofs.Laws.{faultOf}
 
 -- ---- one line
 
-module _ (z : Sizes) (c : Columns) (line : List ℕ) (x : Cell) (lent : LentSheet) (l : CodeLine z c line x lent) where
+module _ (z : Sizes) (c : Columns) (line : List ℕ) (x : Cell) (lent : LentSheet) (l : CellLine z c line x lent) where
   abbrev byte : ℕ
   byte = byteOf z (x .row) (x .col) (lent .dirs)
 
@@ -54,18 +56,18 @@ module _ (z : Sizes) (c : Columns) (line : List ℕ) (x : Cell) (lent : LentShee
   unfolding maySet
   withdrawal e = may-set (rw (eq-eqb _ 0 e))
 
-  not-listed : byte ≡ 0 → lineAfter (takingCells z c) line lent ≡ accept (TakingCells z c) (cellWritten z x lent)
+  byte-0 : byte ≡ 0 → lineAfter (takingCells z c) line lent ≡ accept (TakingCells z c) (cellWritten z x lent)
   unfolding maySet
-  not-listed e = may-set (go (eqb (x .dir) 0))
+  byte-0 e = may-set (go (eqb (x .dir) 0))
     where
       go : (t : Bool) → cond t true (eqb byte 0) ≡ true
       go true = refl
       go false = eq-eqb byte 0 e
 
-  listed : (x .dir ≡ 0 → ⊥) → (byte ≡ 0 → ⊥)
+  byte-not-0 : (x .dir ≡ 0 → ⊥) → (byte ≡ 0 → ⊥)
       → lineAfter (takingCells z c) line lent ≡ refuse (TakingCells z c) lent 10
   unfolding maySet
-  listed some set =
+  byte-not-0 some set =
       let ten : cellFault z x (lent .dirs) ≡ 10 = fault-is ∙ rw (ne-eqb _ 0 some, ne-eqb _ 0 set) in
       line-is ∙ cell-refused z c (l .values) lent (l .cell-is) (λ e. omega (arith, ten, e))
       ∙ ap (refuse (TakingCells z c) lent) ten
@@ -116,13 +118,20 @@ module _ (z : Sizes) (x : Cell) (on : onSheet z x ≡ true) where
   past-kept other dir dirs l =
       getD-set-other dirs place other dir 0 (λ e. omega (arith, e, l, cell-lt row-on col-on))
 
-module _ (z : Sizes) (c : Columns) (line : List ℕ) (x : Cell) (lent : LentSheet) (l : CodeLine z c line x lent) where
+module _ (z : Sizes) (c : Columns) (line : List ℕ) (x : Cell) (lent : LentSheet) (l : CellLine z c line x lent) where
   withdrawn : x .dir ≡ 0 → byteOf z (x .row) (x .col) (cellWritten z x lent .dirs) ≡ 0
   unfolding cellWritten
   withdrawn e =
       let sized = takes-cells z c (lent .dirs) (length (lent .weights)) refl (l .state-good) in
       getD-set-same (lent .dirs) (place z x (l .on-sheet)) (x .dir) 0 (on-sheet-placed z x _ sized (l .on-sheet) .byte-lent)
       ∙ e
+
+module _ (z : Sizes) (c : Columns) (line next : List ℕ) (x y : Cell) (lent : LentSheet) where
+  listed-again : CellLine z c line x lent → x .dir ≡ 0 → CellLine z c next y (cellWritten z x lent) → y .row ≡ x .row
+      → y .col ≡ x .col → lineAfter (takingCells z c) next (cellWritten z x lent)
+      ≡ accept (TakingCells z c) (cellWritten z y (cellWritten z x lent))
+  listed-again l none k row col =
+      byte-0 z c next y (cellWritten z x lent) k (rw (row, col) (withdrawn z c line x lent l none))
 
 -- ---- accepted lines
 
@@ -179,16 +188,16 @@ module _ (z : Sizes) (c : Columns) (line : List ℕ) (lines : List (List ℕ)) (
 
 module _ (z : Sizes) (c : Columns) where
   from-cells : {i end : Intake} {lent new : LentSheet} {lines : List (List ℕ)} → i ≡ takingCells z c
-      → AllAccepted i lent lines end new → BytesAfter z c lent lines end new
+      → Takes i lent lines end new → BytesAfter z c lent lines end new
   unfolding cellsListed lastCode
-  from-cells start none = record {
+  from-cells start takes-none = record {
     bytes = λ row col l k. refl;
     others-kept = λ other l. refl;
     as-long = refl;
     weights-kept = refl;
     stage-kept = start;
   }
-  from-cells start (first {i} {end} {lent} {new} {line} {lines} e rest) =
+  from-cells start (takes-line {i} {j = end} {T = lent} {U = new} {lines = lines} line e rest) =
       let here : lineAfter i line lent ≡ lineAfter (takingCells z c) line lent = ap
       (λ (j : Intake). lineAfter j line lent) start in
       let t = cell-taken z c line lent (sym (ap (λ (a : After). a .taken .outcome) here) ∙ e) in
@@ -200,8 +209,9 @@ module _ (z : Sizes) (c : Columns) where
 pub cell-lines : CellLines
 cell-lines = record {
   withdrawal = withdrawal;
-  listed = listed;
-  not-listed = not-listed;
   withdrawn = withdrawn;
+  byte-not-0 = byte-not-0;
+  byte-0 = byte-0;
+  listed-again = listed-again;
   after-lines = λ z c lent lines end new all. from-cells z c refl all;
 }

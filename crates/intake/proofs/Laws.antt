@@ -18,20 +18,20 @@ use Rattle.names.specs.Columns.{sizeColumns, weightColumns, cellColumns}
 use Rattle.names.specs.Names.{namesLine}
 use Rattle.lines.specs.Columns.{columnCount, weightCount}
 use Rattle.lines.specs.Values.{valuesLine}
-use Rattle.intake.specs.declared.Sizes.{Sizes}
-use Rattle.intake.specs.declared.Cell.{Cell}
+use Rattle.faults.specs.declared.Sizes.{Sizes}
+use Rattle.faults.specs.declared.Cell.{Cell}
+use Rattle.faults.specs.Faults.{sizesIn, cellIn, sizesFault, rowFault, weightFault, cellFault}
+use Rattle.faults.proofs.FaultLaws.{Fits, sizes-fit, row-within, row-good}
 use Rattle.intake.specs.declared.Stage.{Stage}
 use Rattle.intake.specs.declared.Stage.the-variants.{WaitingForSizeNames, WaitingForSizes}
 use Rattle.intake.specs.declared.Stage.the-variants.{WaitingForWeightOrCellNames, WaitingForWeight}
 use Rattle.intake.specs.declared.Stage.the-variants.{WaitingForCellNames, TakingCells, Ended}
 use Rattle.intake.specs.declared.Intake.{Intake}
 use Rattle.intake.specs.declared.TakenOutcome.the-variants.{Accepted, Refused}
-use Rattle.intake.specs.Faults.{sizesIn, cellIn, sizesFault, rowFault, weightFault, cellFault}
 use Rattle.intake.specs.Intake.{takenValues, LentSheet, After, keep, accept, refuse, unless, firstSet}
 use Rattle.intake.specs.Intake.{sizesWritten, weightWritten, cellWritten, onSizeNames, onSizes, onCellNames}
 use Rattle.intake.specs.Intake.{onWeightOrCellNames, afterWeights, onWeight, onCells, stateFault, lineIn}
 use Rattle.intake.specs.Intake.{lineAfter, endIn, endTaken, newIntake}
-use Rattle.intake.proofs.FaultLaws.{Fits, sizes-fit, row-within, row-good}
 use Rattle.intake.proofs.LineLaws.{unless-none, unless-some, accepted-not-refused}
 
 -- the stages in the order of a file with weights

@@ -1,6 +1,6 @@
 pub mod Cases
 pub mod WeightCases
-pub mod FaultLaws
+pub mod StateLaws
 pub mod LineLaws
 pub mod Laws
 pub mod BadLines

@@ -11,18 +11,18 @@ use Rattle.lines.specs.declared.columns.Columns.{Columns}
 use Rattle.lines.specs.declared.values.Values.{Values}
 use Rattle.lines.specs.declared.values.ValuesLine.the-variants.{Values as Valued}
 use Rattle.sheet.specs.Refusal.{weightFits}
-use Rattle.intake.specs.declared.Sizes.{Sizes}
-use Rattle.intake.specs.declared.Cell.{Cell}
+use Rattle.faults.specs.declared.Sizes.{Sizes}
+use Rattle.faults.specs.declared.Cell.{Cell}
+use Rattle.faults.specs.Faults.{sizesIn, cellIn, sizesFault, weightFault, cellFault}
+use Rattle.faults.proofs.FaultLaws.{weight-good}
 use Rattle.intake.specs.declared.Stage.{Stage}
 use Rattle.intake.specs.declared.Stage.the-variants.{WaitingForSizes, WaitingForWeightOrCellNames}
 use Rattle.intake.specs.declared.Stage.the-variants.{WaitingForWeight, TakingCells}
 use Rattle.intake.specs.declared.Intake.{Intake}
 use Rattle.intake.specs.declared.TakenOutcome.the-variants.{Accepted, Refused}
-use Rattle.intake.specs.Faults.{sizesIn, cellIn, sizesFault, weightFault, cellFault}
 use Rattle.intake.specs.Intake.{LentSheet, After, accept, refuse, unless, sizesWritten, weightWritten}
 use Rattle.intake.specs.Intake.{cellWritten, onSizes, afterWeights, onWeight, onCells, stateFault, lineIn}
 use Rattle.intake.specs.Intake.{lineAfter}
-use Rattle.intake.proofs.FaultLaws.{weight-good}
 
 module _ {fault : ℕ} (stage : Stage) (lent : LentSheet) (next : After) where
   pub unless-none : fault ≡ 0 → unless fault stage lent next ≡ next

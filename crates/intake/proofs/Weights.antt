@@ -19,19 +19,20 @@ use Rattle.names.specs.Names.{namesLine}
 use Rattle.lines.specs.Columns.{columnCount, weightCount}
 use Rattle.lines.specs.Values.{valuesLine}
 use Rattle.sheet.specs.Refusal.{weightFits}
-use Rattle.intake.specs.declared.Sizes.{Sizes}
+use Rattle.faults.specs.declared.Sizes.{Sizes}
+use Rattle.faults.specs.Faults.{sizesIn, cellIn, sizesFault, weightFault, cellFault}
+use Rattle.faults.proofs.FaultLaws.{weight-good}
 use Rattle.intake.specs.declared.Stage.{Stage}
 use Rattle.intake.specs.declared.Stage.the-variants.{WaitingForSizeNames, WaitingForSizes}
 use Rattle.intake.specs.declared.Stage.the-variants.{WaitingForWeightOrCellNames, WaitingForWeight}
 use Rattle.intake.specs.declared.Stage.the-variants.{WaitingForCellNames, TakingCells, Ended}
 use Rattle.intake.specs.declared.Intake.{Intake}
 use Rattle.intake.specs.declared.TakenOutcome.the-variants.{Accepted}
-use Rattle.intake.specs.Faults.{sizesIn, cellIn, sizesFault, weightFault, cellFault}
 use Rattle.intake.specs.Intake.{LentSheet, After, keep, accept, unless, sizesWritten, weightWritten}
 use Rattle.intake.specs.Intake.{onSizeNames, onSizes, onCellNames, onWeightOrCellNames, afterWeights, onWeight}
 use Rattle.intake.specs.Intake.{cellWritten, onCells, stateFault, lineIn, lineAfter, endIn, endTaken}
 use Rattle.intake.specs.Weights.{OwnWeight, OnesSet, writesWeights, WeightsAfter}
-use Rattle.intake.proofs.FaultLaws.{waits-for-row, weight-good}
+use Rattle.intake.proofs.StateLaws.{waits-for-row}
 use Rattle.intake.proofs.LineLaws.{unless-none, unless-some, accepted-not-refused, sizes-accepted}
 use Rattle.intake.proofs.LineLaws.{sizes-none, weight-accepted, weight-fits, line-good, line-none}
 use Rattle.intake.proofs.Laws.{faultOf, Reached, at-start, by-line, by-end}

@@ -13,21 +13,21 @@ use Rattle.lines.specs.Columns.{columnCount}
 use Rattle.lines.specs.Values.{valuesLine}
 use Rattle.sheet.specs.Direction.{isCode}
 use Rattle.sheet.specs.Refusal.{both}
-use Rattle.intake.specs.declared.Sizes.{Sizes}
-use Rattle.intake.specs.declared.Cell.{Cell}
+use Rattle.faults.specs.declared.Sizes.{Sizes}
+use Rattle.faults.specs.declared.Cell.{Cell}
+use Rattle.faults.specs.Faults.{cellIn, cellCount, onSheet, byteOf}
 use Rattle.intake.specs.declared.Stage.the-variants.{TakingCells}
 use Rattle.intake.specs.declared.Intake.{Intake}
-use Rattle.intake.specs.declared.TakenOutcome.the-variants.{Accepted}
-use Rattle.intake.specs.Faults.{cellIn, cellCount, onSheet, byteOf}
 use Rattle.intake.specs.Intake.{LentSheet, accept, refuse, cellWritten, stateFault, lineAfter}
+use Rattle.intake.specs.Takes.{Takes}
 
 abbrev pub takingCells : Sizes → Columns → Intake
 takingCells z c = record { stage = TakingCells z c }
 
 -- ---- one line
 
--- A cell line that gets neither a refusal because of the state nor 8, 9 or 4.
-pub record CodeLine (z : Sizes) (c : Columns) (line : List ℕ) (x : Cell) (lent : LentSheet) : Type 0 where
+-- a line for the cell x that gets none of 1, 2 and 3, by the sizes in the state, and then none of 8, 9 and 4
+pub record CellLine (z : Sizes) (c : Columns) (line : List ℕ) (x : Cell) (lent : LentSheet) : Type 0 where
   pub state-good : stateFault (TakingCells z c) (length (lent .dirs)) (length (lent .weights)) ≡ 0
   pub values : Values
   pub line-is : valuesLine columnCount line ≡ Valued values
@@ -36,14 +36,6 @@ pub record CodeLine (z : Sizes) (c : Columns) (line : List ℕ) (x : Cell) (lent
   pub code : isCode (x .dir) ≡ true
 
 -- ---- any number of lines
-
--- lines taken one after the other, each accepted, from one state and what is lent then to another
-pub data AllAccepted : Intake → LentSheet → List (List ℕ) → Intake → LentSheet → Type 0 where
-  none : {i : Intake} {lent : LentSheet} → AllAccepted i lent [] i lent
-  first : {i end : Intake} {lent new : LentSheet} {line : List ℕ} {lines : List (List ℕ)}
-      → lineAfter i line lent .taken .outcome ≡ Accepted
-      → AllAccepted (lineAfter i line lent .taken .intake) (lineAfter i line lent .lent) lines end new
-      → AllAccepted i lent (line ∷ lines) end new
 
 -- the cells that lines list, in the order of the lines; a line that breaks the rules lists none
 abbrev pub withCell : Columns → ValuesLine → List Cell → List Cell
@@ -77,20 +69,25 @@ pub record BytesAfter (z : Sizes) (c : Columns) (lent : LentSheet) (lines : List
   pub stage-kept : end ≡ takingCells z c
 
 pub record CellLines : Type 0 where
-  -- a line with dir 0 is accepted whatever the cell's byte is, and sets it to 0
-  pub withdrawal : (z : Sizes) (c : Columns) (line : List ℕ) (x : Cell) (lent : LentSheet) → CodeLine z c line x lent
+  -- a line with dir 0 is accepted, whatever the cell's byte is
+  pub withdrawal : (z : Sizes) (c : Columns) (line : List ℕ) (x : Cell) (lent : LentSheet) → CellLine z c line x lent
       → x .dir ≡ 0 → lineAfter (takingCells z c) line lent ≡ accept (TakingCells z c) (cellWritten z x lent)
-  -- a line with another code gives 10 where the byte is not 0
-  pub listed : (z : Sizes) (c : Columns) (line : List ℕ) (x : Cell) (lent : LentSheet) → CodeLine z c line x lent
+  -- and the byte is 0 afterwards
+  pub withdrawn : (z : Sizes) (c : Columns) (line : List ℕ) (x : Cell) (lent : LentSheet) → CellLine z c line x lent
+      → x .dir ≡ 0 → byteOf z (x .row) (x .col) (cellWritten z x lent .dirs) ≡ 0
+  -- where the byte is not 0, a line with another code gives 10
+  pub byte-not-0 : (z : Sizes) (c : Columns) (line : List ℕ) (x : Cell) (lent : LentSheet) → CellLine z c line x lent
       → (x .dir ≡ 0 → ⊥) → (byteOf z (x .row) (x .col) (lent .dirs) ≡ 0 → ⊥)
       → lineAfter (takingCells z c) line lent ≡ refuse (TakingCells z c) lent 10
-  -- any code is accepted where the byte is 0
-  pub not-listed : (z : Sizes) (c : Columns) (line : List ℕ) (x : Cell) (lent : LentSheet) → CodeLine z c line x lent
+  -- where it is 0, a line with any code is accepted
+  pub byte-0 : (z : Sizes) (c : Columns) (line : List ℕ) (x : Cell) (lent : LentSheet) → CellLine z c line x lent
       → byteOf z (x .row) (x .col) (lent .dirs) ≡ 0
       → lineAfter (takingCells z c) line lent ≡ accept (TakingCells z c) (cellWritten z x lent)
-  -- and so it is after a withdrawal
-  pub withdrawn : (z : Sizes) (c : Columns) (line : List ℕ) (x : Cell) (lent : LentSheet) → CodeLine z c line x lent
-      → x .dir ≡ 0 → byteOf z (x .row) (x .col) (cellWritten z x lent .dirs) ≡ 0
+  -- after a withdrawal of the cell x the same cell may be listed again, as y
+  pub listed-again : (z : Sizes) (c : Columns) (line next : List ℕ) (x y : Cell) (lent : LentSheet)
+      → CellLine z c line x lent → x .dir ≡ 0 → CellLine z c next y (cellWritten z x lent) → y .row ≡ x .row
+      → y .col ≡ x .col → lineAfter (takingCells z c) next (cellWritten z x lent)
+      ≡ accept (TakingCells z c) (cellWritten z y (cellWritten z x lent))
   -- any number of accepted cell lines
   pub after-lines : (z : Sizes) (c : Columns) (lent : LentSheet) (lines : List (List ℕ)) (end : Intake)
-      (new : LentSheet) → AllAccepted (takingCells z c) lent lines end new → BytesAfter z c lent lines end new
+      (new : LentSheet) → Takes (takingCells z c) lent lines end new → BytesAfter z c lent lines end new

@@ -15,8 +15,9 @@ use Rattle.names.specs.Names.{namesLine}
 use Rattle.lines.specs.Columns.{columnCount, weightCount}
 use Rattle.lines.specs.Values.{valuesLine}
 use Rattle.sheet.specs.Direction.{cellNumber}
-use Rattle.intake.specs.declared.Sizes.{Sizes}
-use Rattle.intake.specs.declared.Cell.{Cell}
+use Rattle.faults.specs.declared.Sizes.{Sizes}
+use Rattle.faults.specs.declared.Cell.{Cell}
+use Rattle.faults.specs.Faults.{sizesIn, cellIn, cellCount, sizesFault, rowFault, weightFault, cellFault}
 use Rattle.intake.specs.declared.Stage.{Stage}
 use Rattle.intake.specs.declared.Stage.the-variants.{WaitingForSizeNames, WaitingForSizes}
 use Rattle.intake.specs.declared.Stage.the-variants.{WaitingForWeightOrCellNames, WaitingForWeight}
@@ -25,7 +26,6 @@ use Rattle.intake.specs.declared.Intake.{Intake}
 use Rattle.intake.specs.declared.TakenOutcome.{TakenOutcome}
 use Rattle.intake.specs.declared.TakenOutcome.the-variants.{Accepted, Refused}
 use Rattle.intake.specs.declared.Taken.{Taken}
-use Rattle.intake.specs.Faults.{sizesIn, cellIn, cellCount, sizesFault, rowFault, weightFault, cellFault}
 
 -- document 01's number and place of an outcome: both 0 where it is accepted; all intake refusals give place 0
 pub record TakenValues : Type 0 where

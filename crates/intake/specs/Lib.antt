@@ -1,4 +1,4 @@
-pub mod Faults
 pub mod Intake
 pub mod Weights
+pub mod Takes
 pub mod CellLines

@@ -10,7 +10,7 @@ use Rattle.lines.specs.declared.values.ValuesLine.the-variants.{Values as Value
 use Rattle.lines.specs.Columns.{weightCount}
 use Rattle.lines.specs.Values.{valuesLine}
 use Rattle.sheet.specs.Refusal.{weightFits}
-use Rattle.intake.specs.declared.Sizes.{Sizes}
+use Rattle.faults.specs.declared.Sizes.{Sizes}
 use Rattle.intake.specs.declared.Stage.{Stage}
 use Rattle.intake.specs.declared.Stage.the-variants.{WaitingForSizeNames, WaitingForSizes}
 use Rattle.intake.specs.declared.Stage.the-variants.{WaitingForWeightOrCellNames, WaitingForWeight}

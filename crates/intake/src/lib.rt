@@ -9,28 +9,15 @@ mod size_lines;
 mod weight_lines;
 
 use cell_lines::cell_line;
+use faults::Sizes;
+use faults::size_faults::row_fault;
+use faults::size_faults::sizes_fault;
 use lines::columns::Columns;
 use name_lines::cell_names_line;
 use name_lines::size_names_line;
 use name_lines::weight_or_cell_names_line;
-use size_lines::sizes_fault;
 use size_lines::sizes_line;
-use weight_lines::row_fault;
 use weight_lines::weight_line;
-
-// The sizes of a sheet, as the file lists them.
-pub struct Sizes {
-    pub rows: usize,
-    pub cols: usize,
-    pub depth: usize,
-}
-
-// What a cell line lists.
-pub struct Cell {
-    pub row: usize,
-    pub col: usize,
-    pub dir: u32,
-}
 
 // The stage of an intake, with what later lines need: the order of the columns, the sizes, the row whose weight comes
 // next.

@@ -3,11 +3,11 @@ ghost use mathlib.Core.Path.{_≡_};
 ghost use Rattle.names.specs.Columns.{sizeColumns, weightColumns, cellColumns};
 ghost use Rattle.names.specs.Names.{namesLine};
 ghost use Rattle.intake.specs.Intake.{onSizeNames, onWeightOrCellNames, onCellNames};
-use super::Sizes;
 use super::Stage;
 use super::Taken;
 use super::TakenOutcome;
 use super::answer;
+use faults::Sizes;
 use names::NamesLine;
 
 pub fn size_names_line(line: &[u8]) -> Taken

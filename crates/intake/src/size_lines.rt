@@ -1,66 +1,21 @@
 // Sizes and their line.
 ghost use mathlib.Core.Path.{_≡_};
-ghost use mathlib.Core.Bool.{true};
 ghost use Prim.Native.Nat.{_≤_};
 ghost use lib.ListN.{length};
 ghost use Rattle.lines.specs.Columns.{columnCount};
 ghost use Rattle.lines.specs.Values.{valuesLine};
 ghost use Rattle.lines.specs.declared.values.ValuesLine.{ValuesLine};
-ghost use Rattle.sheet.specs.Refusal.{sizesFit};
-ghost use Rattle.intake.specs.Faults.{sizesIn, lentEnough, sizesFault};
 ghost use Rattle.intake.specs.Intake.{lentSheet, firstSet, onSizes};
-use super::Sizes;
 use super::Stage;
 use super::Taken;
 use super::TakenOutcome;
 use super::answer;
-use checks::depth_fits;
-use checks::sizes_fit;
-use lines::columns::Column;
+use faults::size_faults::sizes_fault;
+use faults::size_faults::sizes_in;
 use lines::columns::Columns;
 use lines::values::Values;
 use lines::values::ValuesLine;
 use lines::values::read_values;
-use lines::values::value_of;
-
-// A direction byte for each cell and a weight for each row.
-fn lent_enough(sizes: Sizes, dirs: usize, weights: usize) -> bool
-    requires { ⌜ sizesFit (sizes .rows) (sizes .cols) ≡ true ⌝ }
-    ensures { λ r. ⌜ r ≡ lentEnough sizes dirs weights ⌝ }
-{
-    if sizes.rows * sizes.cols <= dirs {
-        return sizes.rows <= weights;
-    }
-    false
-}
-
-// The refusal of sizes by 1, 2, 3, or 0, where so many direction bytes and so many weights are lent.
-pub fn sizes_fault(sizes: Sizes, dirs: usize, weights: usize) -> u8
-    ensures { λ r. ⌜ r ≡ sizesFault sizes dirs weights ⌝ }
-{
-    let sizes_ok = sizes_fit(sizes.rows, sizes.cols);
-    let depth_ok = depth_fits(sizes.depth);
-    if sizes_ok {
-        if depth_ok {
-            if lent_enough(sizes, dirs, weights) {
-                return 0;
-            }
-            return 3;
-        }
-        return 2;
-    }
-    1
-}
-
-fn sizes_in(columns: Columns, values: Values) -> Sizes
-    ensures { λ r. ⌜ r ≡ sizesIn columns values ⌝ }
-{
-    Sizes {
-        rows: value_of(columns, values, Column::Rows) as usize,
-        cols: value_of(columns, values, Column::Cols) as usize,
-        depth: value_of(columns, values, Column::Depth) as usize,
-    }
-}
 
 // Sets the first n bytes to 0.
 fn clear(dirs: &mut [u8], n: usize)

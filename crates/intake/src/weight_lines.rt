@@ -6,32 +6,16 @@ ghost use lib.ListN.{length};
 ghost use Rattle.lines.specs.Columns.{weightCount};
 ghost use Rattle.lines.specs.Values.{valuesLine};
 ghost use Rattle.lines.specs.declared.values.ValuesLine.{ValuesLine};
-ghost use Rattle.intake.specs.Faults.{rowFault};
 ghost use Rattle.intake.specs.Intake.{lentSheet, afterWeights, onWeight};
-use super::Sizes;
 use super::Stage;
 use super::Taken;
 use super::TakenOutcome;
 use super::answer;
-use super::size_lines::sizes_fault;
 use checks::weight_fits;
+use faults::Sizes;
 use lines::values::Values;
 use lines::values::ValuesLine;
 use lines::values::read_values;
-
-// The refusal of a state that waits for the weight of a row: by its sizes, then by 9, or 0.
-pub fn row_fault(sizes: Sizes, row: usize, dirs: usize, weights: usize) -> u8
-    ensures { λ r. ⌜ r ≡ rowFault sizes row dirs weights ⌝ }
-{
-    let fault = sizes_fault(sizes, dirs, weights);
-    if fault == 0 {
-        if row < sizes.rows {
-            return 0;
-        }
-        return 9;
-    }
-    fault
-}
 
 // The stage after the weights of so many rows: it waits for the next row's, and after the last for cell names.
 fn after_weights(sizes: Sizes, count: usize) -> Stage

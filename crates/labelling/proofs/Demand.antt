@@ -7,8 +7,8 @@ use native.Mathlib.Omega.{arith}
 use Rattle.sheet.specs.declared.Outcome.the-variants.{Accepted, Refused}
 use Rattle.sheet.specs.Sheet.{Sheet}
 use Rattle.sheet.specs.Refusal.{Lent, outcome, lentAfter}
+use Rattle.faults.specs.declared.Sizes.{Sizes}
 use Rattle.intake.specs.declared.Intake.{Intake}
-use Rattle.intake.specs.declared.Sizes.{Sizes}
 use Rattle.intake.specs.Intake.{LentSheet, endedSizes}
 use Rattle.claims.proofs.Theorems.{demand-three, outlet-rule}
 use Rattle.labelling.specs.FromIntake.{sheetOf, outcomeWith, lentWith, intakeOutcome, intakeLent}

@@ -6,8 +6,8 @@ use Prim.Native.Nat.{ℕ}
 use Rattle.sheet.specs.declared.Outcome.the-variants.{Accepted}
 use Rattle.sheet.specs.Sheet.{Sheet}
 use Rattle.sheet.specs.Refusal.{Lent, outcome, lentAfter}
+use Rattle.faults.specs.declared.Sizes.{Sizes}
 use Rattle.intake.specs.declared.Intake.{Intake}
-use Rattle.intake.specs.declared.Sizes.{Sizes}
 use Rattle.intake.specs.Intake.{LentSheet, endedSizes}
 use Rattle.claims.specs.Demand.{DemandThreeOf, OutletRuleOf}
 use Rattle.labelling.specs.FromIntake.{sheetOf, intakeOutcome, intakeLent}

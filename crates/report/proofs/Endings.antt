@@ -8,7 +8,7 @@ use Rattle.sheet.specs.declared.Outcome.{Outcome as LabelOutcome}
 use Rattle.sheet.specs.declared.Outcome.the-variants.{Accepted as Passed, Refused as NotLabelled}
 use Rattle.sheet.specs.Sheet.{Grid}
 use Rattle.sheet.specs.Refusal.{Lent, outcome}
-use Rattle.intake.specs.declared.Sizes.{Sizes}
+use Rattle.faults.specs.declared.Sizes.{Sizes}
 use Rattle.intake.specs.declared.Stage.{Stage}
 use Rattle.intake.specs.declared.Stage.the-variants.{WaitingForSizeNames, WaitingForSizes}
 use Rattle.intake.specs.declared.Stage.the-variants.{WaitingForWeightOrCellNames, WaitingForWeight}
@@ -23,7 +23,8 @@ use Rattle.reading.specs.declared.Read.{Read}
 use Rattle.reading.specs.declared.Read.the-variants.{Refused, Ended}
 use Rattle.reading.specs.Lines.{linesOf, FileRead, endAfter, readFrom, readFile}
 use Rattle.report.specs.Report.{sheetVerdict, verdictOf, fileVerdict}
-use Rattle.report.specs.Conditions.{Takes, takes-none, takes-line, FileEnded, Ending, line-refused, end-refused}
+use Rattle.intake.specs.Takes.{Takes, takes-none, takes-line}
+use Rattle.report.specs.Conditions.{FileEnded, Ending, line-refused, end-refused}
 use Rattle.report.specs.Conditions.{LinesTaken, sheet-refused, labelled}
 use Rattle.report.proofs.Numbers.{takes-on, line-number, end-number, file-number}
 

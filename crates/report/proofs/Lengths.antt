@@ -31,7 +31,8 @@ use Rattle.reading.specs.Feed.{largestCount}
 use Rattle.report.specs.declared.Verdict.{Verdict}
 use Rattle.report.specs.declared.Verdict.the-variants.{Refused, Labelled}
 use Rattle.report.specs.Report.{fileVerdict, report}
-use Rattle.report.specs.Conditions.{oneOf, lineNumbers, endNumbers, sheetNumbers, Takes, takes-none, takes-line}
+use Rattle.intake.specs.Takes.{Takes, takes-none, takes-line}
+use Rattle.report.specs.Conditions.{oneOf, lineNumbers, endNumbers, sheetNumbers}
 use Rattle.report.specs.Conditions.{Ending, line-refused, end-refused, sheet-refused, labelled}
 use Rattle.report.specs.Demand.{fileSheet, programCells, programBytes}
 use Rattle.report.proofs.Numbers.{AllOf, one-of, file-number, file-fits}

@@ -27,8 +27,11 @@ use Rattle.names.specs.Columns.{sizeColumns, weightColumns, cellColumns}
 use Rattle.names.specs.Names.{namesLine}
 use Rattle.lines.specs.Columns.{columnCount, weightCount}
 use Rattle.lines.specs.Values.{valuesLine}
-use Rattle.intake.specs.declared.Sizes.{Sizes}
-use Rattle.intake.specs.declared.Cell.{Cell}
+use Rattle.faults.specs.declared.Sizes.{Sizes}
+use Rattle.faults.specs.declared.Cell.{Cell}
+use Rattle.faults.specs.Faults.{Test, firstFailing, sizesIn, cellIn, sizesTests, sizesFault, rowTests, rowFault}
+use Rattle.faults.specs.Faults.{weightTests, weightFault, cellTests, cellFault}
+use Rattle.faults.proofs.FaultLaws.{Fits}
 use Rattle.intake.specs.declared.Stage.{Stage}
 use Rattle.intake.specs.declared.Stage.the-variants.{WaitingForSizeNames, WaitingForSizes}
 use Rattle.intake.specs.declared.Stage.the-variants.{WaitingForWeightOrCellNames, WaitingForWeight}
@@ -37,16 +40,14 @@ use Rattle.intake.specs.declared.Intake.{Intake}
 use Rattle.intake.specs.declared.Taken.{Taken}
 use Rattle.intake.specs.declared.TakenOutcome.{TakenOutcome}
 use Rattle.intake.specs.declared.TakenOutcome.the-variants.{Accepted, Refused}
-use Rattle.intake.specs.Faults.{Test, firstFailing, sizesIn, cellIn, sizesTests, sizesFault, rowTests, rowFault}
-use Rattle.intake.specs.Faults.{weightTests, weightFault, cellTests, cellFault}
 use Rattle.intake.specs.Intake.{LentSheet, After, accept, refuse, unless, sizesWritten, weightWritten, cellWritten}
 use Rattle.intake.specs.Intake.{onSizeNames, onSizes, onCellNames, onWeightOrCellNames, afterWeights, onWeight}
 use Rattle.intake.specs.Intake.{onCells, stateFault, lineIn, lineAfter, endIn, endTaken}
-use Rattle.intake.proofs.FaultLaws.{Fits}
 use Rattle.intake.proofs.Weights.{reached-weights}
 use Rattle.intake.proofs.Laws.{Reached, at-start, by-line, by-end, Holds, ended, reached-sizes}
 use Rattle.labelling.specs.FromIntake.{sheetOf}
-use Rattle.report.specs.Conditions.{oneOf, lineNumbers, endNumbers, sheetNumbers, Takes, takes-none, takes-line}
+use Rattle.intake.specs.Takes.{Takes, takes-none, takes-line}
+use Rattle.report.specs.Conditions.{oneOf, lineNumbers, endNumbers, sheetNumbers}
 use Rattle.report.specs.Conditions.{FileEnded}
 
 -- ---- numbers of a list

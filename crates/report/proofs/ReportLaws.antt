@@ -14,7 +14,7 @@ use Rattle.sheet.specs.Label.{areasOf, labelsOf, labelOf}
 use Rattle.sheet.specs.Area.{area}
 use Rattle.sheet.specs.Refusal.{Lent, slicesFit, outcome, ifAccepted, lentAfter}
 use Rattle.sheet.proofs.Within.{both-true}
-use Rattle.intake.specs.declared.Sizes.{Sizes}
+use Rattle.faults.specs.declared.Sizes.{Sizes}
 use Rattle.intake.specs.Intake.{LentSheet, endedSizes}
 use Rattle.claims.proofs.Sheets.{accepted-passed}
 use Rattle.sheet.proofs.Lists.{length-list}

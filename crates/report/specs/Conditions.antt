@@ -7,11 +7,12 @@ use lib.Dec.{eqb}
 use lib.ListN.{length}
 use Rattle.sheet.specs.declared.Outcome.the-variants.{Accepted as Passed, Refused as NotLabelled}
 use Rattle.sheet.specs.Refusal.{Lent, outcome}
-use Rattle.intake.specs.declared.Sizes.{Sizes}
+use Rattle.faults.specs.declared.Sizes.{Sizes}
 use Rattle.intake.specs.declared.Stage.the-variants.{Ended}
 use Rattle.intake.specs.declared.Intake.{Intake}
-use Rattle.intake.specs.declared.TakenOutcome.the-variants.{Accepted, Refused as NotTaken}
+use Rattle.intake.specs.declared.TakenOutcome.the-variants.{Refused as NotTaken}
 use Rattle.intake.specs.Intake.{LentSheet, lineAfter, endTaken, newIntake, accepted}
+use Rattle.intake.specs.Takes.{Takes}
 use Rattle.labelling.specs.FromIntake.{sheetOf}
 use Rattle.reading.specs.Lines.{linesOf}
 use Rattle.report.specs.declared.Verdict.{Verdict}
@@ -39,14 +40,6 @@ abbrev pub fileNumbers : List ℕ
 fileNumbers = 1 ∷ 2 ∷ 3 ∷ 4 ∷ 5 ∷ 6 ∷ 7 ∷ 8 ∷ 9 ∷ 10 ∷ 14 ∷ 17 ∷ []
 
 -- ---- the ways in which a file can end
-
--- the intake i accepts the lines one after the other; it is then j, and what is lent to it is then U
-pub data Takes : Intake → LentSheet → List (List ℕ) → Intake → LentSheet → Type 0 where
-  takes-none : {i : Intake} {T : LentSheet} → Takes i T [] i T
-  takes-line : {i j : Intake} {T U : LentSheet} {lines : List (List ℕ)} (line : List ℕ)
-      → lineAfter i line T .taken .outcome ≡ Accepted
-      → Takes (lineAfter i line T .taken .intake) (lineAfter i line T .lent) lines j U
-      → Takes i T (line ∷ lines) j U
 
 -- the first line that the intake refuses; "place is the line number, from 1"
 pub record LineRefused (T : LentSheet) (bytes : List ℕ) (number place : ℕ) : Type 0 where

@@ -9,7 +9,7 @@ use Rattle.lines.specs.Fields.{lineBytes}
 use Rattle.sheet.specs.Sheet.{Grid, Sheet}
 use Rattle.sheet.specs.Label.{areasOf, labelsOf}
 use Rattle.sheet.specs.Refusal.{Lent}
-use Rattle.intake.specs.declared.Sizes.{Sizes}
+use Rattle.faults.specs.declared.Sizes.{Sizes}
 use Rattle.intake.specs.Intake.{LentSheet}
 use Rattle.labelling.specs.FromIntake.{sheetOf}
 use Rattle.listing.specs.Listing.{listingText, refusalText}

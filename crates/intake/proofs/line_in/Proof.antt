@@ -1,6 +1,6 @@
 -- `line_in` meets its contract.
 use Rattle.intake.specs.Intake.{lineIn}
-use Rattle.intake.proofs.FaultLaws.{waits-for-row, takes-cells}
+use Rattle.intake.proofs.StateLaws.{waits-for-row, takes-cells}
 use borrow.Author.Needs.{needs}
 use Rattle.intake.proofs.line_in.Statement.{statement}
 use Rattle.intake.proofs.line_in.Tie as tie

@@ -1,7 +1,7 @@
 -- `write_cell` meets its contract.
 use mathlib.Core.Path.{refl}
+use Rattle.faults.proofs.FaultLaws.{code-fits, row-fits, number-fits, byte-lent}
 use Rattle.intake.specs.Intake.{cellWritten}
-use Rattle.intake.proofs.FaultLaws.{code-fits, row-fits, number-fits, byte-lent}
 use borrow.Author.Needs.{needs}
 use Rattle.intake.proofs.cell_lines.write_cell.Statement.{statement}
 use Rattle.intake.proofs.cell_lines.write_cell.Tie as tie

@@ -2,8 +2,8 @@
 use native.Mathlib.Omega.{arith}
 use mathlib.Core.Path.{sym, _∙_}
 use lib.ListN.{length}
+use Rattle.faults.proofs.FaultLaws.{Fits, sizes-fit}
 use Rattle.intake.specs.Intake.{sizesWritten}
-use Rattle.intake.proofs.FaultLaws.{Fits, sizes-fit}
 use Rattle.sheet.proofs.Cells.{cells-most}
 use Rattle.intake.proofs.LineLaws.{sizes-accepted, sizes-refused}
 use borrow.Author.Needs.{needs}

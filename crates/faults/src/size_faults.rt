@@ -1,0 +1,65 @@
+// What refuses sizes, and the row whose weight comes next.
+ghost use mathlib.Core.Path.{_≡_};
+ghost use mathlib.Core.Bool.{true};
+ghost use Rattle.sheet.specs.Refusal.{sizesFit};
+ghost use Rattle.faults.specs.Faults.{sizesIn, lentEnough, sizesFault, rowFault};
+use super::Sizes;
+use checks::depth_fits;
+use checks::sizes_fit;
+use lines::columns::Column;
+use lines::columns::Columns;
+use lines::values::Values;
+use lines::values::value_of;
+
+// A direction byte for each cell and a weight for each row.
+fn lent_enough(sizes: Sizes, dirs: usize, weights: usize) -> bool
+    requires { ⌜ sizesFit (sizes .rows) (sizes .cols) ≡ true ⌝ }
+    ensures { λ r. ⌜ r ≡ lentEnough sizes dirs weights ⌝ }
+{
+    if sizes.rows * sizes.cols <= dirs {
+        return sizes.rows <= weights;
+    }
+    false
+}
+
+// The refusal of sizes by 1, 2, 3, or 0, where so many direction bytes and so many weights are lent.
+pub fn sizes_fault(sizes: Sizes, dirs: usize, weights: usize) -> u8
+    ensures { λ r. ⌜ r ≡ sizesFault sizes dirs weights ⌝ }
+{
+    let sizes_ok = sizes_fit(sizes.rows, sizes.cols);
+    let depth_ok = depth_fits(sizes.depth);
+    if sizes_ok {
+        if depth_ok {
+            if lent_enough(sizes, dirs, weights) {
+                return 0;
+            }
+            return 3;
+        }
+        return 2;
+    }
+    1
+}
+
+pub fn sizes_in(columns: Columns, values: Values) -> Sizes
+    ensures { λ r. ⌜ r ≡ sizesIn columns values ⌝ }
+{
+    Sizes {
+        rows: value_of(columns, values, Column::Rows) as usize,
+        cols: value_of(columns, values, Column::Cols) as usize,
+        depth: value_of(columns, values, Column::Depth) as usize,
+    }
+}
+
+// The refusal of a state that waits for the weight of a row: by its sizes, then by 9, or 0.
+pub fn row_fault(sizes: Sizes, row: usize, dirs: usize, weights: usize) -> u8
+    ensures { λ r. ⌜ r ≡ rowFault sizes row dirs weights ⌝ }
+{
+    let fault = sizes_fault(sizes, dirs, weights);
+    if fault == 0 {
+        if row < sizes.rows {
+            return 0;
+        }
+        return 9;
+    }
+    fault
+}

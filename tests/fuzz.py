@@ -166,7 +166,8 @@ def with_withdrawals(rng, cells):
         good = [[none, cell]] * 6 + [[none], [none, none], [none, none, cell], [none, cell, none], [none, other],
                                      [none, other, none, cell]]
         off_sheet = {**none, rng.choice([b'row', b'col']): rng.choice([256, 99999])}
-        bad = [[off_sheet], [cell], [other], [none, cell, cell], [none, cell, other], [none, none, cell, none, other, cell]]
+        bad = [[off_sheet], [cell], [other], [none, cell, cell], [none, cell, other],
+               [none, none, cell, none, other, cell]]
         for later in rng.choice(good if rng.random() < 0.9 else bad):
             at = rng.choice([at + 1, rng.randint(at + 1, len(cells))])
             cells.insert(at, later)

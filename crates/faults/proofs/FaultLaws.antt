@@ -146,13 +146,18 @@ pub record Placed (z : Sizes) (x : Cell) (dirs : List ℕ) : Type 0 where
   pub byte-lent : cellNumber (z .cols) (x .row) (x .col) < length dirs
   pub number-small : cellNumber (z .cols) (x .row) (x .col) < 65536
 
+-- a row and a column of the sheet
+pub on-sheet-both : (z : Sizes) (x : Cell) → onSheet z x ≡ true → (x .row < z .rows) × (x .col < z .cols)
+unfolding onSheet
+on-sheet-both z x e =
+    let on = both-true (ltb (x .row) (z .rows)) (ltb (x .col) (z .cols)) e in
+    (ltb-true (x .row) (z .rows) (on .0), ltb-true (x .col) (z .cols) (on .1))
+
 pub on-sheet-placed : (z : Sizes) (x : Cell) (dirs : List ℕ) → Sized (z .rows) (z .cols) dirs → onSheet z x ≡ true
     → Placed z x dirs
-unfolding onSheet
 on-sheet-placed z x dirs f e =
-    let on = both-true (ltb (x .row) (z .rows)) (ltb (x .col) (z .cols)) e in
-    let number : cellNumber (z .cols) (x .row) (x .col) < cellCount z = cell-lt (ltb-true (x .row) (z .rows) (on .0))
-    (ltb-true (x .col) (z .cols) (on .1)) in
+    let on = on-sheet-both z x e in
+    let number : cellNumber (z .cols) (x .row) (x .col) < cellCount z = cell-lt (on .0) (on .1) in
     let count : cellCount z ≤ 65536 = cells-most (f .rows-most) (f .cols-most) in
     record { byte-lent = omega (arith, f .long); number-small = omega arith }
 

@@ -5,10 +5,10 @@ use mathlib.Core.List.{List, _∷_}
 use Prim.Native.Nat.{ℕ, _/_, _%_, _<_, _≤_}
 use native.Mathlib.Decide.{ℕ-discrete}
 use native.Mathlib.Omega.{arith}
-use lib.Dec.{ltb, eqb}
+use lib.Dec.{eqb}
 use lib.ListN.{length, set, getD, length-set}
 use lib.Seq.{getD-set-same, getD-set-other}
-use borrow.Author.Tests.{ltb-true, eq-eqb, ne-eqb}
+use borrow.Author.Tests.{eq-eqb, ne-eqb}
 use Rattle.lines.specs.declared.columns.Columns.{Columns}
 use Rattle.lines.specs.declared.values.Values.{Values}
 use Rattle.lines.specs.declared.values.ValuesLine.{ValuesLine}
@@ -17,11 +17,10 @@ use Rattle.lines.specs.Columns.{columnCount}
 use Rattle.lines.specs.Values.{valuesLine}
 use Rattle.sheet.specs.Direction.{cellNumber}
 use Rattle.sheet.proofs.Cells.{cell-lt, cell-row, cell-col}
-use Rattle.sheet.proofs.Within.{both-true}
 use Rattle.faults.specs.declared.Sizes.{Sizes}
 use Rattle.faults.specs.declared.Cell.{Cell}
 use Rattle.faults.specs.Faults.{cellIn, cellCount, onSheet, byteOf, maySet, cellFault}
-use Rattle.faults.proofs.FaultLaws.{on-sheet-placed, cell-good, byte-lent}
+use Rattle.faults.proofs.FaultLaws.{on-sheet-both, on-sheet-placed, cell-good, byte-lent}
 use Rattle.intake.specs.declared.Stage.the-variants.{TakingCells}
 use Rattle.intake.specs.declared.Intake.{Intake}
 use Rattle.intake.specs.declared.TakenOutcome.the-variants.{Accepted}
@@ -79,14 +78,6 @@ module _ (z : Sizes) (x : Cell) (on : onSheet z x ≡ true) where
   abbrev place : ℕ
   place = cellNumber (z .cols) (x .row) (x .col)
 
-  row-on : x .row < z .rows
-  unfolding onSheet
-  row-on = ltb-true (x .row) (z .rows) (both-true (ltb (x .row) (z .rows)) (ltb (x .col) (z .cols)) on .0)
-
-  col-on : x .col < z .cols
-  unfolding onSheet
-  col-on = ltb-true (x .col) (z .cols) (both-true (ltb (x .row) (z .rows)) (ltb (x .col) (z .cols)) on .1)
-
   -- its byte is set, and that of no other cell
   byte-set : (row col dir : ℕ) (dirs : List ℕ) → place < length dirs → col < z .cols
       → byteOf z row col (set dirs place dir) ≡ cond (isNamed row col x) dir (byteOf z row col dirs)
@@ -100,10 +91,10 @@ module _ (z : Sizes) (x : Cell) (on : onSheet z x ≡ true) where
       ]
     where
       row-same : cellNumber (z .cols) row col ≡ place → x .row ≡ row
-      row-same e = sym (cell-row (x .row) col-on) ∙ ap (λ (n : ℕ). n / z .cols) (sym e) ∙ cell-row row l
+      row-same e = sym (cell-row (x .row) (on-sheet-both z x on .1)) ∙ ap (λ (n : ℕ). n / z .cols) (sym e) ∙ cell-row row l
 
       col-same : cellNumber (z .cols) row col ≡ place → x .col ≡ col
-      col-same e = sym (cell-col (x .row) col-on) ∙ ap (λ (n : ℕ). n % z .cols) (sym e) ∙ cell-col row l
+      col-same e = sym (cell-col (x .row) (on-sheet-both z x on .1)) ∙ ap (λ (n : ℕ). n % z .cols) (sym e) ∙ cell-col row l
 
       other : (cellNumber (z .cols) row col ≡ place → ⊥)
           → byteOf z row col (set dirs place dir) ≡ byteOf z row col dirs
@@ -116,7 +107,8 @@ module _ (z : Sizes) (x : Cell) (on : onSheet z x ≡ true) where
   past-kept : (other dir : ℕ) (dirs : List ℕ) → cellCount z ≤ other
       → getD (set dirs place dir) other 0 ≡ getD dirs other 0
   past-kept other dir dirs l =
-      getD-set-other dirs place other dir 0 (λ e. omega (arith, e, l, cell-lt row-on col-on))
+      let b = on-sheet-both z x on in
+      getD-set-other dirs place other dir 0 (λ e. omega (arith, e, l, cell-lt (b .0) (b .1)))
 
 module _ (z : Sizes) (c : Columns) (line : List ℕ) (x : Cell) (lent : LentSheet) (l : CellLine z c line x lent) where
   withdrawn : x .dir ≡ 0 → byteOf z (x .row) (x .col) (cellWritten z x lent .dirs) ≡ 0

@@ -11,7 +11,7 @@ use Rattle.intake.specs.declared.Stage.{Stage}
 use Rattle.intake.specs.declared.Stage.the-variants.{WaitingForWeight, TakingCells}
 use Rattle.intake.specs.Intake.{stateFault}
 
--- one that waits for the weight of a row: a row of its sheet, whose weight is lent
+-- a state without a fault that waits for the weight of a row: a row of its sheet, whose weight is lent
 pub waits-for-row : {stage : Stage} (z : Sizes) (row dirs weights : ℕ) → stage ≡ WaitingForWeight z row
     → stateFault stage dirs weights ≡ 0 → (row < z .rows) × (z .rows ≤ weights)
 unfolding stateFault

@@ -1,5 +1,4 @@
--- The flow question's tests say what they mean, and its answers say what the water does.
--- the test finds the place where two labels part
+-- The tests of the questions about labels say what they mean, and the answers say what the water does.
 use mathlib.Core.Path.{_≡_, refl, sym, _∙_, ap}
 use mathlib.Core.Bool.{Bool, true, false, cond, true≢false}
 use mathlib.Core.List.{List, [], _∷_}
@@ -8,22 +7,31 @@ use native.Mathlib.Omega.{arith}
 use lib.Dec.{eqb, ltb}
 use lib.ListN.{length, getD, drop, length-drop}
 use lib.Seq.{getD-drop}
-use borrow.Author.Tests.{eq-eqb, ne-eqb, ltb-true, lt-ltb}
+use borrow.Author.Tests.{eq-eqb, ne-eqb, eqb-true, eqb-false, ltb-true, lt-ltb}
 use Rattle.sheet.specs.declared.Found.the-variants.{At}
 use Rattle.sheet.specs.declared.Outcome.the-variants.{Accepted}
-use Rattle.sheet.specs.declared.Flow.the-variants.{Same, Yes, No, Undecided}
-use Rattle.sheet.specs.declared.Flow.{Flow}
-use Rattle.sheet.specs.Flow.{partFrom, partAt, every, isOdd, ruleAt, isLabel, answerAt, answerUnequal, flow}
-use Rattle.sheet.specs.Label.{labelAt}
+use Rattle.sheet.specs.declared.Flow.the-variants.{Yes, Undecided}
+use Rattle.sheet.specs.declared.OutletFlow.{OutletFlow}
+use Rattle.sheet.specs.declared.OutletFlow.the-variants.{Same as OutletSame, Yes as OutletYes, No as OutletNo}
+use Rattle.sheet.specs.Sheet.{Sheet, next}
+use Rattle.sheet.specs.Water.{Passes}
+use Rattle.sheet.specs.River.{network}
+use Rattle.sheet.specs.Label.{digitsOf, labelAt}
 use Rattle.sheet.specs.Refusal.{depthFits, outcome, lentAfter, Lent}
-use Rattle.sheet.specs.Sheet.{Sheet}
+use Rattle.sheet.specs.Flow.{partFrom, partAt, every, isOdd, ruleAt, isLabel, answerAt, answerUnequal, outletFlow}
+use Rattle.sheet.specs.Flow.{isWhole, cellAnswer, flow}
 use Rattle.sheet.proofs.Within.{both-true}
-use Rattle.claims.specs.Demand.{Inside}
-use Rattle.claims.specs.Flow.{asked}
+use Rattle.claims.specs.Demand.{Inside, digitsAt}
+use Rattle.claims.specs.Flow.{asked, FlowMeaning}
 use Rattle.claims.specs.Parting.{PartAt, RuleAt}
 use Rattle.claims.proofs.Parting.{part-prev, all-odd-at, at-all-odd}
-use Rattle.claims.proofs.Written.{checks, is-label}
+use Rattle.claims.proofs.Basins.{passes-rule}
+use Rattle.claims.proofs.Written.{checks, the-basin, digits-from-outlet, is-label}
+use Rattle.claims.proofs.Theorems.{demand-three}
 
+-- ---- the tests
+
+-- the test finds the place where two labels part
 part-from : (i : ℕ) (x y : List ℕ) (k : ℕ) → PartAt x y k → partFrom i x y ≡ At (i + k)
 unfolding partFrom
 part-from i [] y k t = absurd (omega (arith, t .in-x))
@@ -62,35 +70,106 @@ module _ (x y : List ℕ) (k : ℕ) where
       in-x j l = omega arith
 
 -- ---- the answers
--- the flow question on labels that are good at the depth
-flow-labels : (depth p q : ℕ) → depthFits depth ≡ true → isLabel depth p ≡ true → isLabel depth q ≡ true
-    → flow depth p q ≡ cond (eqb p q) Same (answerUnequal depth p q)
-unfolding flow
-flow-labels depth p q d e f = rw (d, e, f)
 
-module _ (S : Sheet) (L : Lent) (accepted : outcome S L ≡ Accepted) (p q : ℕ) (i : Inside S p) (j : Inside S q) where
+-- an answer by the place where labels part
+data Answered (x y : List ℕ) (k : ℕ) : OutletFlow → Type 0 where
+  answered-yes : RuleAt x y k → Answered x y k OutletYes
+  answered-no : ¬ RuleAt x y k → Answered x y k OutletNo
+
+answer-at : (x y : List ℕ) (k : ℕ) → PartAt x y k → Answered x y k (answerAt x y (partAt x y))
+unfolding answerAt
+answer-at x y k t = rw (part-found x y k t) (go (ruleAt k x y) refl)
+  where
+    go : (met : Bool) → ruleAt k x y ≡ met → Answered x y k (cond met OutletYes OutletNo)
+    go true e = answered-yes (rule-true x y k e)
+    go false e = answered-no (λ r. true≢false (sym (rule-test x y k r) ∙ e))
+
+-- on labels that are good at the depth
+good-labels : (depth p q : ℕ) → depthFits depth ≡ true → isLabel depth p ≡ true → isLabel depth q ≡ true
+    → outletFlow depth p q ≡ cond (eqb p q) OutletSame (answerUnequal p q)
+unfolding outletFlow
+good-labels depth p q d e f = rw (d, e, f)
+
+-- a label that is whole has fewer digits than the depth
+whole-short : (depth p : ℕ) → isWhole depth p ≡ true → length (digitsOf p) < depth
+unfolding isWhole
+whole-short depth p e = ltb-true (length (digitsOf p)) depth e
+
+-- the labels of cells p and q, and the answer that they get
+data Judged (labels : List ℕ) (p q : ℕ) : OutletFlow → Type 0 where
+  judged-same : labelAt labels p ≡ labelAt labels q → Judged labels p q OutletSame
+  judged-yes : (k : ℕ) → PartAt (digitsAt labels p) (digitsAt labels q) k
+      → RuleAt (digitsAt labels p) (digitsAt labels q) k → Judged labels p q OutletYes
+  judged-no : (k : ℕ) → PartAt (digitsAt labels p) (digitsAt labels q) k
+      → ¬ RuleAt (digitsAt labels p) (digitsAt labels q) k → Judged labels p q OutletNo
+
+-- ---- inside cells of an accepted sheet
+
+module _ (S : Sheet) (L : Lent) (accepted : outcome S L ≡ Accepted) where
   abbrev labels : List ℕ
   labels = lentAfter S L .labels
 
-  pub the-answer : asked S labels p q ≡ cond (eqb (labelAt labels p) (labelAt labels q)) Same
-      (answerUnequal (S .depth) (labelAt labels p) (labelAt labels q))
-  the-answer =
-      flow-labels (S .depth) (labelAt labels p) (labelAt labels q) (checks S L accepted .depth)
-      (is-label S L accepted p i) (is-label S L accepted q j)
+  module _ (p q : ℕ) (i : Inside S p) (j : Inside S q) where
+    judged : Judged labels p q (outletFlow (S .depth) (labelAt labels p) (labelAt labels q))
+    unfolding answerUnequal
+    judged =
+        rw (good-labels (S .depth) (labelAt labels p) (labelAt labels q) (checks S L accepted .depth)
+        (is-label S L accepted p i) (is-label S L accepted q j))
+        (go (eqb (labelAt labels p) (labelAt labels q)) refl)
+      where
+        parting : (k : ℕ) → PartAt (digitsAt labels p) (digitsAt labels q) k → (a : OutletFlow)
+            → Answered (digitsAt labels p) (digitsAt labels q) k a → Judged labels p q a
+        parting k t a (answered-yes r) = judged-yes k t r
+        parting k t a (answered-no n) = judged-no k t n
 
--- an answer by the place where labels part
-pub data Answered (depth : ℕ) (x y : List ℕ) (k : ℕ) : Flow → Type 0 where
-  answered-yes : RuleAt x y k → length x < depth → Answered depth x y k Yes
-  answered-undecided : RuleAt x y k → Answered depth x y k Undecided
-  answered-no : ¬ RuleAt x y k → Answered depth x y k No
+        go : (same : Bool) → eqb (labelAt labels p) (labelAt labels q) ≡ same
+            → Judged labels p q (cond same OutletSame (answerUnequal (labelAt labels p) (labelAt labels q)))
+        go true e = judged-same (eqb-true (labelAt labels p) (labelAt labels q) e)
+        go false e =
+            let t = demand-three S L accepted .labels-part p q i j
+            (eqb-false (labelAt labels p) (labelAt labels q) e) in
+            parting (t .0) (t .1) _ (answer-at (digitsAt labels p) (digitsAt labels q) (t .0) (t .1))
 
-pub answer-at : (depth : ℕ) (x y : List ℕ) (k : ℕ) → PartAt x y k
-    → Answered depth x y k (answerAt depth x y (partAt x y))
-unfolding answerAt
-answer-at depth x y k t = rw (part-found x y k t) (go (ruleAt k x y) refl (ltb (length x) depth) refl)
-  where
-    go : (a : Bool) → ruleAt k x y ≡ a → (b : Bool) → ltb (length x) depth ≡ b
-        → Answered depth x y k (cond a (cond b Yes Undecided) No)
-    go true e true f = answered-yes (rule-true x y k e) (ltb-true (length x) depth f)
-    go true e false f = answered-undecided (rule-true x y k e)
-    go false e b f = answered-no (λ r. true≢false (sym (rule-test x y k r) ∙ e))
+    -- water that passes p meets the rule, at any depth
+    met : (k : ℕ) → PartAt (digitsAt labels p) (digitsAt labels q) k → Passes (next (S .grid)) q p
+        → RuleAt (digitsAt labels p) (digitsAt labels q) k
+    unfolding network
+    met k t h =
+        let f = digits-from-outlet S L accepted in
+        rw (f p i, f q j) (passes-rule (the-basin S L accepted) (S .depth) p q i j k (rw (f p i, f q j) at t) h)
+
+    by-answer : (a : OutletFlow) → Judged labels p q a
+        → asked S labels p q ≡ cellAnswer (isWhole (S .depth) (labelAt labels p)) a → FlowMeaning S labels p q
+    by-answer a (judged-same e) f = record {
+      yes = λ g. let z : _≡_ {A = ℕ} 0 1 = cc in absurd (omega arith);
+      no = λ g. let z : _≡_ {A = ℕ} 0 1 = cc in absurd (omega arith);
+      same = λ g. e;
+      never-refused = λ n g. let z : _≡_ {A = ℕ} 0 1 = cc in absurd (omega arith);
+    }
+    by-answer a (judged-yes k t r) f = go (isWhole (S .depth) (labelAt labels p)) refl f
+      where
+        go : (whole : Bool) → isWhole (S .depth) (labelAt labels p) ≡ whole
+            → asked S labels p q ≡ cond whole Yes Undecided → FlowMeaning S labels p q
+        go true e g = record {
+          yes =
+              λ h. (demand-three S L accepted .cell-rule p q i j (whole-short (S .depth) (labelAt labels p) e) k t) .1 r;
+          no = λ h. let z : _≡_ {A = ℕ} 0 1 = cc in absurd (omega arith);
+          same = λ h. let z : _≡_ {A = ℕ} 0 1 = cc in absurd (omega arith);
+          never-refused = λ n h. let z : _≡_ {A = ℕ} 0 1 = cc in absurd (omega arith);
+        }
+        go false e g = record {
+          yes = λ h. let z : _≡_ {A = ℕ} 0 1 = cc in absurd (omega arith);
+          no = λ h. let z : _≡_ {A = ℕ} 0 1 = cc in absurd (omega arith);
+          same = λ h. let z : _≡_ {A = ℕ} 0 1 = cc in absurd (omega arith);
+          never-refused = λ n h. let z : _≡_ {A = ℕ} 0 1 = cc in absurd (omega arith);
+        }
+    by-answer a (judged-no k t n) f = record {
+      yes = λ g. let z : _≡_ {A = ℕ} 0 1 = cc in absurd (omega arith);
+      no = λ g h. n (met k t h);
+      same = λ g. let z : _≡_ {A = ℕ} 0 1 = cc in absurd (omega arith);
+      never-refused = λ m g. let z : _≡_ {A = ℕ} 0 1 = cc in absurd (omega arith);
+    }
+
+    pub flow-meaning : FlowMeaning S labels p q
+    unfolding flow
+    flow-meaning = by-answer _ judged refl

@@ -17,7 +17,7 @@ pub mod Basins
 pub mod Sheets
 pub mod GridLaws
 pub mod Written
-pub mod FlowMeaning
 pub mod Theorems
+pub mod FlowMeaning
 pub mod Cases
 pub mod Places

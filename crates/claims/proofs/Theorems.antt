@@ -1,19 +1,15 @@
 -- The claims of specs/, for every sheet that the outcome of labelling accepts, about the labels that it writes.
--- ---- the same claims for digits that agree on the inside cells
-use mathlib.Core.Path.{_≡_, refl, sym, _∙_, ap}
-use mathlib.Core.Bool.{Bool, true, false, cond}
+use mathlib.Core.Path.{_≡_, sym, _∙_, ap}
+use mathlib.Core.Bool.{true}
 use mathlib.Core.List.{List}
 use Prim.Native.Nat.{ℕ, _<_, _≤_}
 use native.Mathlib.Omega.{arith}
-use lib.Dec.{eqb, leb}
-use borrow.Author.Tests.{eqb-true, eqb-false, le-leb}
+use lib.Dec.{leb}
+use borrow.Author.Tests.{le-leb}
 use Rattle.sheet.specs.declared.Next.{Next}
 use Rattle.sheet.specs.declared.Outcome.the-variants.{Accepted}
-use Rattle.sheet.specs.declared.Flow.{Flow}
-use Rattle.sheet.specs.declared.Flow.the-variants.{Same}
-use Rattle.sheet.specs.Water.{Passes, DrainsTo}
-use Rattle.sheet.specs.Flow.{answerUnequal}
-use Rattle.sheet.specs.Label.{number, labelDigits, labelAt}
+use Rattle.sheet.specs.Water.{DrainsTo}
+use Rattle.sheet.specs.Label.{number, labelAt}
 use Rattle.sheet.specs.Area.{sumOver, weight, area}
 use Rattle.sheet.specs.River.{network, least}
 use Rattle.sheet.specs.Refusal.{outcome, written, lentAfter, Lent}
@@ -21,21 +17,16 @@ use Rattle.sheet.specs.Sheet.{cells, inside, next, Sheet}
 use Rattle.sheet.proofs.Cells.{cells-most, inside-lt, row-lt}
 use Rattle.sheet.proofs.Within.{cols-some, rows-cols-most}
 use Rattle.sheet.proofs.Weights.{cell-weight}
-use Rattle.claims.specs.Demand.{Inside, digitsAt, DemandThreeOf, OutletRuleOf, Shares, DemandThree, OutletRule}
-use Rattle.claims.specs.Flow.{asked, FlowMeaning}
+use Rattle.claims.specs.Demand.{Inside, DemandThreeOf, OutletRuleOf, Shares, DemandThree, OutletRule}
 use Rattle.claims.specs.Bounds.{RiversAreWhole, mostArea, AreaBounds, Unweighted, UnweightedAreas, LabelBounds}
-use Rattle.claims.specs.Parting.{PartAt, RuleAt}
-use Rattle.claims.proofs.Lawful.{yes, no}
 use Rattle.claims.proofs.Rivers.{river-whole}
-use Rattle.claims.proofs.DigitRule.{cell-rule}
-use Rattle.claims.proofs.Units.{drains-map, one-outlet}
-use Rattle.claims.proofs.Basins.{lawful, outlet-rule-holds, demand-three-holds, passes-rule}
+use Rattle.claims.proofs.Units.{drains-map}
+use Rattle.claims.proofs.Basins.{lawful, outlet-rule-holds, demand-three-holds}
 use Rattle.claims.proofs.Sums.{sum-most, sum-each}
 use Rattle.claims.proofs.GridLaws.{area-least, area-most, area-count, area-count-most, area-adds}
-use Rattle.claims.proofs.Written.{checks, the-basin, label-written, digits-written, label-from-outlet}
-use Rattle.claims.proofs.Written.{digits-from-outlet, is-label, label-fits}
-use Rattle.claims.proofs.FlowMeaning.{the-answer, answer-at, Answered, answered-yes, answered-undecided}
-use Rattle.claims.proofs.FlowMeaning.{answered-no}
+use Rattle.claims.proofs.Written.{checks, the-basin, label-from-outlet, digits-from-outlet, is-label, label-fits}
+
+-- ---- the same claims for digits that agree on the inside cells
 
 module _ (next : ℕ → Next) {inside : ℕ → Type 0} {digits written : ℕ → List ℕ}
     (same : (c : ℕ) → inside c → written c ≡ digits c) where
@@ -117,64 +108,6 @@ module _ (S : Sheet) (L : Lent) (accepted : outcome S L ≡ Accepted) where
   -- ---- bounds
   pub label-bounds : LabelBounds S (lentAfter S L .labels)
   label-bounds = record { is-label = is-label S L accepted; fits = label-fits S L accepted }
-
-  -- ---- the flow question
-  module _ (p q : ℕ) (i : Inside S p) (j : Inside S q) where
-    -- water that passes p meets the rule, at any depth
-    met : (k : ℕ) → PartAt (digitsAt (lentAfter S L .labels) p) (digitsAt (lentAfter S L .labels) q) k
-        → Passes (next (S .grid)) q p → RuleAt (digitsAt (lentAfter S L .labels) p)
-        (digitsAt (lentAfter S L .labels) q) k
-    unfolding network
-    met k t h =
-        let f = digits-from-outlet S L accepted in
-        rw (f p i, f q j) (passes-rule (the-basin S L accepted) (S .depth) p q i j k (rw (f p i, f q j) at t) h)
-
-    by-parting : (k : ℕ) → PartAt (digitsAt (lentAfter S L .labels) p) (digitsAt (lentAfter S L .labels) q) k
-        → (a : Flow)
-        → Answered (S .depth) (digitsAt (lentAfter S L .labels) p) (digitsAt (lentAfter S L .labels) q) k a
-        → asked S (lentAfter S L .labels) p q ≡ a → FlowMeaning S (lentAfter S L .labels) p q
-    by-parting k t a (answered-yes r l) e = record {
-      yes = λ f. (demand-three .cell-rule p q i j l k t) .1 r;
-      no = λ f. let z : _≡_ {A = ℕ} 0 1 = cc in absurd (omega arith);
-      same = λ f. let z : _≡_ {A = ℕ} 0 1 = cc in absurd (omega arith);
-      never-refused = λ n f. let z : _≡_ {A = ℕ} 0 1 = cc in absurd (omega arith);
-    }
-    by-parting k t a (answered-undecided r) e = record {
-      yes = λ f. let z : _≡_ {A = ℕ} 0 1 = cc in absurd (omega arith);
-      no = λ f. let z : _≡_ {A = ℕ} 0 1 = cc in absurd (omega arith);
-      same = λ f. let z : _≡_ {A = ℕ} 0 1 = cc in absurd (omega arith);
-      never-refused = λ n f. let z : _≡_ {A = ℕ} 0 1 = cc in absurd (omega arith);
-    }
-    by-parting k t a (answered-no r) e = record {
-      yes = λ f. let z : _≡_ {A = ℕ} 0 1 = cc in absurd (omega arith);
-      no = λ f h. r (met k t h);
-      same = λ f. let z : _≡_ {A = ℕ} 0 1 = cc in absurd (omega arith);
-      never-refused = λ n f. let z : _≡_ {A = ℕ} 0 1 = cc in absurd (omega arith);
-    }
-
-    pub flow-meaning : FlowMeaning S (lentAfter S L .labels) p q
-    unfolding answerUnequal
-    flow-meaning =
-        go (eqb (labelAt (lentAfter S L .labels) p) (labelAt (lentAfter S L .labels) q)) refl
-        (the-answer S L accepted p q i j)
-      where
-        answer : Flow
-        answer = answerUnequal (S .depth) (labelAt (lentAfter S L .labels) p) (labelAt (lentAfter S L .labels) q)
-
-        go : (b : Bool) → eqb (labelAt (lentAfter S L .labels) p) (labelAt (lentAfter S L .labels) q) ≡ b
-            → asked S (lentAfter S L .labels) p q ≡ cond b Same answer → FlowMeaning S (lentAfter S L .labels) p q
-        go true e f = record {
-          yes = λ g. let z : _≡_ {A = ℕ} 0 1 = cc in absurd (omega arith);
-          no = λ g. let z : _≡_ {A = ℕ} 0 1 = cc in absurd (omega arith);
-          same = λ g. eqb-true (labelAt (lentAfter S L .labels) p) (labelAt (lentAfter S L .labels) q) e;
-          never-refused = λ n g. let z : _≡_ {A = ℕ} 0 1 = cc in absurd (omega arith);
-        }
-        go false e f =
-            let t = demand-three .labels-part p q i j
-            (eqb-false (labelAt (lentAfter S L .labels) p) (labelAt (lentAfter S L .labels) q) e) in
-            by-parting (t .0) (t .1) answer
-            (answer-at (S .depth) (digitsAt (lentAfter S L .labels) p) (digitsAt (lentAfter S L .labels) q) (t .0)
-            (t .1)) f
 
   pub rivers-are-whole : RiversAreWhole S
   unfolding network

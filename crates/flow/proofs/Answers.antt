@@ -5,15 +5,18 @@ use mathlib.Core.List.{List}
 use Prim.Native.Nat.{ℕ, _+_, _-_, _<_}
 use native.Mathlib.Omega.{arith}
 use borrow.Author.Tests.{ne-eqb}
-use lib.Dec.{eqb, ltb}
-use lib.ListN.{length}
+use lib.Dec.{eqb}
 use Rattle.sheet.specs.declared.Found.{Found}
 use Rattle.sheet.specs.declared.Found.the-variants.{At, Nothing}
 use Rattle.sheet.specs.declared.Flow.{Flow}
 use Rattle.sheet.specs.declared.Flow.the-variants.{Same, Yes, No, Undecided, Refused}
+use Rattle.sheet.specs.declared.OutletFlow.{OutletFlow}
+use Rattle.sheet.specs.declared.OutletFlow.the-variants.{Same as OutletSame, Yes as OutletYes, No as OutletNo}
+use Rattle.sheet.specs.declared.OutletFlow.the-variants.{Refused as OutletRefused}
 use Rattle.sheet.specs.Label.{digitsOf}
 use Rattle.sheet.specs.Refusal.{both, depthFits}
-use Rattle.sheet.specs.Flow.{ruleAt, isLabel, answerAt, partAt, answerUnequal, flow, answerNumber}
+use Rattle.sheet.specs.Flow.{ruleAt, isLabel, partAt, answerAt, answerUnequal, outletFlow, isWhole, cellAnswer, flow}
+use Rattle.sheet.specs.Flow.{answerNumber, outletAnswerNumber}
 
 -- the answer that has a number
 abbrev answerOf : ℕ → Flow
@@ -39,29 +42,39 @@ answer-of (Refused number) =
 pub answer-number-apart : (a b : Flow) → answerNumber a ≡ answerNumber b → a ≡ b
 answer-number-apart a b e = sym (answer-of a) ∙ ap answerOf e ∙ answer-of b
 
-abbrev fitsByte : Flow → Type 0
-fitsByte a = answerNumber a < 256
+abbrev fitsByte : OutletFlow → Type 0
+fitsByte a = outletAnswerNumber a < 256
 
 -- of two answers that fit, either fits
-either : (test : Bool) (a b : Flow) → fitsByte a → fitsByte b → fitsByte (cond test a b)
+either : (test : Bool) (a b : OutletFlow) → fitsByte a → fitsByte b → fitsByte (cond test a b)
 either true a b h g = h
 either false a b h g = g
 
-answer-byte : (depth : ℕ) (x y : List ℕ) (f : Found) → fitsByte (answerAt depth x y f)
+answer-byte : (x y : List ℕ) (f : Found) → fitsByte (answerAt x y f)
 unfolding answerAt
-answer-byte depth x y Nothing = omega arith
-answer-byte depth x y (At i) =
-    either (ruleAt i x y) _ No (either (ltb (length x) depth) Yes Undecided (omega arith) (omega arith)) (omega arith)
+answer-byte x y Nothing = omega arith
+answer-byte x y (At i) = either (ruleAt i x y) OutletYes OutletNo (omega arith) (omega arith)
 
-unequal-byte : (depth p q : ℕ) → fitsByte (answerUnequal depth p q)
+unequal-byte : (p q : ℕ) → fitsByte (answerUnequal p q)
 unfolding answerUnequal
-unequal-byte depth p q = answer-byte depth (digitsOf p) (digitsOf q) (partAt (digitsOf p) (digitsOf q))
+unequal-byte p q = answer-byte (digitsOf p) (digitsOf q) (partAt (digitsOf p) (digitsOf q))
+
+outlet-flow-byte : (depth p q : ℕ) → fitsByte (outletFlow depth p q)
+unfolding outletFlow
+outlet-flow-byte depth p q =
+    either (depthFits depth) _ (OutletRefused 2)
+    (either (both (isLabel depth p) (isLabel depth q)) _ (OutletRefused 11)
+    (either (eqb p q) OutletSame _ (omega arith) (unequal-byte p q))
+    (omega arith))
+    (omega arith)
+
+cell-byte : (whole : Bool) (a : OutletFlow) → fitsByte a → answerNumber (cellAnswer whole a) < 256
+cell-byte whole OutletSame h = omega arith
+cell-byte true OutletYes h = omega arith
+cell-byte false OutletYes h = omega arith
+cell-byte whole OutletNo h = omega arith
+cell-byte whole (OutletRefused number) h = h
 
 pub flow-byte : (depth p q : ℕ) → answerNumber (flow depth p q) < 256
 unfolding flow
-flow-byte depth p q =
-    either (depthFits depth) _ (Refused 2)
-    (either (both (isLabel depth p) (isLabel depth q)) _ (Refused 11)
-    (either (eqb p q) Same _ (omega arith) (unequal-byte depth p q))
-    (omega arith))
-    (omega arith)
+flow-byte depth p q = cell-byte (isWhole depth p) (outletFlow depth p q) (outlet-flow-byte depth p q)

@@ -1,15 +1,18 @@
-// The flow question: does water from the label q pass the label p?
+// The flow question, does water from the label q pass the label p, and the question whether it passes the outlet of the
+// unit that p names.
 use checks::depth_fits;
 use digits::count_digits;
 use digits::is_label;
 use digits::put_digits;
 use sheet::Flow;
 use sheet::Found;
+use sheet::OutletFlow;
 ghost use mathlib.Core.Path.{_≡_};
 ghost use Prim.Native.Nat.{_<_};
 ghost use lib.ListN.{length, drop};
 ghost use Rattle.sheet.specs.Refusal.{both};
-ghost use Rattle.sheet.specs.Flow.{partAt, every, isOdd, ruleAt, isLabel, answerAt, answerUnequal, flow, answerNumber};
+ghost use Rattle.sheet.specs.Flow.{partAt, every, isOdd, ruleAt, isLabel, answerAt, answerUnequal, outletFlow};
+ghost use Rattle.sheet.specs.Flow.{cellAnswer, flow, answerNumber};
 
 // The first place where both have a digit and the digits differ.
 fn part_at(p: &[u8], q: &[u8]) -> Found
@@ -55,28 +58,24 @@ fn rule_at(i: usize, p: &[u8], q: &[u8]) -> bool
 }
 
 // The answer for unequal labels, by their digits.
-fn answer_at(depth: usize, p: &[u8], q: &[u8]) -> Flow
-    ensures { λ r. ⌜ r ≡ answerAt depth (now (p .entry)) (now (q .entry)) (partAt (now (p .entry)) (now (q .entry))) ⌝ }
+fn answer_at(p: &[u8], q: &[u8]) -> OutletFlow
+    ensures { λ r. ⌜ r ≡ answerAt (now (p .entry)) (now (q .entry)) (partAt (now (p .entry)) (now (q .entry))) ⌝ }
 {
     match part_at(p, q) {
-        Found::Nothing => Flow::Refused(12),
+        Found::Nothing => OutletFlow::Refused(12),
         Found::At(i) => {
             if rule_at(i, p, q) {
-                if depth <= p.len() {
-                    Flow::Undecided
-                } else {
-                    Flow::Yes
-                }
+                OutletFlow::Yes
             } else {
-                Flow::No
+                OutletFlow::No
             }
         }
     }
 }
 
 // The answer for unequal labels.
-fn answer_unequal(depth: usize, p: u64, q: u64) -> Flow
-    ensures { λ r. ⌜ r ≡ answerUnequal depth p q ⌝ }
+fn answer_unequal(p: u64, q: u64) -> OutletFlow
+    ensures { λ r. ⌜ r ≡ answerUnequal p q ⌝ }
 {
     let mut a = [0u8; 20];
     let mut b = [0u8; 20];
@@ -84,7 +83,7 @@ fn answer_unequal(depth: usize, p: u64, q: u64) -> Flow
     let m = count_digits(q);
     put_digits(p, n, &mut a);
     put_digits(q, m, &mut b);
-    answer_at(depth, &a[..n], &b[..m])
+    answer_at(&a[..n], &b[..m])
 }
 
 // Both are labels at the depth.
@@ -97,21 +96,42 @@ fn are_labels(depth: usize, p: u64, q: u64) -> bool
     false
 }
 
-// Does water from the label q pass the label p? 2, 11, Same, 12, then the rule.
-pub fn flow_of(depth: usize, p: u64, q: u64) -> Flow
-    ensures answer { λ r. ⌜ r ≡ flow depth p q ⌝ }
-    ensures number { λ r. ⌜ answerNumber r ≡ answerNumber (flow depth p q) ⌝ }
+// Does water from the label q pass the outlet of the unit that the label p names? 2, 11, Same, 12, then the rule.
+fn outlet_flow_of(depth: usize, p: u64, q: u64) -> OutletFlow
+    ensures { λ r. ⌜ r ≡ outletFlow depth p q ⌝ }
 {
     if depth_fits(depth) {
         if are_labels(depth, p, q) {
             if p == q {
-                return Flow::Same;
+                return OutletFlow::Same;
             }
-            return answer_unequal(depth, p, q);
+            return answer_unequal(p, q);
         }
-        return Flow::Refused(11);
+        return OutletFlow::Refused(11);
     }
-    Flow::Refused(2)
+    OutletFlow::Refused(2)
+}
+
+// The answer about a label from that about its unit's outlet; `whole` tells that the label has fewer digits than the
+// depth.
+fn cell_answer(whole: bool, answer: OutletFlow) -> Flow
+    ensures { λ r. ⌜ r ≡ cellAnswer whole answer ⌝ }
+{
+    match answer {
+        OutletFlow::Same => Flow::Same,
+        OutletFlow::Yes => { if whole { Flow::Yes } else { Flow::Undecided } }
+        OutletFlow::No => Flow::No,
+        OutletFlow::Refused(number) => Flow::Refused(number),
+    }
+}
+
+// Does water from the label q pass the label p? As for the outlet of p's unit, but that a label of as many digits as
+// the depth gets Undecided for Yes.
+pub fn flow_of(depth: usize, p: u64, q: u64) -> Flow
+    ensures answer { λ r. ⌜ r ≡ flow depth p q ⌝ }
+    ensures number { λ r. ⌜ answerNumber r ≡ answerNumber (flow depth p q) ⌝ }
+{
+    cell_answer(count_digits(p) < depth, outlet_flow_of(depth, p, q))
 }
 
 // The number of an answer: 0 No, 1 Yes, 2 Same, 3 Undecided, 128 + the refusal's number. A refusal may carry any byte,

@@ -1,4 +1,5 @@
--- Document 01's flow question: where two labels part, the digit rule, refusals 2, 11 and 12, and the answer.
+-- Document 01's flow question, and document 02's about the outlet of a unit: where two labels part, the digit rule,
+-- refusals 2, 11 and 12, and the answers.
 use mathlib.Core.Bool.{Bool, true, false, cond}
 use mathlib.Core.List.{List, [], _∷_}
 use Prim.Native.Nat.{ℕ, suc, _+_, _%_}
@@ -8,6 +9,9 @@ use Rattle.sheet.specs.declared.Found.{Found}
 use Rattle.sheet.specs.declared.Found.the-variants.{At, Nothing}
 use Rattle.sheet.specs.declared.Flow.{Flow}
 use Rattle.sheet.specs.declared.Flow.the-variants.{Same, Yes, No, Undecided, Refused}
+use Rattle.sheet.specs.declared.OutletFlow.{OutletFlow}
+use Rattle.sheet.specs.declared.OutletFlow.the-variants.{Same as OutletSame, Yes as OutletYes, No as OutletNo}
+use Rattle.sheet.specs.declared.OutletFlow.the-variants.{Refused as OutletRefused}
 use Rattle.sheet.specs.Label.{digitsOf}
 use Rattle.sheet.specs.Refusal.{both, within, depthFits}
 
@@ -45,25 +49,44 @@ unfoldable pub isLabel : ℕ → ℕ → Bool
 unfolding areDigits digitsOf
 isLabel depth label = areDigits depth (digitsOf label)
 
--- the answer for unequal labels: 12 where they do not part; else by the rule, which is unsure where P may hold
--- tributaries that were cut
-unfoldable pub answerAt : ℕ → List ℕ → List ℕ → Found → Flow
+-- the answer for unequal labels: 12 where they do not part, else by the rule
+unfoldable pub answerAt : List ℕ → List ℕ → Found → OutletFlow
 unfolding ruleAt
-answerAt depth x y Nothing = Refused 12
-answerAt depth x y (At i) = cond (ruleAt i x y) (cond (ltb (length x) depth) Yes Undecided) No
+answerAt x y Nothing = OutletRefused 12
+answerAt x y (At i) = cond (ruleAt i x y) OutletYes OutletNo
 
 -- the answer for unequal labels as numbers
-unfoldable pub answerUnequal : ℕ → ℕ → ℕ → Flow
+unfoldable pub answerUnequal : ℕ → ℕ → OutletFlow
 unfolding answerAt partAt digitsOf
-answerUnequal depth p q = answerAt depth (digitsOf p) (digitsOf q) (partAt (digitsOf p) (digitsOf q))
+answerUnequal p q = answerAt (digitsOf p) (digitsOf q) (partAt (digitsOf p) (digitsOf q))
 
--- does water from the label q pass the label p? 2, 11, Same, in this order, then the answer for unequal labels
-unfoldable pub flow : ℕ → ℕ → ℕ → Flow
+-- does water from the label q pass the outlet of the unit that the label p names? 2, 11, Same, in this order, then the
+-- answer for unequal labels
+unfoldable pub outletFlow : ℕ → ℕ → ℕ → OutletFlow
 unfolding depthFits isLabel answerUnequal
-flow depth p q =
-    let unequal : Flow = answerUnequal depth p q in
-    let judged : Flow = cond (both (isLabel depth p) (isLabel depth q)) (cond (eqb p q) Same unequal) (Refused 11) in
-    cond (depthFits depth) judged (Refused 2)
+outletFlow depth p q =
+    let unequal : OutletFlow = answerUnequal p q in
+    let judged : OutletFlow =
+    cond (both (isLabel depth p) (isLabel depth q)) (cond (eqb p q) OutletSame unequal) (OutletRefused 11) in
+    cond (depthFits depth) judged (OutletRefused 2)
+
+-- a label with fewer digits than the depth, so that no tributary in its unit was cut
+unfoldable pub isWhole : ℕ → ℕ → Bool
+unfolding digitsOf
+isWhole depth p = ltb (length (digitsOf p)) depth
+
+-- the answer about the label, from that about the outlet: Yes is unsure where the label may hold tributaries that were
+-- cut; the others stay
+abbrev pub cellAnswer : Bool → OutletFlow → Flow
+cellAnswer whole OutletSame = Same
+cellAnswer whole OutletYes = cond whole Yes Undecided
+cellAnswer whole OutletNo = No
+cellAnswer whole (OutletRefused number) = Refused number
+
+-- does water from the label q pass the label p? The steps are those of the question about the outlet, and then one more
+unfoldable pub flow : ℕ → ℕ → ℕ → Flow
+unfolding outletFlow isWhole
+flow depth p q = cellAnswer (isWhole depth p) (outletFlow depth p q)
 
 -- the number of an answer: 0 No, 1 Yes, 2 Same, 3 Undecided, 128 + the refusal's number
 abbrev pub answerNumber : Flow → ℕ
@@ -72,3 +95,7 @@ answerNumber Yes = 1
 answerNumber Same = 2
 answerNumber Undecided = 3
 answerNumber (Refused number) = 128 + number
+
+-- the number of an answer about an outlet: that of the flow question's answer of the same name
+abbrev pub outletAnswerNumber : OutletFlow → ℕ
+outletAnswerNumber answer = answerNumber (cellAnswer true answer)

@@ -32,6 +32,14 @@ pub enum Outcome {
     Refused(u8, usize),
 }
 
+// The answer to the question whether water passes the outlet of a unit; a refusal carries document 01's number.
+pub enum OutletFlow {
+    Same,
+    Yes,
+    No,
+    Refused(u8),
+}
+
 // The answer to the flow question; a refusal carries document 01's number.
 pub enum Flow {
     Same,

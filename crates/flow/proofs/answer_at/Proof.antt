@@ -1,6 +1,5 @@
 -- `answer_at` meets its contract, return by return.
 use mathlib.Core.Path.{sym, _∙_}
-use borrow.Author.Tests.{lt-ltb, le-ltb}
 use borrow.Author.Needs.{needs}
 use Rattle.sheet.specs.Flow.{answerAt}
 use Rattle.flow.proofs.Places.{part-left, part-right}
@@ -30,25 +29,13 @@ returns-2 : tie.Need-returns-2
 unfolding answerAt
 returns-2 c =
     simp (
-      sym (c .before .before .before .before .before .before .part-at .ensures)
-          ∙ c .before .before .before .before .i .given .1,
-      sym (c .before .before .rule-at .ensures) ∙ c .before .if1 .taken,
-      le-ltb _ _ (c .if2 .taken),
+      sym (c .before .before .before .before .before .part-at .ensures) ∙ c .before .before .before .i .given .1,
+      sym (c .before .rule-at .ensures) ∙ c .if1 .taken,
     )
 
 returns-3 : tie.Need-returns-3
 unfolding answerAt
 returns-3 c =
-    simp (
-      sym (c .before .before .before .before .before .before .part-at .ensures)
-          ∙ c .before .before .before .before .i .given .1,
-      sym (c .before .before .rule-at .ensures) ∙ c .before .if1 .taken,
-      lt-ltb _ _ (c .if2 .left),
-    )
-
-returns-4 : tie.Need-returns-4
-unfolding answerAt
-returns-4 c =
     simp (
       sym (c .before .before .before .before .before .part-at .ensures) ∙ c .before .before .before .i .given .1,
       sym (c .before .rule-at .ensures) ∙ c .if1 .left,
@@ -64,5 +51,4 @@ answer-at-spec =
     rule-at-requires
     returns
     returns-2
-    returns-3
-    returns-4)
+    returns-3)

@@ -187,10 +187,10 @@ def lookup(leading, labels):
         return 0, found[0], len(found)
     return 0, sorted([*entries, leading]).index(leading), 0
 
-# The flow question.
+# The flow questions.
 
-def flow(depth, p, q):
-    """Does water from label q pass label p: 'Same', 'Yes', 'No', 'Undecided' or ('Refused', number)."""
+def outlet_flow(depth, p, q):
+    """Does water from label q pass the outlet of label p's unit: 'Same', 'Yes', 'No' or ('Refused', number)."""
     if not 1 <= depth <= MAX_DEPTH:
         return 'Refused', 2
     p, q = digits_of(p), digits_of(q)
@@ -204,7 +204,13 @@ def flow(depth, p, q):
     # The rule: where the labels part p has the smaller digit, and its digits from there on are odd.
     if p[part] > q[part] or any(digit in '2468' for digit in p[part:]):
         return 'No'
-    return 'Yes' if len(p) < depth else 'Undecided'
+    return 'Yes'
+
+def flow(depth, p, q):
+    """Does water from label q pass label p: as `outlet_flow`, but 'Undecided' for 'Yes' where p has as many digits as
+    the depth."""
+    answer = outlet_flow(depth, p, q)
+    return 'Undecided' if answer == 'Yes' and len(digits_of(p)) == depth else answer
 
 # The intake.
 

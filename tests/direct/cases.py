@@ -5,12 +5,17 @@ A case is a byte that names its call, then numbers of 8 bytes, lowest byte first
 'L', labelling: rows, cols, depth and the lengths of directions, weights, areas, labels and work places; these slices
 before the call; the answer (0, or refusal number + 256 x place); areas, labels and work places after it. Directions and
 weights must stay as they are.
-'I', the index: the same with three slices more, the labels, outlets and counts of units; accepted, the answer is 256 x the number of units.
-'P', a lookup: the leading digits, the length of the label slice, the slice, start and length before; the answer, start and length after.
+'I', the index: the same with three slices more, the labels, outlets and counts of units; accepted, the answer is
+256 x the number of units.
+'P', a lookup: the leading digits, the length of the label slice, the slice, start and length before; the answer, start
+and length after.
 'F', the flow question: depth, p, q, the answer.
+'O', the question about flow to an outlet: the same.
+'S', that question about every two labels of a sheet: depth, the number of labels, the labels; the answers, a byte each,
+a row of them for each label as p, with one for each label as q.
 
-At the end a tally of the kinds of cases goes to standard error; if one of them did not occur, the status is 1. The same --seed makes the
-same cases."""
+At the end a tally of the kinds of cases goes to standard error; if one of them did not occur, the status is 1. The same
+--seed makes the same cases."""
 import argparse
 import os
 import random
@@ -22,6 +27,7 @@ sys.path.insert(0, os.path.join(os.path.dirname(os.path.abspath(__file__)), '..'
 import fuzz
 import lent_weights
 import lookups
+import outlets
 import reference
 import weights
 
@@ -35,12 +41,15 @@ SAMPLE_A = [0, 4, 16, 8, 16, 16, 16, 16, 64, 64, 32, 64]
 ACCEPTED, REFUSED = 'accepted', 'refused by %d'
 LABEL_KINDS = [ACCEPTED] + [REFUSED % number for number in (1, 2, 3, 17, 4, 5, 6, 7)]
 INDEX_KINDS = LABEL_KINDS + ['short ' + name for name in ('labels', 'outlets', 'counts', 'slices')] + ['longer slices', 'short slices unseen']
+REFUSED_FLOWS = [REFUSED % number for number in (2, 11, 12)]
 tally = {
     'pf_label': dict.fromkeys(LABEL_KINDS, 0),
     'pf_index': dict.fromkeys(INDEX_KINDS, 0),
     'weights': dict.fromkeys(lent_weights.KINDS, 0),
     'pf_lookup': dict.fromkeys(lookups.KINDS, 0),
-    'pf_flow': dict.fromkeys([*ANSWERS] + [REFUSED % number for number in (2, 11, 12)], 0),
+    'pf_flow': dict.fromkeys([*ANSWERS] + REFUSED_FLOWS, 0),
+    'pf_outlet_flow': dict.fromkeys(['No', 'Yes', 'Same'] + REFUSED_FLOWS, 0),
+    'outlets': dict.fromkeys(outlets.KINDS, 0),
 }
 
 
@@ -157,7 +166,7 @@ def random_sheets(out, rng, count):
             dirs = dirs[:length(rng, n)] + [rng.randrange(256) for _ in range(max(0, length(rng, n) - n))]
         inside, units = sheet_cases(out, rng, rows, cols, depth, dirs, lent, lengths)
         for _ in range(3 if inside else 0):
-            flow_case(out, depth, rng.choice(inside), rng.choice(inside))
+            flow_cases(out, depth, rng.choice(inside), rng.choice(inside))
         if units:
             indexes.append(units)
     return indexes
@@ -237,24 +246,46 @@ def large_sheets(out, rng):
 
 # Questions about labels.
 
-def flow_case(out, depth, p, q):
-    answer = reference.flow(depth, p, q)
-    refused = isinstance(answer, tuple)
-    out.write(b'F' + numbers([depth, p, q, 128 + answer[1] if refused else ANSWERS[answer]]))
-    tally['pf_flow'][REFUSED % answer[1] if refused else answer] += 1
+def flow_cases(out, depth, p, q):
+    """Both flow questions."""
+    for case, call, question in [(b'F', 'pf_flow', reference.flow), (b'O', 'pf_outlet_flow', reference.outlet_flow)]:
+        answer = question(depth, p, q)
+        refused = isinstance(answer, tuple)
+        out.write(case + numbers([depth, p, q, 128 + answer[1] if refused else ANSWERS[answer]]))
+        tally[call][REFUSED % answer[1] if refused else answer] += 1
+
+
+# Depth, p and q of questions about flow that are always asked.
+FLOWS = [(3, 91, 92), (3, 92, 91), (3, 21, 3), (3, 131, 14), (3, 9, 91), (3, 105, 9), (3, 0, 0), (3, 0, 5), (0, 1, 2),
+         (19, 1, 2), (18, 10 ** 18 - 1, 1), (18, 111111111111111111, 2), (18, 1111111111111111111, 2),
+         (2 ** 64 - 1, 1, 1), (18, 2 ** 64 - 1, 2 ** 64 - 1), (1, 1, 3), (2, 1, 3), (2, 91, 92), (2, 93, 91),
+         (2, 21, 22), (4, 2485, 2486), (3, 12, 3), (3, 121, 3), (3, 311, 199), (4, 1313, 1428),
+         (18, 111111111111111112, 2), (18, 888888888888888887, 888888888888888889)]
+# Numbers that are equal, or of which one begins the other, or that are no labels, at good and bad depths.
+FLOWS += [(depth, p, q) for depth in (0, 2, 19) for p, q in [(0, 0), (91, 91), (9, 91), (91, 0), (105, 105), (1, 105),
+                                                             (0, 10), (1111, 1111), (111, 1111)]]
 
 
 def flow_questions(out, rng, count):
-    for depth, p, q in [(3, 91, 92), (3, 92, 91), (3, 21, 3), (3, 131, 14), (3, 9, 91), (3, 105, 9), (3, 0, 0), (3, 0, 5), (0, 1, 2), (19, 1, 2),
-                        (18, 10 ** 18 - 1, 1), (18, 111111111111111111, 2), (18, 1111111111111111111, 2), (2 ** 64 - 1, 1, 1),
-                        (18, 2 ** 64 - 1, 2 ** 64 - 1), (1, 1, 3), (2, 1, 3)]:
-        flow_case(out, depth, p, q)
+    for depth, p, q in FLOWS:
+        flow_cases(out, depth, p, q)
     for _ in range(count):
         digits = rng.choice(['123456789', '13579', '1234567890', '12'])
         p, q = (int(''.join(rng.choice(digits) for _ in range(rng.randint(1, rng.choice([2, 4, 19]))))) for _ in range(2))
         if rng.random() < 0.3:
             q = int(str(p)[:rng.randint(1, 19)] + str(q)) % 2 ** 64
-        flow_case(out, rng.choice([1, 2, 3, 4, 18, rng.randint(0, 20)]), p, q)
+        flow_cases(out, rng.choice([1, 2, 3, 4, 18, rng.randint(0, 20)]), p, q)
+
+
+def outlet_questions(out, rng, count):
+    """Flow to outlets between every two labels of sheets, as the water goes, with a labelling case of each."""
+    for asked in outlets.questions(rng, count):
+        rows, cols, depth = asked.sheet
+        lengths = [rows * cols, rows * cols, reference.WORK * rows * cols]
+        label_case(out, rng, asked.sheet, asked.dirs, asked.lent, lengths, asked.labelled)
+        out.write(b'S' + numbers([depth, len(asked.labels), *asked.labels]) + bytes(asked.answers))
+        for kind, number in asked.counts.items():
+            tally['outlets'][kind] += number
 
 
 def lookup_questions(out, rng, count, indexes, large_indexes):
@@ -268,7 +299,8 @@ def lookup_questions(out, rng, count, indexes, large_indexes):
 
 def main():
     parser = argparse.ArgumentParser(description=__doc__, formatter_class=argparse.RawDescriptionHelpFormatter)
-    parser.add_argument('--sheets', type=int, default=2000, help='random sheets, each for pf_label and for pf_index')
+    parser.add_argument('--sheets', type=int, default=2000,
+                        help='random sheets, each for pf_label and for pf_index; twice as many for pf_outlet_flow')
     parser.add_argument('--lookups', type=int, default=20000, help='random lookups')
     parser.add_argument('--seed', type=int, default=1)
     options = parser.parse_args()
@@ -281,6 +313,7 @@ def main():
     confluences(out, rng, options.sheets // 4)
     flow_questions(out, rng, options.sheets)
     lookup_questions(out, rng, options.lookups, indexes, large_indexes)
+    outlet_questions(out, rng, 2 * options.sheets)
     out.flush()
     for call, kinds in tally.items():
         print('%s: %s' % (call, ', '.join('%s %d' % kind for kind in kinds.items())), file=sys.stderr)

@@ -1,5 +1,7 @@
-/* Calls pf_label, pf_index, pf_lookup and pf_flow on the cases that come on standard input, and compares the answer and every place of
-   every lent slice afterwards with what is expected. The cases are made by tests/direct/cases.py, which also says how they are laid out. */
+/* Calls pf_label, pf_index, pf_lookup, pf_flow and pf_outlet_flow on the cases that come on standard input, and
+   compares the answer and every place of every lent slice afterwards with what is expected; on the labels of a sheet
+   also the answers of pf_flow with those of pf_outlet_flow. The cases are made by tests/direct/cases.py, which also
+   says how they are laid out. */
 #include <inttypes.h>
 #include <stdint.h>
 #include <stdio.h>
@@ -101,20 +103,55 @@ static int lookup_case(uint64_t which) {
     return good & as_expected(which, &labels);
 }
 
-static int flow_case(uint64_t which) {
+/* A call of pf_flow, or of pf_outlet_flow. */
+static int flow_case(uint64_t which, int to_outlet) {
     uint64_t depth = number(), p = number(), q = number(), expected = number();
-    uint32_t answer = pf_flow(depth, p, q);
+    uint32_t answer = to_outlet ? pf_outlet_flow(depth, p, q) : pf_flow(depth, p, q);
     if (answer == expected) return 1;
-    printf("case %" PRIu64 ", pf_flow: depth %" PRIu64 ", from %" PRIu64 " past %" PRIu64 ": answer %" PRIu32 ", expected %" PRIu64 "\n",
-           which, depth, q, p, answer, expected);
+    printf("case %" PRIu64 ", %s: depth %" PRIu64 ", from %" PRIu64 " past %" PRIu64 ": answer %" PRIu32
+           ", expected %" PRIu64 "\n", which, to_outlet ? "pf_outlet_flow" : "pf_flow", depth, q, p, answer, expected);
     return 0;
+}
+
+/* Every two labels of a sheet: pf_outlet_flow must answer as expected, and pf_flow the same, or Undecided for Yes. The
+   first few differences are told. */
+static int pairs_case(uint64_t which) {
+    enum { YES = 1, UNDECIDED = 3, TOLD = 5 };
+    uint64_t depth = number(), count = number(), differences = 0;
+    uint64_t *labels = slice(8 * count);
+    uint8_t *expected = slice(count * count);
+    for (uint64_t i = 0; i < count * count; i++) {
+        uint64_t p = labels[i / count], q = labels[i % count];
+        uint32_t answer = pf_outlet_flow(depth, p, q), flow = pf_flow(depth, p, q);
+        if (answer == expected[i] && answer == (flow == UNDECIDED ? YES : flow)) continue;
+        if (differences++ < TOLD)
+            printf("case %" PRIu64 ", labels of a sheet: depth %" PRIu64 ", from %" PRIu64 " past %" PRIu64
+                   ": pf_outlet_flow %" PRIu32 ", pf_flow %" PRIu32 ", expected %d\n", which, depth, q, p, answer, flow,
+                   expected[i]);
+    }
+    if (differences > TOLD)
+        printf("case %" PRIu64 ": %" PRIu64 " of %" PRIu64 " pairs differ\n", which, differences, count * count);
+    free(labels), free(expected);
+    return differences == 0;
+}
+
+/* 1 if all is as expected, 0 if not, -1 if there is no such kind of case. */
+static int a_case(int kind, uint64_t which) {
+    switch (kind) {
+    case 'L': return sheet_case(which, 0);
+    case 'I': return sheet_case(which, 1);
+    case 'P': return lookup_case(which);
+    case 'F': return flow_case(which, 0);
+    case 'O': return flow_case(which, 1);
+    case 'S': return pairs_case(which);
+    default: return -1;
+    }
 }
 
 int main(void) {
     int kind;
     for (uint64_t which = 0; (kind = getchar()) != EOF; which++) {
-        int good = kind == 'L' ? sheet_case(which, 0) : kind == 'I' ? sheet_case(which, 1) : kind == 'P' ? lookup_case(which)
-                   : kind == 'F' ? flow_case(which) : -1;
+        int good = a_case(kind, which);
         good == 1 ? passed++ : failed++;
         if (good == -1) break;
     }

@@ -1,99 +1,37 @@
--- The tests of the questions about labels say what they mean, and the answers say what the water does.
+-- The answers to the two questions about labels say what the water does, on every accepted sheet.
 use mathlib.Core.Path.{_≡_, refl, sym, _∙_, ap}
-use mathlib.Core.Bool.{Bool, true, false, cond, true≢false}
-use mathlib.Core.List.{List, [], _∷_}
-use Prim.Native.Nat.{ℕ, zero, suc, _+_, _-_, _≤_, _<_}
+use mathlib.Core.Bool.{Bool, true, false, cond}
+use mathlib.Core.List.{List}
+use mathlib.Core.Logic.{_≢_, _↔_}
+use Prim.Native.Nat.{ℕ}
 use native.Mathlib.Omega.{arith}
-use lib.Dec.{eqb, ltb}
-use lib.ListN.{length, getD, drop, length-drop}
-use lib.Seq.{getD-drop}
-use borrow.Author.Tests.{eq-eqb, ne-eqb, eqb-true, eqb-false, ltb-true, lt-ltb}
-use Rattle.sheet.specs.declared.Found.the-variants.{At}
+use lib.Dec.{eqb}
+use lib.ListN.{getD}
+use borrow.Author.Tests.{eqb-true, eqb-false}
 use Rattle.sheet.specs.declared.Outcome.the-variants.{Accepted}
 use Rattle.sheet.specs.declared.Flow.the-variants.{Yes, Undecided}
 use Rattle.sheet.specs.declared.OutletFlow.{OutletFlow}
 use Rattle.sheet.specs.declared.OutletFlow.the-variants.{Same as OutletSame, Yes as OutletYes, No as OutletNo}
+use Rattle.sheet.specs.declared.OutletFlow.the-variants.{Refused as OutletRefused}
 use Rattle.sheet.specs.Sheet.{Sheet, next}
 use Rattle.sheet.specs.Water.{Passes}
 use Rattle.sheet.specs.River.{network}
 use Rattle.sheet.specs.Label.{digitsOf, labelAt}
-use Rattle.sheet.specs.Refusal.{depthFits, outcome, lentAfter, Lent}
-use Rattle.sheet.specs.Flow.{partFrom, partAt, every, isOdd, ruleAt, isLabel, answerAt, answerUnequal, outletFlow}
-use Rattle.sheet.specs.Flow.{isWhole, cellAnswer, flow}
-use Rattle.sheet.proofs.Within.{both-true}
-use Rattle.claims.specs.Demand.{Inside, digitsAt}
-use Rattle.claims.specs.Flow.{asked, FlowMeaning}
-use Rattle.claims.specs.Parting.{PartAt, RuleAt}
-use Rattle.claims.proofs.Parting.{part-prev, all-odd-at, at-all-odd}
+use Rattle.sheet.specs.Refusal.{outcome, lentAfter, Lent}
+use Rattle.sheet.specs.Flow.{answerUnequal, outletFlow, isWhole, cellAnswer, flow}
+use Rattle.claims.specs.Demand.{OneOutlet, Inside, digitsAt}
+use Rattle.claims.specs.Flow.{asked, FlowMeaning, outletAsked, OutletFlowMeaning}
+use Rattle.claims.specs.Parting.{PartAt, RuleAt, MeetsRule}
+use Rattle.claims.proofs.Units.{drains-passes, begins-all}
 use Rattle.claims.proofs.Basins.{passes-rule}
 use Rattle.claims.proofs.Written.{checks, the-basin, digits-from-outlet, is-label}
-use Rattle.claims.proofs.Theorems.{demand-three}
+use Rattle.claims.proofs.Theorems.{demand-three, outlet-rule}
+use Rattle.claims.proofs.FlowAnswers.{differ, outlet-differ, Answered, answered-yes, answered-no, answer-at}
+use Rattle.claims.proofs.FlowAnswers.{good-labels, whole-short}
 
--- ---- the tests
-
--- the test finds the place where two labels part
-part-from : (i : ℕ) (x y : List ℕ) (k : ℕ) → PartAt x y k → partFrom i x y ≡ At (i + k)
-unfolding partFrom
-part-from i [] y k t = absurd (omega (arith, t .in-x))
-part-from i (a ∷ x) [] k t = absurd (omega (arith, t .in-y))
-part-from i (a ∷ x) (b ∷ y) zero t = rw (ne-eqb a b (t .differ)) (ap At (omega arith))
-part-from i (a ∷ x) (b ∷ y) (suc k) t =
-    let r = part-prev t in
-    rw (eq-eqb a b (r .0)) (part-from (suc i) x y k (r .1) ∙ ap At (omega arith))
-
-pub part-found : (x y : List ℕ) (k : ℕ) → PartAt x y k → partAt x y ≡ At k
-unfolding partAt
-part-found x y k t = part-from 0 x y k t ∙ ap At (omega arith)
-
-module _ (x y : List ℕ) (k : ℕ) where
-  -- the test of the rule is the rule
-  pub rule-true : ruleAt k x y ≡ true → RuleAt x y k
-  unfolding ruleAt
-  rule-true e =
-      let r = both-true (ltb (getD x k 0) (getD y k 0)) (every isOdd (drop k x)) e in
-      record { smaller = ltb-true (getD x k 0) (getD y k 0) (r .0); odd = odd-from (r .1) }
-    where
-      odd-from : every isOdd (drop k x) ≡ true → (j : ℕ) → k ≤ j → j < length x → isOdd (getD x j 0) ≡ true
-      odd-from f j l m =
-          let s : k + (j - k) ≡ j = omega arith in
-          let d : isOdd (getD (drop k x) (j - k) 0) ≡ true = all-odd-at (drop k x) f (j - k)
-          (rw (length-drop k x) (omega arith)) in
-          rw (getD-drop, s) at d
-
-  pub rule-test : RuleAt x y k → ruleAt k x y ≡ true
-  unfolding ruleAt
-  rule-test r =
-      rw (lt-ltb (getD x k 0) (getD y k 0) (r .smaller))
-      (at-all-odd (drop k x) (λ j l. rw getD-drop (r .odd (k + j) (omega arith) (in-x j (rw (length-drop k x) at l)))))
-    where
-      in-x : (j : ℕ) → j < length x - k → k + j < length x
-      in-x j l = omega arith
-
--- ---- the answers
-
--- an answer by the place where labels part
-data Answered (x y : List ℕ) (k : ℕ) : OutletFlow → Type 0 where
-  answered-yes : RuleAt x y k → Answered x y k OutletYes
-  answered-no : ¬ RuleAt x y k → Answered x y k OutletNo
-
-answer-at : (x y : List ℕ) (k : ℕ) → PartAt x y k → Answered x y k (answerAt x y (partAt x y))
-unfolding answerAt
-answer-at x y k t = rw (part-found x y k t) (go (ruleAt k x y) refl)
-  where
-    go : (met : Bool) → ruleAt k x y ≡ met → Answered x y k (cond met OutletYes OutletNo)
-    go true e = answered-yes (rule-true x y k e)
-    go false e = answered-no (λ r. true≢false (sym (rule-test x y k r) ∙ e))
-
--- on labels that are good at the depth
-good-labels : (depth p q : ℕ) → depthFits depth ≡ true → isLabel depth p ≡ true → isLabel depth q ≡ true
-    → outletFlow depth p q ≡ cond (eqb p q) OutletSame (answerUnequal p q)
-unfolding outletFlow
-good-labels depth p q d e f = rw (d, e, f)
-
--- a label that is whole has fewer digits than the depth
-whole-short : (depth p : ℕ) → isWhole depth p ≡ true → length (digitsOf p) < depth
-unfolding isWhole
-whole-short depth p e = ltb-true (length (digitsOf p)) depth e
+-- labels that part differ
+part-differ : {p q : ℕ} (k : ℕ) → PartAt (digitsOf p) (digitsOf q) k → p ≢ q
+part-differ k t e = t .differ (ap (λ (l : ℕ). getD (digitsOf l) k 0) e)
 
 -- the labels of cells p and q, and the answer that they get
 data Judged (labels : List ℕ) (p q : ℕ) : OutletFlow → Type 0 where
@@ -102,6 +40,38 @@ data Judged (labels : List ℕ) (p q : ℕ) : OutletFlow → Type 0 where
       → RuleAt (digitsAt labels p) (digitsAt labels q) k → Judged labels p q OutletYes
   judged-no : (k : ℕ) → PartAt (digitsAt labels p) (digitsAt labels q) k
       → ¬ RuleAt (digitsAt labels p) (digitsAt labels q) k → Judged labels p q OutletNo
+
+-- what an answer about an outlet says, where E is that the labels are equal and W that the water passes
+record Says (E W : Type 0) (a : OutletFlow) : Type 0 where
+  yes : ¬ E → W ↔ (a ≡ OutletYes)
+  no : ¬ E → (¬ W) ↔ (a ≡ OutletNo)
+  same : E ↔ (a ≡ OutletSame)
+  never-refused : (number : ℕ) → ¬ (a ≡ OutletRefused number)
+
+module _ {E W : Type 0} where
+  says-same : E → Says E W OutletSame
+  says-same e = record {
+    yes = λ n. absurd (n e);
+    no = λ n. absurd (n e);
+    same = (λ f. refl, λ f. e);
+    never-refused = λ m f. outlet-differ f (omega arith);
+  }
+
+  says-yes : ¬ E → W → Says E W OutletYes
+  says-yes n w = record {
+    yes = λ m. (λ v. refl, λ f. w);
+    no = λ m. (λ v. absurd (v w), λ f. outlet-differ f (omega arith));
+    same = (λ e. absurd (n e), λ f. outlet-differ f (omega arith));
+    never-refused = λ m f. outlet-differ f (omega arith);
+  }
+
+  says-no : ¬ E → ¬ W → Says E W OutletNo
+  says-no n w = record {
+    yes = λ m. (λ v. absurd (w v), λ f. outlet-differ f (omega arith));
+    no = λ m. (λ v. refl, λ f. w);
+    same = (λ e. absurd (n e), λ f. outlet-differ f (omega arith));
+    never-refused = λ m f. outlet-differ f (omega arith);
+  }
 
 -- ---- inside cells of an accepted sheet
 
@@ -141,35 +111,83 @@ module _ (S : Sheet) (L : Lent) (accepted : outcome S L ≡ Accepted) where
     by-answer : (a : OutletFlow) → Judged labels p q a
         → asked S labels p q ≡ cellAnswer (isWhole (S .depth) (labelAt labels p)) a → FlowMeaning S labels p q
     by-answer a (judged-same e) f = record {
-      yes = λ g. let z : _≡_ {A = ℕ} 0 1 = cc in absurd (omega arith);
-      no = λ g. let z : _≡_ {A = ℕ} 0 1 = cc in absurd (omega arith);
+      yes = λ g. differ (sym f ∙ g) (omega arith);
+      no = λ g. differ (sym f ∙ g) (omega arith);
       same = λ g. e;
-      never-refused = λ n g. let z : _≡_ {A = ℕ} 0 1 = cc in absurd (omega arith);
+      never-refused = λ n g. differ (sym f ∙ g) (omega arith);
     }
     by-answer a (judged-yes k t r) f = go (isWhole (S .depth) (labelAt labels p)) refl f
       where
         go : (whole : Bool) → isWhole (S .depth) (labelAt labels p) ≡ whole
             → asked S labels p q ≡ cond whole Yes Undecided → FlowMeaning S labels p q
         go true e g = record {
-          yes =
-              λ h. (demand-three S L accepted .cell-rule p q i j (whole-short (S .depth) (labelAt labels p) e) k t) .1 r;
-          no = λ h. let z : _≡_ {A = ℕ} 0 1 = cc in absurd (omega arith);
-          same = λ h. let z : _≡_ {A = ℕ} 0 1 = cc in absurd (omega arith);
-          never-refused = λ n h. let z : _≡_ {A = ℕ} 0 1 = cc in absurd (omega arith);
+          yes = λ h.
+              let short = whole-short (S .depth) (labelAt labels p) e in
+              (demand-three S L accepted .cell-rule p q i j short k t) .1 r;
+          no = λ h. differ (sym g ∙ h) (omega arith);
+          same = λ h. differ (sym g ∙ h) (omega arith);
+          never-refused = λ n h. differ (sym g ∙ h) (omega arith);
         }
         go false e g = record {
-          yes = λ h. let z : _≡_ {A = ℕ} 0 1 = cc in absurd (omega arith);
-          no = λ h. let z : _≡_ {A = ℕ} 0 1 = cc in absurd (omega arith);
-          same = λ h. let z : _≡_ {A = ℕ} 0 1 = cc in absurd (omega arith);
-          never-refused = λ n h. let z : _≡_ {A = ℕ} 0 1 = cc in absurd (omega arith);
+          yes = λ h. differ (sym g ∙ h) (omega arith);
+          no = λ h. differ (sym g ∙ h) (omega arith);
+          same = λ h. differ (sym g ∙ h) (omega arith);
+          never-refused = λ n h. differ (sym g ∙ h) (omega arith);
         }
     by-answer a (judged-no k t n) f = record {
-      yes = λ g. let z : _≡_ {A = ℕ} 0 1 = cc in absurd (omega arith);
+      yes = λ g. differ (sym f ∙ g) (omega arith);
       no = λ g h. n (met k t h);
-      same = λ g. let z : _≡_ {A = ℕ} 0 1 = cc in absurd (omega arith);
-      never-refused = λ m g. let z : _≡_ {A = ℕ} 0 1 = cc in absurd (omega arith);
+      same = λ g. differ (sym f ∙ g) (omega arith);
+      never-refused = λ m g. differ (sym f ∙ g) (omega arith);
     }
 
     pub flow-meaning : FlowMeaning S labels p q
     unfolding flow
     flow-meaning = by-answer _ judged refl
+
+  -- ---- the outlet of a unit
+
+  unit-outlet : (p : ℕ) → Inside S p → OneOutlet (next (S .grid)) (Inside S) (digitsAt labels) (digitsAt labels p)
+  unit-outlet p i =
+      demand-three S L accepted .one-outlet (digitsAt labels p) p
+      (record { is-inside = i; begins = begins-all (digitsAt labels p) })
+
+  module _ (p q : ℕ) (i : Inside S p) (j : Inside S q) where
+    -- where the labels part, the outlet rule
+    rule-at : (k : ℕ) → PartAt (digitsAt labels p) (digitsAt labels q) k
+        → Passes (next (S .grid)) q (unit-outlet p i .cell) ↔ RuleAt (digitsAt labels p) (digitsAt labels q) k
+    rule-at k t = outlet-rule S L accepted .rule p q i j (unit-outlet p i .cell) (unit-outlet p i .drains) k t
+
+    by-rule : labelAt labels p ≢ labelAt labels q
+        → Passes (next (S .grid)) q (unit-outlet p i .cell) ↔ MeetsRule (digitsAt labels p) (digitsAt labels q)
+    by-rule d =
+        let t = demand-three S L accepted .labels-part p q i j d in (
+          λ w. record { place = t .0; part = t .1; rule = (rule-at (t .0) (t .1)) .0 w },
+          λ m. (rule-at (m .place) (m .part)) .1 (m .rule),
+        )
+
+    same-passes : labelAt labels p ≡ labelAt labels q → Passes (next (S .grid)) q (unit-outlet p i .cell)
+    same-passes e =
+        drains-passes (unit-outlet p i .drains .drains q
+        (record { is-inside = j; begins = rw e (begins-all (digitsAt labels q)) }))
+
+    says : (a : OutletFlow) → Judged labels p q a
+        → Says (labelAt labels p ≡ labelAt labels q) (Passes (next (S .grid)) q (unit-outlet p i .cell)) a
+    says a (judged-same e) = says-same e
+    says a (judged-yes k t r) = says-yes (part-differ k t) ((rule-at k t) .1 r)
+    says a (judged-no k t n) = says-no (part-differ k t) (λ w. n ((rule-at k t) .0 w))
+
+    answer-says : Says (labelAt labels p ≡ labelAt labels q) (Passes (next (S .grid)) q (unit-outlet p i .cell))
+        (outletAsked S labels p q)
+    answer-says = says _ (judged p q i j)
+
+  pub outlet-flow-meaning : OutletFlowMeaning S labels
+  outlet-flow-meaning = record {
+    outlet = unit-outlet;
+    rule = by-rule;
+    yes = λ p q i j. answer-says p q i j .yes;
+    no = λ p q i j. answer-says p q i j .no;
+    same = λ p q i j. answer-says p q i j .same;
+    same-passes = same-passes;
+    never-refused = λ p q i j. answer-says p q i j .never-refused;
+  }

@@ -18,6 +18,8 @@ pub mod Sheets
 pub mod GridLaws
 pub mod Written
 pub mod Theorems
+pub mod FlowTests
+pub mod FlowAnswers
 pub mod FlowMeaning
 pub mod Cases
 pub mod Places

@@ -19,6 +19,12 @@ pub record RuleAt (x y : List ℕ) (i : ℕ) : Type 0 where
   pub smaller : getD x i 0 < getD y i 0
   pub odd : (j : ℕ) → i ≤ j → j < length x → isOdd (getD x j 0) ≡ true
 
+-- the digit rule is met: the labels part, and the rule holds there
+pub record MeetsRule (x y : List ℕ) : Type 0 where
+  pub place : ℕ
+  pub part : PartAt x y place
+  pub rule : RuleAt x y place
+
 -- x begins with the leading digits w
 pub data Begins : List ℕ → List ℕ → Type 0 where
   begins-none : {x : List ℕ} → Begins [] x

@@ -6,7 +6,7 @@ use sheet::Outcome;
 ghost use mathlib.Core.Path.{_≡_};
 ghost use Prim.Native.Nat.{_<_};
 ghost use Rattle.sheet.specs.Refusal.{outcomeValues, outcome, lentAfter};
-ghost use Rattle.sheet.specs.Flow.{flow, answerNumber};
+ghost use Rattle.sheet.specs.Flow.{flow, answerNumber, outletFlow, outletAnswerNumber};
 ghost use Rattle.labelling.specs.Labelling.{sheet, lent};
 ghost use Rattle.lookup.specs.Lookup.{lookupAnswer, lookupValues};
 ghost use Rattle.index.specs.Index.{lentIndex, indexed, indexAfter};
@@ -128,4 +128,12 @@ pub extern "C" fn pf_flow(depth: usize, p: u64, q: u64) -> u32
     ensures { λ r. ⌜ r ≡ answerNumber (flow depth p q) ⌝ }
 {
     flow::answer_number(flow::flow_of(depth, p, q))
+}
+
+// Does water from the label q pass the outlet of the unit that the label p names?
+#[no_mangle]
+pub extern "C" fn pf_outlet_flow(depth: usize, p: u64, q: u64) -> u32
+    ensures { λ r. ⌜ r ≡ outletAnswerNumber (outletFlow depth p q) ⌝ }
+{
+    flow::outlet_answer_number(flow::outlet_flow_of(depth, p, q))
 }

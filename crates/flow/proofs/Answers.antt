@@ -1,4 +1,4 @@
--- The number of an answer to the flow question tells the answers apart, and fits a byte.
+-- The number of an answer to a question about labels tells the answers apart, and fits a byte.
 use mathlib.Core.Path.{_≡_, refl, sym, ap, _∙_}
 use mathlib.Core.Bool.{Bool, true, false, cond}
 use mathlib.Core.List.{List}
@@ -42,6 +42,25 @@ answer-of (Refused number) =
 pub answer-number-apart : (a b : Flow) → answerNumber a ≡ answerNumber b → a ≡ b
 answer-number-apart a b e = sym (answer-of a) ∙ ap answerOf e ∙ answer-of b
 
+-- the answer about an outlet that has the same name
+abbrev outletAnswerOf : Flow → OutletFlow
+outletAnswerOf Same = OutletSame
+outletAnswerOf Yes = OutletYes
+outletAnswerOf No = OutletNo
+outletAnswerOf Undecided = OutletYes
+outletAnswerOf (Refused number) = OutletRefused number
+
+outlet-answer-of : (a : OutletFlow) → outletAnswerOf (cellAnswer true a) ≡ a
+outlet-answer-of OutletSame = refl
+outlet-answer-of OutletYes = refl
+outlet-answer-of OutletNo = refl
+outlet-answer-of (OutletRefused number) = refl
+
+pub outlet-answer-number-apart : (a b : OutletFlow) → outletAnswerNumber a ≡ outletAnswerNumber b → a ≡ b
+outlet-answer-number-apart a b e =
+    let same = answer-number-apart (cellAnswer true a) (cellAnswer true b) e in
+    sym (outlet-answer-of a) ∙ ap outletAnswerOf same ∙ outlet-answer-of b
+
 abbrev fitsByte : OutletFlow → Type 0
 fitsByte a = outletAnswerNumber a < 256
 
@@ -59,7 +78,7 @@ unequal-byte : (p q : ℕ) → fitsByte (answerUnequal p q)
 unfolding answerUnequal
 unequal-byte p q = answer-byte (digitsOf p) (digitsOf q) (partAt (digitsOf p) (digitsOf q))
 
-outlet-flow-byte : (depth p q : ℕ) → fitsByte (outletFlow depth p q)
+pub outlet-flow-byte : (depth p q : ℕ) → fitsByte (outletFlow depth p q)
 unfolding outletFlow
 outlet-flow-byte depth p q =
     either (depthFits depth) _ (OutletRefused 2)

@@ -12,7 +12,7 @@ ghost use Prim.Native.Nat.{_<_};
 ghost use lib.ListN.{length, drop};
 ghost use Rattle.sheet.specs.Refusal.{both};
 ghost use Rattle.sheet.specs.Flow.{partAt, every, isOdd, ruleAt, isLabel, answerAt, answerUnequal, outletFlow};
-ghost use Rattle.sheet.specs.Flow.{cellAnswer, flow, answerNumber};
+ghost use Rattle.sheet.specs.Flow.{cellAnswer, flow, answerNumber, outletAnswerNumber};
 
 // The first place where both have a digit and the digits differ.
 fn part_at(p: &[u8], q: &[u8]) -> Found
@@ -97,8 +97,9 @@ fn are_labels(depth: usize, p: u64, q: u64) -> bool
 }
 
 // Does water from the label q pass the outlet of the unit that the label p names? 2, 11, Same, 12, then the rule.
-fn outlet_flow_of(depth: usize, p: u64, q: u64) -> OutletFlow
-    ensures { λ r. ⌜ r ≡ outletFlow depth p q ⌝ }
+pub fn outlet_flow_of(depth: usize, p: u64, q: u64) -> OutletFlow
+    ensures answer { λ r. ⌜ r ≡ outletFlow depth p q ⌝ }
+    ensures number { λ r. ⌜ outletAnswerNumber r ≡ outletAnswerNumber (outletFlow depth p q) ⌝ }
 {
     if depth_fits(depth) {
         if are_labels(depth, p, q) {
@@ -146,4 +147,11 @@ pub fn answer_number(a: Flow) -> u32
         Flow::Undecided => 3,
         Flow::Refused(number) => 128 + number as u32,
     }
+}
+
+// The number of an answer about an outlet: that of the flow question's answer of the same name.
+pub fn outlet_answer_number(a: OutletFlow) -> u32
+    ensures { λ r. ⌜ r ≡ outletAnswerNumber a ⌝ }
+{
+    answer_number(cell_answer(true, a))
 }

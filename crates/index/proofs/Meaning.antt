@@ -150,6 +150,12 @@ module _ (S : Sheet) (L : Lent) (accepted : outcome S L ≡ Accepted) (I : LentI
           begins = rw (digits-written S L accepted (c .cell) (c .is-inside), c .named) (begins-all (at k));
         })
 
+    unit-outlet : (p : ℕ) → HasLabel S labels (indexLabel index k) p
+        → (o : OneOutlet (next (S .grid)) (Inside S) (digitsAt labels) (digitsAt labels p))
+        → o .cell ≡ indexOutlet index k
+    unit-outlet p h =
+        rw (ap digitsOf (h .named) ∙ digits-at) (λ o. named-outlet o ∙ sym outlet-at)
+
     outlet-drains : DrainsTo (next (S .grid)) (HasLabel S labels (indexLabel index k)) (indexOutlet index k)
     outlet-drains =
         let o = the-outlet in
@@ -266,6 +272,7 @@ module _ (S : Sheet) (L : Lent) (accepted : outcome S L ≡ Accepted) (I : LentI
     one-outlet = λ k l.
         let h : k < length (distinctLabels S) = omega (arith, units-long S) in
         rw (digits-at k h) (the-outlet k h, named-outlet k h (the-outlet k h) ∙ sym (outlet-at k h));
+    unit-outlet = λ k l. unit-outlet k (omega (arith, units-long S));
     counts = λ k l. count-is k (omega (arith, units-long S));
     counts-add = ap (sum (λ m. m)) all-counts ∙ counts-add S;
     lookups = finds;

@@ -1,4 +1,5 @@
--- The third demand and the outlet rule hold of the labels as the calls wrote them.
+-- The third demand holds of the labels as the calls wrote them, and so does what the question about the outlet of a
+-- unit says.
 use mathlib.Core.Path.{_≡_, refl}
 use mathlib.Core.Option.{Option, none, some}
 use mathlib.Core.List.{List}
@@ -10,10 +11,11 @@ use Rattle.sheet.specs.Refusal.{Lent, outcome, lentAfter}
 use Rattle.faults.specs.declared.Sizes.{Sizes}
 use Rattle.intake.specs.declared.Intake.{Intake}
 use Rattle.intake.specs.Intake.{LentSheet, endedSizes}
-use Rattle.claims.proofs.Theorems.{demand-three, outlet-rule}
+use Rattle.claims.proofs.Theorems.{demand-three}
+use Rattle.claims.proofs.FlowMeaning.{outlet-flow-meaning}
 use Rattle.labelling.specs.FromIntake.{sheetOf, outcomeWith, lentWith, intakeOutcome, intakeLent}
 use Rattle.labelling.specs.Demand.{LabelledDirectly, LabelledFrom, OfIntake, ForAllAccepted, DemandThreeWhole}
-use Rattle.labelling.specs.Demand.{OutletRuleWhole}
+use Rattle.labelling.specs.Demand.{OutletFlowWhole}
 
 -- what holds of every accepted sheet and the labels that the definition writes, holds however it is labelled
 module _ (Statement : Sheet → List ℕ → Type 0)
@@ -41,5 +43,5 @@ module _ (Statement : Sheet → List ℕ → Type 0)
 pub demand-three-whole : DemandThreeWhole
 demand-three-whole = for-all-accepted _ demand-three
 
-pub outlet-rule-whole : OutletRuleWhole
-outlet-rule-whole = for-all-accepted _ outlet-rule
+pub outlet-flow-whole : OutletFlowWhole
+outlet-flow-whole = for-all-accepted _ outlet-flow-meaning

@@ -1,4 +1,5 @@
--- The third demand and the outlet rule about the labels as the calls wrote them: directly, and from an intake.
+-- The third demand, and what the question about the outlet of a unit says, about the labels as the calls wrote them:
+-- directly, and from an intake.
 use mathlib.Core.Path.{_≡_}
 use mathlib.Core.Option.{some}
 use mathlib.Core.List.{List}
@@ -9,7 +10,8 @@ use Rattle.sheet.specs.Refusal.{Lent, outcome, lentAfter}
 use Rattle.faults.specs.declared.Sizes.{Sizes}
 use Rattle.intake.specs.declared.Intake.{Intake}
 use Rattle.intake.specs.Intake.{LentSheet, endedSizes}
-use Rattle.claims.specs.Demand.{DemandThreeOf, OutletRuleOf}
+use Rattle.claims.specs.Demand.{DemandThreeOf}
+use Rattle.claims.specs.Flow.{OutletFlowMeaning}
 use Rattle.labelling.specs.FromIntake.{sheetOf, intakeOutcome, intakeLent}
 
 -- what the contract of `label` promises of an accepted call: L was lent, and L′ is what the slices hold afterwards
@@ -38,6 +40,6 @@ pub record ForAllAccepted (Statement : Sheet → List ℕ → Type 0) : Type 1 w
 abbrev pub DemandThreeWhole : Type 1
 DemandThreeWhole = ForAllAccepted DemandThreeOf
 
--- the outlet rule
-abbrev pub OutletRuleWhole : Type 1
-OutletRuleWhole = ForAllAccepted OutletRuleOf
+-- document 02's flow to a unit's outlet: exactly under the digit rule, and exactly if the question says Yes
+abbrev pub OutletFlowWhole : Type 1
+OutletFlowWhole = ForAllAccepted OutletFlowMeaning

@@ -1,6 +1,7 @@
 -- The worked cases hold of the definitions, by computation.
 use mathlib.Core.Path.{_≡_, refl}
-use Rattle.sheet.specs.Cases.{cases, listing, refusals, orders, traps, weighted, allComputed, allStated}
+use Rattle.sheet.specs.Cases.{cases, listing, refusals, orders, traps, outletFlows, weighted}
+use Rattle.sheet.specs.Cases.{allComputed, allStated}
 
 -- all cases marked * in document 01
 pub all-cases : allComputed cases ≡ allStated cases
@@ -22,6 +23,10 @@ all-orders = refl
 pub all-traps : allComputed traps ≡ allStated traps
 unfolding traps
 all-traps = refl
+
+pub all-outlet-flows : allComputed outletFlows ≡ allStated outletFlows
+unfolding outletFlows
+all-outlet-flows = refl
 
 pub all-weighted : allComputed weighted ≡ allStated weighted
 unfolding weighted

@@ -10,7 +10,7 @@ use Rattle.sheet.specs.Area.{area}
 use Rattle.sheet.specs.River.{network, stem, mouth, Run, river}
 use Rattle.sheet.specs.Label.{labelOf, outlet, listFrom}
 use Rattle.sheet.specs.Refusal.{Lent, outcome, OutcomeValues, outcomeValues, lentAfter}
-use Rattle.sheet.specs.Flow.{flow, answerNumber}
+use Rattle.sheet.specs.Flow.{outletFlow, flow, answerNumber, outletAnswerNumber}
 
 pub record Case : Type 0 where
   pub computed : List ℕ
@@ -121,6 +121,25 @@ traps =
     ∷ case (answerNumber (flow 3 9 105) ∷ answerNumber (flow 3 105 105) ∷ answerNumber (flow 0 105 105) ∷ [])
     (139 ∷ 139 ∷ 130 ∷ [])
     ∷ case (answerNumber (flow 19 1 2) ∷ answerNumber (flow 18 1 2) ∷ []) (130 ∷ 1 ∷ [])
+    ∷ []
+
+-- Past the outlet of a unit: as past the label, but for Yes where the label has as many digits as the depth (14 past
+-- 131, 92 past 91, 9 past 1); a later even digit; 2 before 11, 11 before Same, Same before 12.
+unfoldable pub outletFlows : List Case
+unfolding outletFlow
+outletFlows =
+    case (outletAnswerNumber (outletFlow 3 91 92) ∷ outletAnswerNumber (outletFlow 3 92 91)
+    ∷ outletAnswerNumber (outletFlow 3 21 3) ∷ []) (1 ∷ 0 ∷ 0 ∷ [])
+    ∷ case (outletAnswerNumber (outletFlow 3 131 14) ∷ outletAnswerNumber (outletFlow 2 91 92)
+    ∷ outletAnswerNumber (outletFlow 1 1 9) ∷ []) (1 ∷ 1 ∷ 1 ∷ [])
+    ∷ case (outletAnswerNumber (outletFlow 3 132 14) ∷ outletAnswerNumber (outletFlow 3 12 3)
+    ∷ outletAnswerNumber (outletFlow 3 114 3) ∷ []) (0 ∷ 0 ∷ 0 ∷ [])
+    ∷ case (outletAnswerNumber (outletFlow 0 105 105) ∷ outletAnswerNumber (outletFlow 19 1 2)
+    ∷ outletAnswerNumber (outletFlow 18 1 2) ∷ []) (130 ∷ 130 ∷ 1 ∷ [])
+    ∷ case (outletAnswerNumber (outletFlow 3 105 105) ∷ outletAnswerNumber (outletFlow 3 9 105)
+    ∷ outletAnswerNumber (outletFlow 3 1111 2) ∷ []) (139 ∷ 139 ∷ 139 ∷ [])
+    ∷ case (outletAnswerNumber (outletFlow 3 0 0) ∷ outletAnswerNumber (outletFlow 2 91 91)
+    ∷ outletAnswerNumber (outletFlow 3 0 5) ∷ outletAnswerNumber (outletFlow 3 9 91) ∷ []) (2 ∷ 2 ∷ 140 ∷ 140 ∷ [])
     ∷ []
 
 -- two cells that flow into the one between them, the outlet: one cell a row

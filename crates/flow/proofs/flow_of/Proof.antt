@@ -17,7 +17,7 @@ returns : tie.Need-returns
 unfolding flow isWhole
 returns c =
     let count = c .before .before .count-digits .ensures in
-    let outlet = c .before .outlet-flow-of .ensures in
+    let outlet = c .before .outlet-flow-of .ensures .0 in
     (simp (c .cell-answer .ensures, outlet, count), simp (c .cell-answer .ensures, outlet, count))
 
 pub flow-of-spec : {M : Type 1} → statement M

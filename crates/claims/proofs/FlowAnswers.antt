@@ -1,0 +1,103 @@
+-- The answers to the two questions about labels, on numbers: what they come to, and how they agree.
+use mathlib.Core.Path.{_≡_, refl, sym, _∙_, ap}
+use mathlib.Core.Bool.{Bool, true, false, cond, true≢false}
+use mathlib.Core.List.{List}
+use mathlib.Core.Logic.{_≢_}
+use Prim.Native.Nat.{ℕ, _+_, _<_}
+use native.Mathlib.Omega.{arith}
+use lib.Dec.{eqb}
+use lib.ListN.{length}
+use borrow.Author.Tests.{ne-eqb, ltb-true}
+use Rattle.sheet.specs.declared.Flow.{Flow}
+use Rattle.sheet.specs.declared.OutletFlow.{OutletFlow}
+use Rattle.sheet.specs.declared.OutletFlow.the-variants.{Same as OutletSame, Yes as OutletYes, No as OutletNo}
+use Rattle.sheet.specs.declared.OutletFlow.the-variants.{Refused as OutletRefused}
+use Rattle.sheet.specs.Label.{digitsOf}
+use Rattle.sheet.specs.Refusal.{depthFits}
+use Rattle.sheet.specs.Flow.{partAt, ruleAt, isLabel, answerAt, answerUnequal, outletFlow}
+use Rattle.sheet.specs.Flow.{isWhole, cellAnswer, flow, answerNumber, outletAnswerNumber}
+use Rattle.claims.specs.Flow.{AnswersAgree, QuestionsAgree}
+use Rattle.claims.specs.Parting.{PartAt, RuleAt}
+use Rattle.claims.proofs.FlowTests.{part-found, rule-true, rule-test}
+
+-- answers whose numbers differ are not equal
+pub differ : {A : Type 0} {a b : Flow} → a ≡ b → answerNumber a ≢ answerNumber b → A
+differ e n = absurd (n (ap answerNumber e))
+
+pub outlet-differ : {A : Type 0} {a b : OutletFlow} → a ≡ b → outletAnswerNumber a ≢ outletAnswerNumber b → A
+outlet-differ e n = absurd (n (ap outletAnswerNumber e))
+
+-- an answer by the place where labels part
+pub data Answered (x y : List ℕ) (k : ℕ) : OutletFlow → Type 0 where
+  answered-yes : RuleAt x y k → Answered x y k OutletYes
+  answered-no : ¬ RuleAt x y k → Answered x y k OutletNo
+
+pub answer-at : (x y : List ℕ) (k : ℕ) → PartAt x y k → Answered x y k (answerAt x y (partAt x y))
+unfolding answerAt
+answer-at x y k t = rw (part-found x y k t) (go (ruleAt k x y) refl)
+  where
+    go : (met : Bool) → ruleAt k x y ≡ met → Answered x y k (cond met OutletYes OutletNo)
+    go true e = answered-yes (rule-true x y k e)
+    go false e = answered-no (λ r. true≢false (sym (rule-test x y k r) ∙ e))
+
+-- on labels that are good at the depth
+pub good-labels : (depth p q : ℕ) → depthFits depth ≡ true → isLabel depth p ≡ true → isLabel depth q ≡ true
+    → outletFlow depth p q ≡ cond (eqb p q) OutletSame (answerUnequal p q)
+unfolding outletFlow
+good-labels depth p q d e f = rw (d, e, f)
+
+-- a label that is whole has fewer digits than the depth
+pub whole-short : (depth p : ℕ) → isWhole depth p ≡ true → length (digitsOf p) < depth
+unfolding isWhole
+whole-short depth p e = ltb-true (length (digitsOf p)) depth e
+
+answers-agree : (whole : Bool) (o : OutletFlow) → AnswersAgree (cellAnswer whole o) o
+answers-agree whole OutletSame = record {
+  yes = λ e. differ e (omega arith);
+  undecided = λ e. differ e (omega arith);
+  no = (λ e. differ e (omega arith), λ e. outlet-differ e (omega arith));
+  same = (λ e. refl, λ e. refl);
+  refused = λ n. (λ e. differ e (omega arith), λ e. outlet-differ e (omega arith));
+  numbers = refl;
+  never-undecided = omega arith;
+}
+answers-agree true OutletYes = record {
+  yes = λ e. refl;
+  undecided = λ e. differ e (omega arith);
+  no = (λ e. differ e (omega arith), λ e. outlet-differ e (omega arith));
+  same = (λ e. differ e (omega arith), λ e. outlet-differ e (omega arith));
+  refused = λ n. (λ e. differ e (omega arith), λ e. outlet-differ e (omega arith));
+  numbers = refl;
+  never-undecided = omega arith;
+}
+answers-agree false OutletYes = record {
+  yes = λ e. refl;
+  undecided = λ e. refl;
+  no = (λ e. differ e (omega arith), λ e. outlet-differ e (omega arith));
+  same = (λ e. differ e (omega arith), λ e. outlet-differ e (omega arith));
+  refused = λ n. (λ e. differ e (omega arith), λ e. outlet-differ e (omega arith));
+  numbers = refl;
+  never-undecided = omega arith;
+}
+answers-agree whole OutletNo = record {
+  yes = λ e. differ e (omega arith);
+  undecided = λ e. differ e (omega arith);
+  no = (λ e. refl, λ e. refl);
+  same = (λ e. differ e (omega arith), λ e. outlet-differ e (omega arith));
+  refused = λ n. (λ e. differ e (omega arith), λ e. outlet-differ e (omega arith));
+  numbers = refl;
+  never-undecided = omega arith;
+}
+answers-agree whole (OutletRefused number) = record {
+  yes = λ e. differ e (omega arith);
+  undecided = λ e. differ e (omega arith);
+  no = (λ e. differ e (omega arith), λ e. outlet-differ e (omega arith));
+  same = (λ e. differ e (omega arith), λ e. outlet-differ e (omega arith));
+  refused = λ n. (λ e. let m : number ≡ n = cc in rw m, λ e. let m : number ≡ n = cc in rw m);
+  numbers = rw (ne-eqb (128 + number) 3 (λ e. omega arith));
+  never-undecided = omega arith;
+}
+
+pub questions-agree : QuestionsAgree
+unfolding flow
+questions-agree depth p q = answers-agree (isWhole depth p) (outletFlow depth p q)

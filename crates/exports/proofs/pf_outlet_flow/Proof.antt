@@ -1,0 +1,17 @@
+-- `pf_outlet_flow` meets its contract.
+use mathlib.Core.Path.{_∙_}
+use borrow.Author.Needs.{needs}
+use Rattle.exports.proofs.pf_outlet_flow.Statement.{statement}
+use Rattle.exports.proofs.pf_outlet_flow.Tie as tie
+
+outlet-flow-of-requires : tie.Need-outlet-flow-of-requires
+outlet-flow-of-requires c κs = search needs
+
+outlet-answer-number-requires : tie.Need-outlet-answer-number-requires
+outlet-answer-number-requires c κs = search needs
+
+returns : tie.Need-returns
+returns c = c .outlet-answer-number .ensures ∙ c .before .outlet-flow-of .ensures .1
+
+pub pf-outlet-flow-spec : {M : Type 1} → statement M
+pf-outlet-flow-spec = tie.close (tie.spec outlet-flow-of-requires outlet-answer-number-requires returns)

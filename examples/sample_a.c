@@ -16,6 +16,6 @@ int main(void) {
     if (dirs[c] != 0)
       printf("%d,%d,%u,%llu\n", c / COLS, c % COLS, (unsigned)areas[c], (unsigned long long)labels[c]);
   printf("water from 92 passes 91: %s\n", pf_flow(3, 91, 92) == 1 ? "yes" : "no, or not known");
-  printf("water from 92 passes the outlet of 91: %s\n", pf_outlet_flow(3, 91, 92) == 1 ? "yes" : "no");
+  printf("water from 92 passes the outlet of 91: %s\n", pf_outlet_flow(3, 91, 92) == 1 ? "yes" : "no, or refused");
   return 0;
 }

@@ -45,8 +45,9 @@ uint32_t pf_lookup(uint64_t leading, const uint64_t *labels, size_t labels_len, 
 /* Does water from the label q pass the label p, at a depth? 0 No, 1 Yes, 2 Same, 3 Undecided, 128 + refusal number. */
 uint32_t pf_flow(size_t depth, uint64_t p, uint64_t q);
 
-/* Does water from the label q pass the outlet of the unit that the label p names, which is the cell to which the cells
-   labelled p drain? 0 No, 1 Yes, 2 Same, 128 + refusal number; never 3. The refusals are those of pf_flow. */
+/* Does water from the label q pass the outlet of the unit that the label p names? That outlet is the cell to which the
+   cells labelled p drain, as pf_index lists it. 0 No, 1 Yes, 2 Same (the water passes the outlet then too), 128 +
+   refusal number; never 3. The refusals are those of pf_flow. */
 uint32_t pf_outlet_flow(size_t depth, uint64_t p, uint64_t q);
 
 #ifdef __cplusplus

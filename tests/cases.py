@@ -2,7 +2,7 @@
 # direct call.
 #
 # A file can get refusals 1 to 10, 14 and 17. It cannot get
-#   11, 12 and 16: they belong to the flow questions and the lookup, of which the program makes no use;
+#   11, 12 and 16: they belong to the flow question, the outlet question and the lookup, of which the program makes no use;
 #   13: the program hands over no line and no end after the end;
 #   15: the program labels only after the intake has accepted the end.
 # Nor can it get 1 to 4 or 17 from labelling, since the intake has refused such sizes, directions and weights before;
@@ -23,47 +23,24 @@ INDEX_EXAMPLE = CASES.parent.parent / 'examples' / 'index.out'
 ONES = [1] * 256
 SAMPLE_A = bytes([0, 4, 16, 8, 16, 16, 16, 16, 64, 64, 32, 64])
 
-# (name, depth, p, q, answer): does water from q pass p?
+# (name, depth, p, q, answer): does water from q pass p? The outlet question, whether it passes the outlet of p's unit,
+# has the same answer, but Yes where this one is Undecided.
 FLOW = [
     ('depth 3, from 92 past 91', 3, 91, 92, 'Yes'),
-    ('depth 3, from 91 past 92', 3, 92, 91, 'No'),
-    ('depth 3, from 3 past 21', 3, 21, 3, 'No'),
-    ('depth 3, from 14 past 131', 3, 131, 14, 'Undecided'),
-    ('labels 9 and 91', 3, 9, 91, ('Refused', 12)),
-    ('labels 91 and 9', 3, 91, 9, ('Refused', 12)),
-    ('label 105 as p', 3, 105, 3, ('Refused', 11)),
-    ('label 105 as q', 3, 3, 105, ('Refused', 11)),
-    ('label 105 twice: 11 before Same', 3, 105, 105, ('Refused', 11)),
-    ('four digits at depth 3', 3, 1111, 2, ('Refused', 11)),
-    ('equal labels', 3, 91, 91, 'Same'),
-    ('equal labels of as many digits as the depth', 2, 91, 91, 'Same'),
-    ('0 twice', 3, 0, 0, 'Same'),
-    ('0 begins all', 3, 0, 5, ('Refused', 12)),
-    ('all begin with 0', 3, 5, 0, ('Refused', 12)),
-    ('No before Undecided', 2, 92, 91, 'No'),
-    ('a later digit of p is even', 3, 12, 3, 'No'),
     ('digits before the parting may be even', 3, 21, 22, 'Yes'),
-    ('depth 0', 0, 1, 1, ('Refused', 2)),
-    ('depth 18', 18, 10**18 - 1, 10**18 - 1, 'Same'),
-    ('depth 18, 19 digits', 18, 1111111111111111111, 2, ('Refused', 11)),
-    ('depth 19: 2 before 11', 19, 105, 105, ('Refused', 2)),
-]
-
-# (name, depth, p, q, answer): does water from q pass the outlet of p's unit?
-OUTLET_FLOW = [
-    ('depth 3, from 14 past 131', 3, 131, 14, 'Yes'),
-    ('depth 2, from 92 past 91', 2, 91, 92, 'Yes'),
-    ('depth 1, from 3 past 1', 1, 1, 3, 'Yes'),
-    ('p has fewer digits than the depth', 3, 91, 92, 'Yes'),
-    ('digits of q may be even from the parting on', 4, 1313, 1428, 'Yes'),
-    ('digits before the parting may be even', 2, 21, 22, 'Yes'),
-    ('all digits before the parting are even', 4, 2485, 2486, 'Yes'),
-    ('depth 18, the first digits part', 18, 111111111111111111, 2, 'Yes'),
-    ('depth 18, the last digits part', 18, 888888888888888887, 888888888888888889, 'Yes'),
-    ('from 91 past 92', 2, 92, 91, 'No'),
+    ('depth 3, from 14 past 131', 3, 131, 14, 'Undecided'),
+    ('depth 2, from 92 past 91', 2, 91, 92, 'Undecided'),
+    ('depth 1, from 3 past 1', 1, 1, 3, 'Undecided'),
+    ('digits of q may be even from the parting on', 4, 1313, 1428, 'Undecided'),
+    ('digits before the parting may be even, at the depth', 2, 21, 22, 'Undecided'),
+    ('all digits before the parting are even', 4, 2485, 2486, 'Undecided'),
+    ('depth 18, the first digits part', 18, 111111111111111111, 2, 'Undecided'),
+    ('depth 18, the last digits part', 18, 888888888888888887, 888888888888888889, 'Undecided'),
+    ('depth 3, from 91 past 92', 3, 92, 91, 'No'),
+    ('No before Undecided', 2, 92, 91, 'No'),
     ('from 91 past 93: an odd digit that is larger', 2, 93, 91, 'No'),
     ('from 93 past 92: a smaller digit that is even', 2, 92, 93, 'No'),
-    ('from 3 past 21', 3, 21, 3, 'No'),
+    ('depth 3, from 3 past 21', 3, 21, 3, 'No'),
     ('a later digit of p is even', 3, 12, 3, 'No'),
     ('a later digit of p is even, at the depth', 2, 12, 3, 'No'),
     ('an even digit of p between odd ones', 3, 121, 3, 'No'),
@@ -92,7 +69,8 @@ OUTLET_FLOW = [
     ('depth 18, 19 digits as q', 18, 1, 2222222222222222222, ('Refused', 11)),
     ('depth 0', 0, 1, 3, ('Refused', 2)),
     ('depth 0: 2 before 11', 0, 105, 3, ('Refused', 2)),
-    ('depth 0: 2 before Same', 0, 0, 0, ('Refused', 2)),
+    ('depth 0: 2 before Same', 0, 1, 1, ('Refused', 2)),
+    ('depth 0, 0 twice: 2 before Same', 0, 0, 0, ('Refused', 2)),
     ('depth 0: 2 before 12', 0, 0, 5, ('Refused', 2)),
     ('depth 19', 19, 1, 3, ('Refused', 2)),
     ('depth 19: 2 before 11', 19, 105, 105, ('Refused', 2)),
@@ -204,10 +182,7 @@ def file_checks():
 def flow_checks():
     for name, depth, p, q, answer in FLOW:
         yield 'flow: ' + name, flow(depth, p, q), answer
-        outlet_answer = 'Yes' if answer == 'Undecided' else answer
-        yield 'flow to the outlet, as flow: ' + name, outlet_flow(depth, p, q), outlet_answer
-    for name, depth, p, q, answer in OUTLET_FLOW:
-        yield 'flow to the outlet: ' + name, outlet_flow(depth, p, q), answer
+        yield 'outlet flow: ' + name, outlet_flow(depth, p, q), 'Yes' if answer == 'Undecided' else answer
 
 
 def sheet_checks():

@@ -187,7 +187,7 @@ def lookup(leading, labels):
         return 0, found[0], len(found)
     return 0, sorted([*entries, leading]).index(leading), 0
 
-# The flow questions.
+# The flow question and the outlet question.
 
 def outlet_flow(depth, p, q):
     """Does water from label q pass the outlet of label p's unit: 'Same', 'Yes', 'No' or ('Refused', number)."""

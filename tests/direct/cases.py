@@ -1,5 +1,6 @@
 #!/usr/bin/env python3
-"""Writes cases for tests/direct/direct.c to standard output: calls with what tests/reference.py expects of them.
+"""Writes cases for tests/direct/direct.c to standard output: calls with what tests/reference.py expects of
+them, and the outlet question with what the water does.
 
 A case is a byte that names its call, then numbers of 8 bytes, lowest byte first, and slices.
 'L', labelling: rows, cols, depth and the lengths of directions, weights, areas, labels and work places; these slices
@@ -10,7 +11,7 @@ weights must stay as they are.
 'P', a lookup: the leading digits, the length of the label slice, the slice, start and length before; the answer, start
 and length after.
 'F', the flow question: depth, p, q, the answer.
-'O', the question about flow to an outlet: the same.
+'O', the outlet question: the same.
 'S', that question about every two labels of a sheet: depth, the number of labels, the labels; the answers, a byte each,
 a row of them for each label as p, with one for each label as q.
 
@@ -247,7 +248,7 @@ def large_sheets(out, rng):
 # Questions about labels.
 
 def flow_cases(out, depth, p, q):
-    """Both flow questions."""
+    """The flow question and the outlet question."""
     for case, call, question in [(b'F', 'pf_flow', reference.flow), (b'O', 'pf_outlet_flow', reference.outlet_flow)]:
         answer = question(depth, p, q)
         refused = isinstance(answer, tuple)
@@ -255,7 +256,7 @@ def flow_cases(out, depth, p, q):
         tally[call][REFUSED % answer[1] if refused else answer] += 1
 
 
-# Depth, p and q of questions about flow that are always asked.
+# Depth, p and q of questions that are always asked.
 FLOWS = [(3, 91, 92), (3, 92, 91), (3, 21, 3), (3, 131, 14), (3, 9, 91), (3, 105, 9), (3, 0, 0), (3, 0, 5), (0, 1, 2),
          (19, 1, 2), (18, 10 ** 18 - 1, 1), (18, 111111111111111111, 2), (18, 1111111111111111111, 2),
          (2 ** 64 - 1, 1, 1), (18, 2 ** 64 - 1, 2 ** 64 - 1), (1, 1, 3), (2, 1, 3), (2, 91, 92), (2, 93, 91),
@@ -278,7 +279,7 @@ def flow_questions(out, rng, count):
 
 
 def outlet_questions(out, rng, count):
-    """Flow to outlets between every two labels of sheets, as the water goes, with a labelling case of each."""
+    """The outlet question about every two labels of sheets, answered by the water, with a labelling case of each."""
     for asked in outlets.questions(rng, count):
         rows, cols, depth = asked.sheet
         lengths = [rows * cols, rows * cols, reference.WORK * rows * cols]
@@ -300,7 +301,8 @@ def lookup_questions(out, rng, count, indexes, large_indexes):
 def main():
     parser = argparse.ArgumentParser(description=__doc__, formatter_class=argparse.RawDescriptionHelpFormatter)
     parser.add_argument('--sheets', type=int, default=2000,
-                        help='random sheets, each for pf_label and for pf_index; twice as many for pf_outlet_flow')
+                        help='random sheets, each for pf_label and for pf_index; twice as many, at four depths each, for '
+                             'pf_outlet_flow')
     parser.add_argument('--lookups', type=int, default=20000, help='random lookups')
     parser.add_argument('--seed', type=int, default=1)
     options = parser.parse_args()

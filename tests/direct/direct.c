@@ -136,7 +136,7 @@ static int pairs_case(uint64_t which) {
 }
 
 /* 1 if all is as expected, 0 if not, -1 if there is no such kind of case. */
-static int a_case(int kind, uint64_t which) {
+static int run_case(int kind, uint64_t which) {
     switch (kind) {
     case 'L': return sheet_case(which, 0);
     case 'I': return sheet_case(which, 1);
@@ -151,7 +151,7 @@ static int a_case(int kind, uint64_t which) {
 int main(void) {
     int kind;
     for (uint64_t which = 0; (kind = getchar()) != EOF; which++) {
-        int good = a_case(kind, which);
+        int good = run_case(kind, which);
         good == 1 ? passed++ : failed++;
         if (good == -1) break;
     }

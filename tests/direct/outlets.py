@@ -45,14 +45,22 @@ def sides(rng):
     return rng.choice(2 * [(rng.randint(least, 9), rng.randint(least, 9))] + [strip, strip[::-1]])
 
 
+def has_tributary(rows, cols, dirs):
+    """Do two cells flow into one? Without that all cells have the label 0."""
+    ends = [reference.step_end(rows, cols, dirs, cell) for cell, code in enumerate(dirs) if code != reference.OUTSIDE]
+    ends = [end for end in ends if end is not None]
+    return len(ends) > len(set(ends))
+
+
 def sheets(rng, count):
-    """So many sheets that labelling accepts, as (rows, cols, directions, weights)."""
+    """So many sheets that labelling accepts and that have more than one label, and some with one label in between, as
+    (rows, cols, directions, weights)."""
     while count > 0:
         rows, cols = sides(rng)
         dirs = rng.choice(fuzz.SHAPES)(rng, rows, cols)
         if weights.plain_areas(rows, cols, dirs) is not None:
             yield rows, cols, bytes(dirs), weights.made(rng, rows, cols, dirs)
-            count -= 1
+            count -= has_tributary(rows, cols, dirs)
 
 
 # Answers.
@@ -75,12 +83,11 @@ def units_of(rows, cols, dirs, labels):
 
 
 def answer_of(passing, p, q):
-    """Does water from the unit q pass the outlet of the unit p? None if that of some of its cells does, not of all."""
-    if p.label == q.label:
-        return SAME
+    """Does water from the unit q pass the outlet of the unit p? None if that of some cells of q does and that of others
+    does not, or if p and q are one unit and its own water does not."""
     if q.cells <= passing[p.outlet]:
-        return YES
-    return NO if q.cells.isdisjoint(passing[p.outlet]) else None
+        return SAME if p.label == q.label else YES
+    return NO if q.cells.isdisjoint(passing[p.outlet]) and p.label != q.label else None
 
 
 def questions(rng, count):
@@ -94,7 +101,7 @@ def questions(rng, count):
             units = units_of(rows, cols, dirs, labelled[3])
             pairs = [(p, q) for p in units for q in units]
             answers = [answer_of(passing, p, q) for p, q in pairs]
-            assert None not in answers, 'water of one unit parts: %s' % [sheet, list(dirs), lent, labelled[3]]
+            assert None not in answers, 'cells of one unit pass an outlet and others do not: %s' % [sheet, list(dirs), lent, labelled[3]]
             counts = {**sheet_counts(sheet, dirs, lent, labelled[2], units),
                       **pair_counts(depth, passing, pairs, answers)}
             yield Questions(sheet, dirs, lent, labelled, [unit.label for unit in units], answers, counts)
@@ -104,7 +111,7 @@ def questions(rng, count):
 
 def sheet_counts(sheet, dirs, lent, areas, units):
     rows, cols, depth = sheet
-    equal, other_heaviest = weights.effects(rows, cols, dirs, areas)
+    equal = weights.effects(rows, cols, dirs, areas)[0]
     return {AT_DEPTH % depth: 1, 'weighted': len(set(lent)) > 1, 'equal areas of unequal counts': equal,
             'one unit': len(units) == 1, 'units of several cells': sum(len(unit.cells) > 1 for unit in units)}
 

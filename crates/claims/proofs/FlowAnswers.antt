@@ -1,4 +1,4 @@
--- The answers to the two questions about labels, on numbers: what they come to, and how they agree.
+-- The answers to the flow question and to the outlet question, on numbers: what they come to, and how they agree.
 use mathlib.Core.Path.{_≡_, refl, sym, _∙_, ap}
 use mathlib.Core.Bool.{Bool, true, false, cond, true≢false}
 use mathlib.Core.List.{List}
@@ -21,11 +21,8 @@ use Rattle.claims.specs.Parting.{PartAt, RuleAt}
 use Rattle.claims.proofs.FlowTests.{part-found, rule-true, rule-test}
 
 -- answers whose numbers differ are not equal
-pub differ : {A : Type 0} {a b : Flow} → a ≡ b → answerNumber a ≢ answerNumber b → A
-differ e n = absurd (n (ap answerNumber e))
-
-pub outlet-differ : {A : Type 0} {a b : OutletFlow} → a ≡ b → outletAnswerNumber a ≢ outletAnswerNumber b → A
-outlet-differ e n = absurd (n (ap outletAnswerNumber e))
+pub differ : {A B : Type 0} (number : A → ℕ) {a b : A} → a ≡ b → number a ≢ number b → B
+differ number e n = absurd (n (ap number e))
 
 -- an answer by the place where labels part
 pub data Answered (x y : List ℕ) (k : ℕ) : OutletFlow → Type 0 where
@@ -53,46 +50,46 @@ whole-short depth p e = ltb-true (length (digitsOf p)) depth e
 
 answers-agree : (whole : Bool) (o : OutletFlow) → AnswersAgree (cellAnswer whole o) o
 answers-agree whole OutletSame = record {
-  yes = λ e. differ e (omega arith);
-  undecided = λ e. differ e (omega arith);
-  no = (λ e. differ e (omega arith), λ e. outlet-differ e (omega arith));
+  yes = λ e. differ answerNumber e (omega arith);
+  undecided = λ e. differ answerNumber e (omega arith);
+  no = (λ e. differ answerNumber e (omega arith), λ e. differ outletAnswerNumber e (omega arith));
   same = (λ e. refl, λ e. refl);
-  refused = λ n. (λ e. differ e (omega arith), λ e. outlet-differ e (omega arith));
+  refused = λ n. (λ e. differ answerNumber e (omega arith), λ e. differ outletAnswerNumber e (omega arith));
   numbers = refl;
   never-undecided = omega arith;
 }
 answers-agree true OutletYes = record {
   yes = λ e. refl;
-  undecided = λ e. differ e (omega arith);
-  no = (λ e. differ e (omega arith), λ e. outlet-differ e (omega arith));
-  same = (λ e. differ e (omega arith), λ e. outlet-differ e (omega arith));
-  refused = λ n. (λ e. differ e (omega arith), λ e. outlet-differ e (omega arith));
+  undecided = λ e. differ answerNumber e (omega arith);
+  no = (λ e. differ answerNumber e (omega arith), λ e. differ outletAnswerNumber e (omega arith));
+  same = (λ e. differ answerNumber e (omega arith), λ e. differ outletAnswerNumber e (omega arith));
+  refused = λ n. (λ e. differ answerNumber e (omega arith), λ e. differ outletAnswerNumber e (omega arith));
   numbers = refl;
   never-undecided = omega arith;
 }
 answers-agree false OutletYes = record {
   yes = λ e. refl;
   undecided = λ e. refl;
-  no = (λ e. differ e (omega arith), λ e. outlet-differ e (omega arith));
-  same = (λ e. differ e (omega arith), λ e. outlet-differ e (omega arith));
-  refused = λ n. (λ e. differ e (omega arith), λ e. outlet-differ e (omega arith));
+  no = (λ e. differ answerNumber e (omega arith), λ e. differ outletAnswerNumber e (omega arith));
+  same = (λ e. differ answerNumber e (omega arith), λ e. differ outletAnswerNumber e (omega arith));
+  refused = λ n. (λ e. differ answerNumber e (omega arith), λ e. differ outletAnswerNumber e (omega arith));
   numbers = refl;
   never-undecided = omega arith;
 }
 answers-agree whole OutletNo = record {
-  yes = λ e. differ e (omega arith);
-  undecided = λ e. differ e (omega arith);
+  yes = λ e. differ answerNumber e (omega arith);
+  undecided = λ e. differ answerNumber e (omega arith);
   no = (λ e. refl, λ e. refl);
-  same = (λ e. differ e (omega arith), λ e. outlet-differ e (omega arith));
-  refused = λ n. (λ e. differ e (omega arith), λ e. outlet-differ e (omega arith));
+  same = (λ e. differ answerNumber e (omega arith), λ e. differ outletAnswerNumber e (omega arith));
+  refused = λ n. (λ e. differ answerNumber e (omega arith), λ e. differ outletAnswerNumber e (omega arith));
   numbers = refl;
   never-undecided = omega arith;
 }
 answers-agree whole (OutletRefused number) = record {
-  yes = λ e. differ e (omega arith);
-  undecided = λ e. differ e (omega arith);
-  no = (λ e. differ e (omega arith), λ e. outlet-differ e (omega arith));
-  same = (λ e. differ e (omega arith), λ e. outlet-differ e (omega arith));
+  yes = λ e. differ answerNumber e (omega arith);
+  undecided = λ e. differ answerNumber e (omega arith);
+  no = (λ e. differ answerNumber e (omega arith), λ e. differ outletAnswerNumber e (omega arith));
+  same = (λ e. differ answerNumber e (omega arith), λ e. differ outletAnswerNumber e (omega arith));
   refused = λ n. (λ e. let m : number ≡ n = cc in rw m, λ e. let m : number ≡ n = cc in rw m);
   numbers = rw (ne-eqb (128 + number) 3 (λ e. omega arith));
   never-undecided = omega arith;

@@ -1,4 +1,4 @@
--- The answers to the two questions about labels say what the water does, on every accepted sheet.
+-- The answers to the flow question and to the outlet question say what the water does, on every accepted sheet.
 use mathlib.Core.Path.{_≡_, refl, sym, _∙_, ap}
 use mathlib.Core.Bool.{Bool, true, false, cond}
 use mathlib.Core.List.{List}
@@ -6,7 +6,6 @@ use mathlib.Core.Logic.{_≢_, _↔_}
 use Prim.Native.Nat.{ℕ}
 use native.Mathlib.Omega.{arith}
 use lib.Dec.{eqb}
-use lib.ListN.{getD}
 use borrow.Author.Tests.{eqb-true, eqb-false}
 use Rattle.sheet.specs.declared.Outcome.the-variants.{Accepted}
 use Rattle.sheet.specs.declared.Flow.the-variants.{Yes, Undecided}
@@ -18,30 +17,25 @@ use Rattle.sheet.specs.Water.{Passes}
 use Rattle.sheet.specs.River.{network}
 use Rattle.sheet.specs.Label.{digitsOf, labelAt}
 use Rattle.sheet.specs.Refusal.{outcome, lentAfter, Lent}
-use Rattle.sheet.specs.Flow.{answerUnequal, outletFlow, isWhole, cellAnswer, flow}
+use Rattle.sheet.specs.Flow.{answerUnequal, isWhole, cellAnswer, flow, answerNumber, outletAnswerNumber}
 use Rattle.claims.specs.Demand.{OneOutlet, Inside, digitsAt}
 use Rattle.claims.specs.Flow.{asked, FlowMeaning, outletAsked, OutletFlowMeaning}
 use Rattle.claims.specs.Parting.{PartAt, RuleAt, MeetsRule}
+use Rattle.claims.proofs.Parting.{part-differs}
 use Rattle.claims.proofs.Units.{drains-passes, begins-all}
 use Rattle.claims.proofs.Basins.{passes-rule}
 use Rattle.claims.proofs.Written.{checks, the-basin, digits-from-outlet, is-label}
 use Rattle.claims.proofs.Theorems.{demand-three, outlet-rule}
-use Rattle.claims.proofs.FlowAnswers.{differ, outlet-differ, Answered, answered-yes, answered-no, answer-at}
-use Rattle.claims.proofs.FlowAnswers.{good-labels, whole-short}
+use Rattle.claims.proofs.FlowAnswers.{differ, Answered, answered-yes, answered-no, answer-at, good-labels}
+use Rattle.claims.proofs.FlowAnswers.{whole-short}
 
--- labels that part differ
-part-differ : {p q : ℕ} (k : ℕ) → PartAt (digitsOf p) (digitsOf q) k → p ≢ q
-part-differ k t e = t .differ (ap (λ (l : ℕ). getD (digitsOf l) k 0) e)
-
--- the labels of cells p and q, and the answer that they get
+-- the labels of cells p and q, and the answer to the outlet question that they get
 data Judged (labels : List ℕ) (p q : ℕ) : OutletFlow → Type 0 where
   judged-same : labelAt labels p ≡ labelAt labels q → Judged labels p q OutletSame
-  judged-yes : (k : ℕ) → PartAt (digitsAt labels p) (digitsAt labels q) k
-      → RuleAt (digitsAt labels p) (digitsAt labels q) k → Judged labels p q OutletYes
-  judged-no : (k : ℕ) → PartAt (digitsAt labels p) (digitsAt labels q) k
-      → ¬ RuleAt (digitsAt labels p) (digitsAt labels q) k → Judged labels p q OutletNo
+  judged-parted : {a : OutletFlow} (k : ℕ) → PartAt (digitsAt labels p) (digitsAt labels q) k
+      → Answered (digitsAt labels p) (digitsAt labels q) k a → Judged labels p q a
 
--- what an answer about an outlet says, where E is that the labels are equal and W that the water passes
+-- what an answer to the outlet question says, where E is that the labels are equal and W that the water passes
 record Says (E W : Type 0) (a : OutletFlow) : Type 0 where
   yes : ¬ E → W ↔ (a ≡ OutletYes)
   no : ¬ E → (¬ W) ↔ (a ≡ OutletNo)
@@ -54,23 +48,23 @@ module _ {E W : Type 0} where
     yes = λ n. absurd (n e);
     no = λ n. absurd (n e);
     same = (λ f. refl, λ f. e);
-    never-refused = λ m f. outlet-differ f (omega arith);
+    never-refused = λ m f. differ outletAnswerNumber f (omega arith);
   }
 
   says-yes : ¬ E → W → Says E W OutletYes
   says-yes n w = record {
     yes = λ m. (λ v. refl, λ f. w);
-    no = λ m. (λ v. absurd (v w), λ f. outlet-differ f (omega arith));
-    same = (λ e. absurd (n e), λ f. outlet-differ f (omega arith));
-    never-refused = λ m f. outlet-differ f (omega arith);
+    no = λ m. (λ v. absurd (v w), λ f. differ outletAnswerNumber f (omega arith));
+    same = (λ e. absurd (n e), λ f. differ outletAnswerNumber f (omega arith));
+    never-refused = λ m f. differ outletAnswerNumber f (omega arith);
   }
 
   says-no : ¬ E → ¬ W → Says E W OutletNo
   says-no n w = record {
-    yes = λ m. (λ v. absurd (w v), λ f. outlet-differ f (omega arith));
+    yes = λ m. (λ v. absurd (w v), λ f. differ outletAnswerNumber f (omega arith));
     no = λ m. (λ v. refl, λ f. w);
-    same = (λ e. absurd (n e), λ f. outlet-differ f (omega arith));
-    never-refused = λ m f. outlet-differ f (omega arith);
+    same = (λ e. absurd (n e), λ f. differ outletAnswerNumber f (omega arith));
+    never-refused = λ m f. differ outletAnswerNumber f (omega arith);
   }
 
 -- ---- inside cells of an accepted sheet
@@ -80,25 +74,20 @@ module _ (S : Sheet) (L : Lent) (accepted : outcome S L ≡ Accepted) where
   labels = lentAfter S L .labels
 
   module _ (p q : ℕ) (i : Inside S p) (j : Inside S q) where
-    judged : Judged labels p q (outletFlow (S .depth) (labelAt labels p) (labelAt labels q))
+    judged : Judged labels p q (outletAsked S labels p q)
     unfolding answerUnequal
     judged =
         rw (good-labels (S .depth) (labelAt labels p) (labelAt labels q) (checks S L accepted .depth)
         (is-label S L accepted p i) (is-label S L accepted q j))
         (go (eqb (labelAt labels p) (labelAt labels q)) refl)
       where
-        parting : (k : ℕ) → PartAt (digitsAt labels p) (digitsAt labels q) k → (a : OutletFlow)
-            → Answered (digitsAt labels p) (digitsAt labels q) k a → Judged labels p q a
-        parting k t a (answered-yes r) = judged-yes k t r
-        parting k t a (answered-no n) = judged-no k t n
-
         go : (same : Bool) → eqb (labelAt labels p) (labelAt labels q) ≡ same
             → Judged labels p q (cond same OutletSame (answerUnequal (labelAt labels p) (labelAt labels q)))
         go true e = judged-same (eqb-true (labelAt labels p) (labelAt labels q) e)
         go false e =
             let t = demand-three S L accepted .labels-part p q i j
             (eqb-false (labelAt labels p) (labelAt labels q) e) in
-            parting (t .0) (t .1) _ (answer-at (digitsAt labels p) (digitsAt labels q) (t .0) (t .1))
+            judged-parted (t .0) (t .1) (answer-at (digitsAt labels p) (digitsAt labels q) (t .0) (t .1))
 
     -- water that passes p meets the rule, at any depth
     met : (k : ℕ) → PartAt (digitsAt labels p) (digitsAt labels q) k → Passes (next (S .grid)) q p
@@ -111,12 +100,12 @@ module _ (S : Sheet) (L : Lent) (accepted : outcome S L ≡ Accepted) where
     by-answer : (a : OutletFlow) → Judged labels p q a
         → asked S labels p q ≡ cellAnswer (isWhole (S .depth) (labelAt labels p)) a → FlowMeaning S labels p q
     by-answer a (judged-same e) f = record {
-      yes = λ g. differ (sym f ∙ g) (omega arith);
-      no = λ g. differ (sym f ∙ g) (omega arith);
+      yes = λ g. differ answerNumber (sym f ∙ g) (omega arith);
+      no = λ g. differ answerNumber (sym f ∙ g) (omega arith);
       same = λ g. e;
-      never-refused = λ n g. differ (sym f ∙ g) (omega arith);
+      never-refused = λ n g. differ answerNumber (sym f ∙ g) (omega arith);
     }
-    by-answer a (judged-yes k t r) f = go (isWhole (S .depth) (labelAt labels p)) refl f
+    by-answer a (judged-parted k t (answered-yes r)) f = go (isWhole (S .depth) (labelAt labels p)) refl f
       where
         go : (whole : Bool) → isWhole (S .depth) (labelAt labels p) ≡ whole
             → asked S labels p q ≡ cond whole Yes Undecided → FlowMeaning S labels p q
@@ -124,28 +113,28 @@ module _ (S : Sheet) (L : Lent) (accepted : outcome S L ≡ Accepted) where
           yes = λ h.
               let short = whole-short (S .depth) (labelAt labels p) e in
               (demand-three S L accepted .cell-rule p q i j short k t) .1 r;
-          no = λ h. differ (sym g ∙ h) (omega arith);
-          same = λ h. differ (sym g ∙ h) (omega arith);
-          never-refused = λ n h. differ (sym g ∙ h) (omega arith);
+          no = λ h. differ answerNumber (sym g ∙ h) (omega arith);
+          same = λ h. differ answerNumber (sym g ∙ h) (omega arith);
+          never-refused = λ n h. differ answerNumber (sym g ∙ h) (omega arith);
         }
         go false e g = record {
-          yes = λ h. differ (sym g ∙ h) (omega arith);
-          no = λ h. differ (sym g ∙ h) (omega arith);
-          same = λ h. differ (sym g ∙ h) (omega arith);
-          never-refused = λ n h. differ (sym g ∙ h) (omega arith);
+          yes = λ h. differ answerNumber (sym g ∙ h) (omega arith);
+          no = λ h. differ answerNumber (sym g ∙ h) (omega arith);
+          same = λ h. differ answerNumber (sym g ∙ h) (omega arith);
+          never-refused = λ n h. differ answerNumber (sym g ∙ h) (omega arith);
         }
-    by-answer a (judged-no k t n) f = record {
-      yes = λ g. differ (sym f ∙ g) (omega arith);
+    by-answer a (judged-parted k t (answered-no n)) f = record {
+      yes = λ g. differ answerNumber (sym f ∙ g) (omega arith);
       no = λ g h. n (met k t h);
-      same = λ g. differ (sym f ∙ g) (omega arith);
-      never-refused = λ m g. differ (sym f ∙ g) (omega arith);
+      same = λ g. differ answerNumber (sym f ∙ g) (omega arith);
+      never-refused = λ m g. differ answerNumber (sym f ∙ g) (omega arith);
     }
 
     pub flow-meaning : FlowMeaning S labels p q
     unfolding flow
     flow-meaning = by-answer _ judged refl
 
-  -- ---- the outlet of a unit
+  -- ---- the outlet question
 
   unit-outlet : (p : ℕ) → Inside S p → OneOutlet (next (S .grid)) (Inside S) (digitsAt labels) (digitsAt labels p)
   unit-outlet p i =
@@ -174,8 +163,9 @@ module _ (S : Sheet) (L : Lent) (accepted : outcome S L ≡ Accepted) where
     says : (a : OutletFlow) → Judged labels p q a
         → Says (labelAt labels p ≡ labelAt labels q) (Passes (next (S .grid)) q (unit-outlet p i .cell)) a
     says a (judged-same e) = says-same e
-    says a (judged-yes k t r) = says-yes (part-differ k t) ((rule-at k t) .1 r)
-    says a (judged-no k t n) = says-no (part-differ k t) (λ w. n ((rule-at k t) .0 w))
+    says a (judged-parted k t (answered-yes r)) = says-yes (λ e. part-differs t (ap digitsOf e)) ((rule-at k t) .1 r)
+    says a (judged-parted k t (answered-no n)) =
+        says-no (λ e. part-differs t (ap digitsOf e)) (λ w. n ((rule-at k t) .0 w))
 
     answer-says : Says (labelAt labels p ≡ labelAt labels q) (Passes (next (S .grid)) q (unit-outlet p i .cell))
         (outletAsked S labels p q)

@@ -1,4 +1,5 @@
--- The tests of the questions about labels say what they mean: where two labels part, and the digit rule there.
+-- The tests of the flow question and the outlet question say what they mean: where two labels part, and the digit rule
+-- there.
 use mathlib.Core.Path.{_≡_, _∙_, ap}
 use mathlib.Core.Bool.{true}
 use mathlib.Core.List.{List, [], _∷_}

@@ -1,4 +1,5 @@
--- The claims of specs/, for every sheet that the outcome of labelling accepts, about the labels that it writes.
+-- The claims of specs/ but those of Flow.antt, for every sheet that the outcome of labelling accepts, about the labels
+-- that it writes.
 use mathlib.Core.Path.{_≡_, sym, _∙_, ap}
 use mathlib.Core.Bool.{true}
 use mathlib.Core.List.{List}

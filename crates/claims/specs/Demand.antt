@@ -35,7 +35,7 @@ pub record DemandThree (next : ℕ → Next) (inside : ℕ → Type 0) (depth : 
   -- the cells that share leading digits drain, through cells that share them, to exactly one of them
   pub one-outlet : (w : List ℕ) (c : ℕ) → Shares inside digits w c → OneOutlet next inside digits w
 
--- the outlet rule: water from q passes the outlet of the unit that p's label names, exactly under the digit rule, at
+-- the outlet rule, from which OutletFlowMeaning (Flow.antt) is drawn: water from q passes the outlet of the unit that p's label names, exactly under the digit rule, at
 -- any depth
 pub record OutletRule (next : ℕ → Next) (inside : ℕ → Type 0) (digits : ℕ → List ℕ) : Type 0 where
   pub rule : (p q : ℕ) → inside p → inside q → (o : ℕ) → DrainsTo next (Shares inside digits (digits p)) o

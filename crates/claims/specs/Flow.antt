@@ -1,5 +1,5 @@
--- What the answers to the flow question, and to that about the outlet of a unit, say of inside cells of a sheet with
--- the labels that were written for it; and how the two questions agree.
+-- What the answers to the flow question and to the outlet question say of inside cells of a sheet with the labels that
+-- were written for it; and how the two questions agree.
 use mathlib.Core.Path.{_≡_}
 use mathlib.Core.Bool.{cond}
 use mathlib.Core.List.{List}
@@ -28,10 +28,11 @@ pub record FlowMeaning (S : Sheet) (labels : List ℕ) (p q : ℕ) : Type 0 wher
   pub same : asked S labels p q ≡ Same → labelAt labels p ≡ labelAt labels q
   pub never-refused : (number : ℕ) → ¬ (asked S labels p q ≡ Refused number)
 
--- does water from q pass the outlet of the unit that p's label names? asked of their labels
+-- the outlet question, does water from q pass the outlet of the unit that p's label names? asked of their labels
 abbrev pub outletAsked : Sheet → List ℕ → ℕ → ℕ → OutletFlow
 outletAsked S labels p q = outletFlow (S .depth) (labelAt labels p) (labelAt labels q)
 
+-- at any depth
 pub record OutletFlowMeaning (S : Sheet) (labels : List ℕ) : Type 0 where
   -- the outlet of the unit that p's label names is the cell of the one-outlet statement, for this label as leading
   -- digits
@@ -39,12 +40,12 @@ pub record OutletFlowMeaning (S : Sheet) (labels : List ℕ) : Type 0 where
   -- different labels: water from q passes it exactly if the digit rule is met
   pub rule : (p q : ℕ) (i : Inside S p) → Inside S q → labelAt labels p ≢ labelAt labels q
       → Passes (next (S .grid)) q (outlet p i .cell) ↔ MeetsRule (digitsAt labels p) (digitsAt labels q)
-  -- and so exactly if the question says Yes; and it does not exactly if the question says No
+  -- and so exactly if the question says Yes, and does not pass it exactly if the question says No
   pub yes : (p q : ℕ) (i : Inside S p) → Inside S q → labelAt labels p ≢ labelAt labels q
       → Passes (next (S .grid)) q (outlet p i .cell) ↔ (outletAsked S labels p q ≡ OutletYes)
   pub no : (p q : ℕ) (i : Inside S p) → Inside S q → labelAt labels p ≢ labelAt labels q
       → (¬ Passes (next (S .grid)) q (outlet p i .cell)) ↔ (outletAsked S labels p q ≡ OutletNo)
-  -- the same label: the question says Same, and water from q passes the outlet
+  -- exactly for the same label the question says Same; water from q then passes the outlet
   pub same : (p q : ℕ) → Inside S p → Inside S q
       → (labelAt labels p ≡ labelAt labels q) ↔ (outletAsked S labels p q ≡ OutletSame)
   pub same-passes : (p q : ℕ) (i : Inside S p) → Inside S q → labelAt labels p ≡ labelAt labels q
@@ -53,7 +54,7 @@ pub record OutletFlowMeaning (S : Sheet) (labels : List ℕ) : Type 0 where
   pub never-refused : (p q : ℕ) → Inside S p → Inside S q → (number : ℕ)
       → ¬ (outletAsked S labels p q ≡ OutletRefused number)
 
--- how an answer to the flow question and one to that about the outlet agree
+-- how an answer f to the flow question and an answer o to the outlet question agree
 pub record AnswersAgree (f : Flow) (o : OutletFlow) : Type 0 where
   pub yes : f ≡ Yes → o ≡ OutletYes
   pub undecided : f ≡ Undecided → o ≡ OutletYes

@@ -53,7 +53,7 @@ pub fn count_digits(label: u64) -> usize
 }
 
 // Writes the digits of a label, of which there are count, to the first places, the last digit first. A step for the
-// flow question.
+// flow question and the outlet question.
 pub fn put_digits(label: u64, count: usize, out: &mut [u8])
     requires { ⌜ count ≡ length (digitsOf label) ⌝ }
     requires { ⌜ count ≤ length (now out) ⌝ }

@@ -122,7 +122,7 @@ pub extern "C" fn pf_lookup(
     }
 }
 
-// Does water from the label q pass the label p?
+// The flow question: does water from the label q pass the label p?
 #[no_mangle]
 pub extern "C" fn pf_flow(depth: usize, p: u64, q: u64) -> u32
     ensures { λ r. ⌜ r ≡ answerNumber (flow depth p q) ⌝ }
@@ -130,7 +130,7 @@ pub extern "C" fn pf_flow(depth: usize, p: u64, q: u64) -> u32
     flow::answer_number(flow::flow_of(depth, p, q))
 }
 
-// Does water from the label q pass the outlet of the unit that the label p names?
+// The outlet question: does water from the label q pass the outlet of the unit that the label p names?
 #[no_mangle]
 pub extern "C" fn pf_outlet_flow(depth: usize, p: u64, q: u64) -> u32
     ensures { λ r. ⌜ r ≡ outletAnswerNumber (outletFlow depth p q) ⌝ }

@@ -1,4 +1,4 @@
--- The number of an answer to a question about labels tells the answers apart, and fits a byte.
+-- The number of an answer to the flow question, and to the outlet question, tells the answers apart and fits a byte.
 use mathlib.Core.Path.{_≡_, refl, sym, ap, _∙_}
 use mathlib.Core.Bool.{Bool, true, false, cond}
 use mathlib.Core.List.{List}
@@ -17,6 +17,11 @@ use Rattle.sheet.specs.Label.{digitsOf}
 use Rattle.sheet.specs.Refusal.{both, depthFits}
 use Rattle.sheet.specs.Flow.{ruleAt, isLabel, partAt, answerAt, answerUnequal, outletFlow, isWhole, cellAnswer, flow}
 use Rattle.sheet.specs.Flow.{answerNumber, outletAnswerNumber}
+
+-- an answer that is the defined one has its number too
+pub and-number : {A : Type 0} (number : A → ℕ) {answer defined : A} → answer ≡ defined
+    → (answer ≡ defined) × (number answer ≡ number defined)
+and-number number e = (e, ap number e)
 
 -- the answer that has a number
 abbrev answerOf : ℕ → Flow
@@ -42,7 +47,7 @@ answer-of (Refused number) =
 pub answer-number-apart : (a b : Flow) → answerNumber a ≡ answerNumber b → a ≡ b
 answer-number-apart a b e = sym (answer-of a) ∙ ap answerOf e ∙ answer-of b
 
--- the answer about an outlet that has the same name
+-- the answer to the outlet question that has the same name
 abbrev outletAnswerOf : Flow → OutletFlow
 outletAnswerOf Same = OutletSame
 outletAnswerOf Yes = OutletYes

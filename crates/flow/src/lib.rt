@@ -1,5 +1,5 @@
-// The flow question, does water from the label q pass the label p, and the question whether it passes the outlet of the
-// unit that p names.
+// The flow question, does water from the label q pass the label p, and the outlet question, does it pass the outlet of
+// the unit that p names?
 use checks::depth_fits;
 use digits::count_digits;
 use digits::is_label;
@@ -96,7 +96,8 @@ fn are_labels(depth: usize, p: u64, q: u64) -> bool
     false
 }
 
-// Does water from the label q pass the outlet of the unit that the label p names? 2, 11, Same, 12, then the rule.
+// The outlet question: does water from the label q pass the outlet of the unit that the label p names? 2, 11, Same, 12,
+// then the rule.
 pub fn outlet_flow_of(depth: usize, p: u64, q: u64) -> OutletFlow
     ensures answer { λ r. ⌜ r ≡ outletFlow depth p q ⌝ }
     ensures number { λ r. ⌜ outletAnswerNumber r ≡ outletAnswerNumber (outletFlow depth p q) ⌝ }
@@ -113,7 +114,7 @@ pub fn outlet_flow_of(depth: usize, p: u64, q: u64) -> OutletFlow
     OutletFlow::Refused(2)
 }
 
-// The answer about a label from that about its unit's outlet; `whole` tells that the label has fewer digits than the
+// The answer to the flow question from that to the outlet question; `whole` tells that p has fewer digits than the
 // depth.
 fn cell_answer(whole: bool, answer: OutletFlow) -> Flow
     ensures { λ r. ⌜ r ≡ cellAnswer whole answer ⌝ }
@@ -126,8 +127,8 @@ fn cell_answer(whole: bool, answer: OutletFlow) -> Flow
     }
 }
 
-// Does water from the label q pass the label p? As for the outlet of p's unit, but that a label of as many digits as
-// the depth gets Undecided for Yes.
+// The flow question: does water from the label q pass the label p? The answer to the outlet question, but Undecided for
+// Yes where p has as many digits as the depth.
 pub fn flow_of(depth: usize, p: u64, q: u64) -> Flow
     ensures answer { λ r. ⌜ r ≡ flow depth p q ⌝ }
     ensures number { λ r. ⌜ answerNumber r ≡ answerNumber (flow depth p q) ⌝ }
@@ -149,7 +150,7 @@ pub fn answer_number(a: Flow) -> u32
     }
 }
 
-// The number of an answer about an outlet: that of the flow question's answer of the same name.
+// The number of an answer to the outlet question: that of the flow question's answer of the same name.
 pub fn outlet_answer_number(a: OutletFlow) -> u32
     ensures { λ r. ⌜ r ≡ outletAnswerNumber a ⌝ }
 {

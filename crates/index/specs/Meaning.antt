@@ -56,7 +56,7 @@ pub record IndexMeaning (S : Sheet) (labels : List ℕ) (units : ℕ) (I : LentI
   pub one-outlet : (k : ℕ) → k < units
       → (o : OneOutlet (next (S .grid)) (Inside S) (digitsAt labels) (digitsOf (indexLabel I k)))
       × (o .cell ≡ indexOutlet I k)
-  -- it is the outlet that the question about the outlet of a unit is about, for every cell with that label
+  -- and the one that the outlet question is about (OutletFlowMeaning, outlet), for every cell p with that label
   pub unit-outlet : (k : ℕ) → k < units → (p : ℕ) → HasLabel S labels (indexLabel I k) p
       → (o : OneOutlet (next (S .grid)) (Inside S) (digitsAt labels) (digitsAt labels p)) → o .cell ≡ indexOutlet I k
   -- the counts are those of the cells with that label, and add up to the number of inside cells

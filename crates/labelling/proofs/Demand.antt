@@ -1,5 +1,4 @@
--- The third demand holds of the labels as the calls wrote them, and so does what the question about the outlet of a
--- unit says.
+-- The third demand, and what the outlet question says, hold of the labels as the calls wrote them.
 use mathlib.Core.Path.{_≡_, refl}
 use mathlib.Core.Option.{Option, none, some}
 use mathlib.Core.List.{List}

@@ -1,5 +1,5 @@
--- The third demand, and what the question about the outlet of a unit says, about the labels as the calls wrote them:
--- directly, and from an intake.
+-- The third demand, and what the outlet question says, about the labels as the calls wrote them: directly, and from an
+-- intake.
 use mathlib.Core.Path.{_≡_}
 use mathlib.Core.Option.{some}
 use mathlib.Core.List.{List}
@@ -40,6 +40,6 @@ pub record ForAllAccepted (Statement : Sheet → List ℕ → Type 0) : Type 1 w
 abbrev pub DemandThreeWhole : Type 1
 DemandThreeWhole = ForAllAccepted DemandThreeOf
 
--- document 02's flow to a unit's outlet: exactly under the digit rule, and exactly if the question says Yes
+-- flow to a unit's outlet: exactly under the digit rule, and exactly if the outlet question says Yes
 abbrev pub OutletFlowWhole : Type 1
 OutletFlowWhole = ForAllAccepted OutletFlowMeaning

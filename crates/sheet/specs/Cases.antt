@@ -123,7 +123,7 @@ traps =
     ∷ case (answerNumber (flow 19 1 2) ∷ answerNumber (flow 18 1 2) ∷ []) (130 ∷ 1 ∷ [])
     ∷ []
 
--- Past the outlet of a unit: as past the label, but for Yes where the label has as many digits as the depth (14 past
+-- The outlet question: as the flow question, but for Yes where the label has as many digits as the depth (14 past
 -- 131, 92 past 91, 9 past 1); a later even digit; 2 before 11, 11 before Same, Same before 12.
 unfoldable pub outletFlows : List Case
 unfolding outletFlow

@@ -1,5 +1,5 @@
--- Document 01's flow question, and document 02's about the outlet of a unit: where two labels part, the digit rule,
--- refusals 2, 11 and 12, and the answers.
+-- Document 01's flow question, and document 02's question about flow to a unit's outlet, here called the outlet
+-- question: where two labels part, the digit rule, refusals 2, 11 and 12, and the answers.
 use mathlib.Core.Bool.{Bool, true, false, cond}
 use mathlib.Core.List.{List, [], _∷_}
 use Prim.Native.Nat.{ℕ, suc, _+_, _%_}
@@ -60,8 +60,8 @@ unfoldable pub answerUnequal : ℕ → ℕ → OutletFlow
 unfolding answerAt partAt digitsOf
 answerUnequal p q = answerAt (digitsOf p) (digitsOf q) (partAt (digitsOf p) (digitsOf q))
 
--- does water from the label q pass the outlet of the unit that the label p names? 2, 11, Same, in this order, then the
--- answer for unequal labels
+-- the outlet question, does water from the label q pass the outlet of the unit that the label p names? 2, 11, Same, in
+-- this order, then the answer for unequal labels
 unfoldable pub outletFlow : ℕ → ℕ → ℕ → OutletFlow
 unfolding depthFits isLabel answerUnequal
 outletFlow depth p q =
@@ -70,25 +70,26 @@ outletFlow depth p q =
     cond (both (isLabel depth p) (isLabel depth q)) (cond (eqb p q) OutletSame unequal) (OutletRefused 11) in
     cond (depthFits depth) judged (OutletRefused 2)
 
--- a label with fewer digits than the depth, so that no tributary in its unit was cut
+-- document 02's "whole": a label with fewer digits than the depth, so that no tributary in its unit was cut
 unfoldable pub isWhole : ℕ → ℕ → Bool
 unfolding digitsOf
 isWhole depth p = ltb (length (digitsOf p)) depth
 
--- the answer about the label, from that about the outlet: Yes is unsure where the label may hold tributaries that were
--- cut; the others stay
+-- the answer to the flow question, from that to the outlet question: Yes is unsure where the label may hold tributaries
+-- that were cut; the others stay
 abbrev pub cellAnswer : Bool → OutletFlow → Flow
 cellAnswer whole OutletSame = Same
 cellAnswer whole OutletYes = cond whole Yes Undecided
 cellAnswer whole OutletNo = No
 cellAnswer whole (OutletRefused number) = Refused number
 
--- does water from the label q pass the label p? The steps are those of the question about the outlet, and then one more
+-- the flow question, does water from the label q pass the label p? The steps are those of the outlet question, and then
+-- one more
 unfoldable pub flow : ℕ → ℕ → ℕ → Flow
 unfolding outletFlow isWhole
 flow depth p q = cellAnswer (isWhole depth p) (outletFlow depth p q)
 
--- the number of an answer: 0 No, 1 Yes, 2 Same, 3 Undecided, 128 + the refusal's number
+-- the number of an answer to the flow question: 0 No, 1 Yes, 2 Same, 3 Undecided, 128 + the refusal's number
 abbrev pub answerNumber : Flow → ℕ
 answerNumber No = 0
 answerNumber Yes = 1
@@ -96,6 +97,6 @@ answerNumber Same = 2
 answerNumber Undecided = 3
 answerNumber (Refused number) = 128 + number
 
--- the number of an answer about an outlet: that of the flow question's answer of the same name
+-- the number of an answer to the outlet question: that of the flow question's answer of the same name
 abbrev pub outletAnswerNumber : OutletFlow → ℕ
 outletAnswerNumber answer = answerNumber (cellAnswer true answer)

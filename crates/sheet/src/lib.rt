@@ -32,7 +32,7 @@ pub enum Outcome {
     Refused(u8, usize),
 }
 
-// The answer to the question whether water passes the outlet of a unit; a refusal carries document 01's number.
+// The answer to the outlet question; a refusal carries document 01's number.
 pub enum OutletFlow {
     Same,
     Yes,

@@ -3,10 +3,6 @@ use mathlib.Core.Path.{_∙_}
 use borrow.Author.Needs.{needs}
 use Rattle.exports.proofs.pf_flow.Statement.{statement}
 use Rattle.exports.proofs.pf_flow.Tie as tie
-use Rattle.exports.proofs.pf_flow.Reads as reads
-use Rattle.exports.proofs.pf_flow.Lts as lts
-use Rattle.flow.proofs.answer_number.Reads as answer-number-reads
-use Rattle.flow.proofs.flow_of.Reads as flow-of-reads
 
 flow-of-requires : tie.Need-flow-of-requires
 flow-of-requires c κs = search needs

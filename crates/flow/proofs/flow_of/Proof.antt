@@ -1,6 +1,7 @@
--- `flow_of` meets its contract: the answer about the outlet, and then the last step.
+-- `flow_of` meets its contract: the answer to the outlet question, and then the last step.
 use borrow.Author.Needs.{needs}
-use Rattle.sheet.specs.Flow.{isWhole, flow}
+use Rattle.sheet.specs.Flow.{isWhole, flow, answerNumber}
+use Rattle.flow.proofs.Answers.{and-number}
 use Rattle.flow.proofs.flow_of.Statement.{statement}
 use Rattle.flow.proofs.flow_of.Tie as tie
 
@@ -18,7 +19,7 @@ unfolding flow isWhole
 returns c =
     let count = c .before .before .count-digits .ensures in
     let outlet = c .before .outlet-flow-of .ensures .0 in
-    (simp (c .cell-answer .ensures, outlet, count), simp (c .cell-answer .ensures, outlet, count))
+    and-number answerNumber (simp (c .cell-answer .ensures, outlet, count))
 
 pub flow-of-spec : {M : Type 1} → statement M
 flow-of-spec =

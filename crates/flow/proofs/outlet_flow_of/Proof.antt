@@ -1,5 +1,5 @@
--- `outlet_flow_of` meets its contract, return by return.
-use mathlib.Core.Path.{_≡_, sym, _∙_, ap}
+-- `outlet_flow_of` meets its contract: each return gives one of the answers.
+use mathlib.Core.Path.{_≡_, sym, _∙_}
 use mathlib.Core.Bool.{Bool, true, false}
 use mathlib.Core.Logic.{_≢_}
 use Prim.Native.Nat.{ℕ}
@@ -9,6 +9,7 @@ use Rattle.sheet.specs.declared.OutletFlow.{OutletFlow}
 use Rattle.sheet.specs.declared.OutletFlow.the-variants.{Same as OutletSame, Refused as OutletRefused}
 use Rattle.sheet.specs.Refusal.{both, depthFits}
 use Rattle.sheet.specs.Flow.{isLabel, answerUnequal, outletFlow, outletAnswerNumber}
+use Rattle.flow.proofs.Answers.{and-number}
 use Rattle.flow.proofs.outlet_flow_of.Statement.{statement}
 use Rattle.flow.proofs.outlet_flow_of.Tie as tie
 
@@ -32,10 +33,7 @@ module _ (depth p q : ℕ) {fits : Bool} (is-fits : fits ≡ depthFits depth) wh
     unfolding outletFlow
     unequal e f answer g = rw (sym is-fits ∙ fit, sym is-labels ∙ e, ne-eqb p q f) g
 
--- an answer, and so its number
-and-number : (depth p q : ℕ) (a : OutletFlow) → a ≡ outletFlow depth p q
-    → (a ≡ outletFlow depth p q) × (outletAnswerNumber a ≡ outletAnswerNumber (outletFlow depth p q))
-and-number depth p q a e = (e, ap outletAnswerNumber e)
+ruleset answers = (same, unequal, refused-11, refused-2)
 
 depth-fits-requires : tie.Need-depth-fits-requires
 depth-fits-requires c κs = search needs
@@ -44,19 +42,19 @@ are-labels-requires : tie.Need-are-labels-requires
 are-labels-requires c κs = search needs
 
 returns : tie.Need-returns
-returns c = and-number _ _ _ _ (search same)
+returns c = and-number outletAnswerNumber (search answers)
 
 answer-unequal-requires : tie.Need-answer-unequal-requires
 answer-unequal-requires c κs = search needs
 
 returns-2 : tie.Need-returns-2
-returns-2 c = and-number _ _ _ _ (search unequal)
+returns-2 c = and-number outletAnswerNumber (search answers)
 
 returns-3 : tie.Need-returns-3
-returns-3 c = and-number _ _ _ _ (search refused-11)
+returns-3 c = and-number outletAnswerNumber (search answers)
 
 returns-4 : tie.Need-returns-4
-returns-4 c = and-number _ _ _ _ (search refused-2)
+returns-4 c = and-number outletAnswerNumber (search answers)
 
 pub outlet-flow-of-spec : {M : Type 1} → statement M
 outlet-flow-of-spec =

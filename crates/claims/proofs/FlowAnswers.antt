@@ -37,7 +37,7 @@ answer-at x y k t = rw (part-found x y k t) (go (ruleAt k x y) refl)
     go true e = answered-yes (rule-true x y k e)
     go false e = answered-no (λ r. true≢false (sym (rule-test x y k r) ∙ e))
 
--- on labels that are good at the depth
+-- the outlet question asked of two labels of a depth that fits
 pub good-labels : (depth p q : ℕ) → depthFits depth ≡ true → isLabel depth p ≡ true → isLabel depth q ≡ true
     → outletFlow depth p q ≡ cond (eqb p q) OutletSame (answerUnequal p q)
 unfolding outletFlow

@@ -22,6 +22,7 @@ use Rattle.claims.specs.Parting.{MeetsRule}
 abbrev pub asked : Sheet → List ℕ → ℕ → ℕ → Flow
 asked S labels p q = flow (S .depth) (labelAt labels p) (labelAt labels q)
 
+-- what the flow question says of inside cells p and q
 pub record FlowMeaning (S : Sheet) (labels : List ℕ) (p q : ℕ) : Type 0 where
   pub yes : asked S labels p q ≡ Yes → Passes (next (S .grid)) q p
   pub no : asked S labels p q ≡ No → ¬ Passes (next (S .grid)) q p
@@ -32,7 +33,7 @@ pub record FlowMeaning (S : Sheet) (labels : List ℕ) (p q : ℕ) : Type 0 wher
 abbrev pub outletAsked : Sheet → List ℕ → ℕ → ℕ → OutletFlow
 outletAsked S labels p q = outletFlow (S .depth) (labelAt labels p) (labelAt labels q)
 
--- at any depth
+-- what the outlet question says of the inside cells of a sheet, at any depth
 pub record OutletFlowMeaning (S : Sheet) (labels : List ℕ) : Type 0 where
   -- the outlet of the unit that p's label names is the cell of the one-outlet statement, for this label as leading
   -- digits

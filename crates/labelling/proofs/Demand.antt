@@ -4,7 +4,7 @@ use mathlib.Core.Option.{Option, none, some}
 use mathlib.Core.List.{List}
 use Prim.Native.Nat.{ℕ}
 use native.Mathlib.Omega.{arith}
-use Rattle.sheet.specs.declared.Outcome.the-variants.{Accepted, Refused}
+use Rattle.sheet.specs.declared.Outcome.the-variants.{Accepted}
 use Rattle.sheet.specs.Sheet.{Sheet}
 use Rattle.sheet.specs.Refusal.{Lent, outcome, lentAfter}
 use Rattle.faults.specs.declared.Sizes.{Sizes}
@@ -13,8 +13,7 @@ use Rattle.intake.specs.Intake.{LentSheet, endedSizes}
 use Rattle.claims.proofs.Theorems.{demand-three}
 use Rattle.claims.proofs.FlowMeaning.{outlet-flow-meaning}
 use Rattle.labelling.specs.FromIntake.{sheetOf, outcomeWith, lentWith, intakeOutcome, intakeLent}
-use Rattle.labelling.specs.Demand.{LabelledDirectly, LabelledFrom, OfIntake, ForAllAccepted, DemandThreeWhole}
-use Rattle.labelling.specs.Demand.{OutletFlowWhole}
+use Rattle.labelling.specs.Demand.{LabelledDirectly, OfIntake, ForAllAccepted, DemandThreeWhole, OutletFlowWhole}
 
 -- what holds of every accepted sheet and the labels that the definition writes, holds however it is labelled
 module _ (Statement : Sheet → List ℕ → Type 0)

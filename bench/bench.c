@@ -1,5 +1,5 @@
-/* Times the proved labelling call against the plain C baseline, and the index call against the labelling call, on the
-   same sheets in one run, and prints the ratios. */
+/* Times the proved labelling call against the plain C baseline, the index call against the labelling call, and check 4
+   by words against check 4 by bytes, on the same sheets in one run, and prints the ratios. */
 #include <stdint.h>
 #include <stdio.h>
 #include <stdlib.h>
@@ -20,6 +20,20 @@ static uint64_t indexed(int side, int depth) {
     size_t n = (size_t)side * side;
     return pf_index(side, side, depth, dirs, n, weights, side, index_areas, n, index_labels, n, work, 8 * n, units, n,
                     outlets, n, counts, n);
+}
+
+/* Of the crate benchmark: the first cell of a sheet whose byte is none of the nine codes, or its number of cells. */
+size_t bench_codes_by_words(size_t rows, size_t cols, const uint8_t *dirs, size_t dirs_len);
+size_t bench_codes_by_bytes(size_t rows, size_t cols, const uint8_t *dirs, size_t dirs_len);
+
+static uint64_t by_words(int side, int depth) {
+    (void)depth;
+    return bench_codes_by_words(side, side, dirs, (size_t)side * side);
+}
+
+static uint64_t by_bytes(int side, int depth) {
+    (void)depth;
+    return bench_codes_by_bytes(side, side, dirs, (size_t)side * side);
 }
 
 static uint64_t plain(int side, int depth) {
@@ -81,6 +95,24 @@ static void index_against_label(void) {
     }
 }
 
+/* Check 4 alone, on sheets without a bad byte, so that all cells are looked at, and what part of the whole call it is. */
+static void words_against_bytes(void) {
+    printf("\ntime of check 4 by bytes / time of check 4 by words, 256 x 256 (nanoseconds a cell of each; of the whole "
+           "call, depth 18)\n");
+    for (size_t s = 0; s < SHAPES; s++) {
+        double words, bytes, whole, base;
+        shapes[s].make(SIDE);
+        if (by_words(SIDE, 0) != CELLS || by_bytes(SIDE, 0) != CELLS) {
+            printf("%s: a bad byte was found\n", shapes[s].name);
+            exit(1);
+        }
+        least_times(by_bytes, by_words, SIDE, 0, &bytes, &words);
+        least_times(proved, plain, SIDE, 18, &whole, &base);
+        printf("%-7s bytes / words  %.1f  (%.2f / %.2f; %.1f)\n", shapes[s].name, bytes / words, bytes * 1e9 / CELLS,
+               words * 1e9 / CELLS, whole * 1e9 / CELLS);
+    }
+}
+
 static void time_a_cell(void) {
     static const int sides[] = {64, 128, 256};
     printf("\nnanoseconds a cell, proved call, depth 18\n");
@@ -101,6 +133,7 @@ int main(void) {
     label_against_baseline();
     weighted_against_baseline();
     index_against_label();
+    words_against_bytes();
     time_a_cell();
     return 0;
 }

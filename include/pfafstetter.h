@@ -50,6 +50,10 @@ uint32_t pf_flow(size_t depth, uint64_t p, uint64_t q);
    refusal number; never 3. The refusals are those of pf_flow. */
 uint32_t pf_outlet_flow(size_t depth, uint64_t p, uint64_t q);
 
+/* Eight directions as one word, the first in its lowest byte: the place, 0 to 7, of the first that is none of the nine
+   codes, or 8 if all are codes. */
+uint32_t pf_first_bad(uint64_t word);
+
 #ifdef __cplusplus
 }
 #endif

@@ -14,8 +14,8 @@ import pathlib
 import sys
 
 sys.dont_write_bytecode = True
-from reference import (Intake, flow, index, index_intake, label, label_intake, lookup, outlet_flow, report, take_end,
-                       take_line)
+from reference import (Intake, first_bad, flow, index, index_intake, label, label_intake, lookup, outlet_flow, report,
+                       take_end, take_line)
 
 CASES = pathlib.Path(__file__).resolve().parent / 'cases'
 INDEX_EXAMPLE = CASES.parent.parent / 'examples' / 'index.out'
@@ -100,6 +100,9 @@ SHEETS = [
     ('direction 3 before direction 5', 1, 3, 1, bytes([1, 3, 5]), ONES, 3, 3, 24, 4, 1),
     ('4 before 5', 1, 2, 1, bytes([0, 3]), ONES, 2, 2, 16, 4, 1),
     ('bad direction past the sheet', 1, 1, 1, bytes([1, 3]), ONES, 1, 1, 8, 0, 0),
+    ('bad direction in the ninth of nine cells', 1, 9, 1, bytes([16] * 8 + [3]), ONES, 9, 9, 72, 4, 8),
+    ('bad directions from the sixteenth cell on', 1, 17, 1, bytes([0] * 15 + [5, 3]), ONES, 17, 17, 136, 4, 15),
+    ('bad directions past the ninth of nine cells', 1, 9, 1, bytes([16] * 9 + [3] * 7), ONES, 9, 9, 72, 0, 0),
     ('no cell inside', 1, 2, 1, bytes([0, 0, 1]), ONES, 2, 2, 16, 5, 0),
     ('codes 1 and 16', 1, 2, 1, bytes([1, 16]), ONES, 2, 2, 16, 6, 0),
     ('codes 16 and 1', 1, 2, 1, bytes([16, 1]), ONES, 2, 2, 16, 7, 1),
@@ -119,6 +122,21 @@ SHEETS = [
     ('17 before 5', 1, 2, 1, bytes([0, 0]), [1001], 2, 2, 16, 17, 0),
     ('17 before 6', 1, 2, 1, bytes([1, 16]), [0], 2, 2, 16, 17, 0),
     ('17 before 7', 1, 2, 1, bytes([16, 1]), [1001], 2, 2, 16, 17, 0),
+]
+
+# (name, word of eight directions; place of its first bad byte, or 8)
+WORDS = [
+    ('all 0', 0, 8),
+    ('the eight other codes', 0x8040201008040201, 8),
+    ('128 eight times', 0x8080808080808080, 8),
+    ('1 above 0', 0x0100010001000100, 8),
+    ('3 above 0', 0x0300, 1),
+    ('3 above 128', 0x0380, 1),
+    ('3 below 1', 0x0103, 0),
+    ('the highest byte alone', 0xFF00000000000000, 7),
+    ('the highest byte, 129 above codes', 0x8140201008040201, 7),
+    ('two bad bytes', 0x0000C00000050000, 2),
+    ('all bad', 0xFFFFFFFFFFFFFFFF, 0),
 ]
 
 # The units of sample A: label, outlet cell, count of cells.
@@ -203,6 +221,11 @@ def index_checks():
 def lookup_checks():
     for name, leading, labels, *answer in LOOKUPS:
         yield 'lookup: ' + name, lookup(leading, labels), tuple(answer)
+
+
+def word_checks():
+    for name, word, place in WORDS:
+        yield 'word: ' + name, first_bad(word), place
 
 
 def sample_checks():
@@ -307,8 +330,8 @@ def intake_withdrawal_checks():
 def main():
     files = list(file_checks())
     checks = files + [('there are stored cases', len(files) > 0, True)]
-    checks += [*flow_checks(), *sheet_checks(), *sample_checks(), *weight_checks(), *index_checks(), *lookup_checks()]
-    checks += [*intake_checks(), *intake_weight_checks(), *intake_withdrawal_checks()]
+    checks += [*flow_checks(), *sheet_checks(), *word_checks(), *sample_checks(), *weight_checks(), *index_checks()]
+    checks += [*lookup_checks(), *intake_checks(), *intake_weight_checks(), *intake_withdrawal_checks()]
     failures = [check for check in checks if check[1] != check[2]]
     for name, got, expected in failures:
         print(f'{name}: expected {expected!r:.200}, got {got!r:.200}')

@@ -33,6 +33,16 @@ def size_refusal(rows, cols, depth, dirs_len, weights_len):
 def is_weight(value):
     return 1 <= value <= MAX_WEIGHT
 
+def is_code(value):
+    return value == OUTSIDE or value in STEPS
+
+def first_bad(word):
+    """The word test: the place of the first of eight directions, the lowest byte first, that is no code; 8 for none."""
+    for place, byte in enumerate(word.to_bytes(8, 'little')):
+        if not is_code(byte):
+            return place
+    return 8
+
 def step_end(rows, cols, dirs, cell):
     """The inside cell on which the step of an inside cell ends; None for an outlet."""
     row_step, col_step = STEPS[dirs[cell]]
@@ -126,7 +136,7 @@ def label(rows, cols, depth, dirs, weights, areas_len, labels_len, work_len):
     if not all(is_weight(weight) for weight in weights[:rows]):
         return 17, 0, None, None
     for cell in range(n):
-        if dirs[cell] != OUTSIDE and dirs[cell] not in STEPS:
+        if not is_code(dirs[cell]):
             return 4, cell, None, None
     inside = [cell for cell in range(n) if dirs[cell] != OUTSIDE]
     if not inside:
@@ -264,7 +274,7 @@ def take_cell(state, values, dirs):
     row, col, code = (values[name] for name in CELL_NAMES)
     if row >= state.rows or col >= state.cols:
         return 9, state
-    if code != OUTSIDE and code not in STEPS:
+    if not is_code(code):
         return 4, state
     cell = row * state.cols + col
     if code != OUTSIDE and dirs[cell] != OUTSIDE:  # a line with the code 0 withdraws its cell

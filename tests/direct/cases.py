@@ -14,6 +14,7 @@ and length after.
 'O', the outlet question: the same.
 'S', that question about every two labels of a sheet: depth, the number of labels, the labels; the answers, a byte each,
 a row of them for each label as p, with one for each label as q.
+'W', the word test: the number of words, the words; the answers, a byte each.
 
 At the end a tally of the kinds of cases goes to standard error; if one of them did not occur, the status is 1. The same
 --seed makes the same cases."""
@@ -31,6 +32,7 @@ import lookups
 import outlets
 import reference
 import weights
+import words
 
 ANSWERS = {'No': 0, 'Yes': 1, 'Same': 2, 'Undecided': 3}
 PLACE = 256  # an answer is number + 256 x place
@@ -51,25 +53,27 @@ tally = {
     'pf_flow': dict.fromkeys([*ANSWERS] + REFUSED_FLOWS, 0),
     'pf_outlet_flow': dict.fromkeys(['No', 'Yes', 'Same'] + REFUSED_FLOWS, 0),
     'outlets': dict.fromkeys(outlets.KINDS, 0),
+    'pf_first_bad': dict.fromkeys(words.KINDS, 0),
+    'directions': dict.fromkeys(words.SHEET_KINDS, 0),
 }
 
 
-def words(width, values):
+def array_of(width, values):
     """Numbers of so many bytes as C lays them out."""
     return array({2: 'H', 4: 'I', 8: 'Q'}[width], values)
 
 
 def numbers(values):
-    return words(8, values).tobytes()
+    return array_of(8, values).tobytes()
 
 
 def rubbish(rng, widths, lengths):
-    return [words(width, rng.randbytes(width * length)) for width, length in zip(widths, lengths)]
+    return [array_of(width, rng.randbytes(width * length)) for width, length in zip(widths, lengths)]
 
 
 def written(places, values):
     """The places after a call that writes these values to the first of them."""
-    return words(places.itemsize, values) + places[len(values):]
+    return array_of(places.itemsize, values) + places[len(values):]
 
 
 # Sheets. A sheet is (rows, cols, depth); `lent` are its weights; `lengths` are those of areas, labels and work places.
@@ -85,7 +89,7 @@ def labelled_places(sheet, labelled, areas, labels, work):
 
 
 def write_case(out, call, sheet, dirs, lent, before, answer, after):
-    out.write(call + numbers([*sheet, len(dirs), len(lent), *map(len, before)]) + dirs + words(2, lent).tobytes())
+    out.write(call + numbers([*sheet, len(dirs), len(lent), *map(len, before)]) + dirs + array_of(2, lent).tobytes())
     out.writelines(places.tobytes() for places in before)
     out.write(numbers([answer]))
     out.writelines(places.tobytes() for places in after)
@@ -126,6 +130,8 @@ def sheet_cases(out, rng, rows, cols, depth, dirs, lent, lengths=None, index_len
     labelled = reference.label(rows, cols, depth, dirs, lent, *lengths)
     for kind in lent_weights.kinds(sheet, dirs, lent, labelled):
         tally['weights'][kind] += 1
+    for kind in words.sheet_kinds(sheet, dirs, labelled):
+        tally['directions'][kind] += 1
     label_case(out, rng, sheet, dirs, lent, lengths, labelled)
     inside, units = [], []
     if labelled[0] == 0:
@@ -298,12 +304,29 @@ def lookup_questions(out, rng, count, indexes, large_indexes):
             tally['pf_lookup'][kind] += 1
 
 
+# Directions a word at a time.
+
+def word_questions(out, rng, count):
+    for asked in words.questions(rng, count):
+        answers = [reference.first_bad(word) for word in asked]
+        out.write(b'W' + numbers([len(asked), *asked]) + bytes(answers))
+        for word, answer in zip(asked, answers):
+            for kind in words.kinds(word, answer):
+                tally['pf_first_bad'][kind] += 1
+
+
+def word_sheets(out, rng):
+    for rows, cols, dirs in words.sheets(rng):
+        sheet_cases(out, rng, rows, cols, rng.choice([1, 2, 18]), dirs, [1] * rows)
+
+
 def main():
     parser = argparse.ArgumentParser(description=__doc__, formatter_class=argparse.RawDescriptionHelpFormatter)
     parser.add_argument('--sheets', type=int, default=2000,
                         help='random sheets, each for pf_label and for pf_index; twice as many, at four depths each, for '
                              'pf_outlet_flow')
     parser.add_argument('--lookups', type=int, default=20000, help='random lookups')
+    parser.add_argument('--words', type=int, default=20000, help='random words')
     parser.add_argument('--seed', type=int, default=1)
     options = parser.parse_args()
     rng = random.Random(options.seed)
@@ -316,6 +339,8 @@ def main():
     flow_questions(out, rng, options.sheets)
     lookup_questions(out, rng, options.lookups, indexes, large_indexes)
     outlet_questions(out, rng, 2 * options.sheets)
+    word_questions(out, rng, options.words)
+    word_sheets(out, rng)
     out.flush()
     for call, kinds in tally.items():
         print('%s: %s' % (call, ', '.join('%s %d' % kind for kind in kinds.items())), file=sys.stderr)

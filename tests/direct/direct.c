@@ -1,7 +1,7 @@
-/* Calls pf_label, pf_index, pf_lookup, pf_flow and pf_outlet_flow on the cases that come on standard input, and
-   compares the answer and every place of every lent slice afterwards with what is expected; on the labels of a sheet
-   also the answers of pf_flow with those of pf_outlet_flow. The cases are made by tests/direct/cases.py, which also
-   says how they are laid out. */
+/* Calls pf_label, pf_index, pf_lookup, pf_flow, pf_outlet_flow and pf_first_bad on the cases that come on standard
+   input, and compares the answer and every place of every lent slice afterwards with what is expected; on the labels of
+   a sheet also the answers of pf_flow with those of pf_outlet_flow. The cases are made by tests/direct/cases.py, which
+   also says how they are laid out. */
 #include <inttypes.h>
 #include <stdint.h>
 #include <stdio.h>
@@ -16,6 +16,8 @@ struct lent {
     uint64_t length;
     void *places, *expected;
 };
+
+enum { TOLD = 5 }; /* differences of one case that are told */
 
 static uint64_t passed, failed;
 
@@ -116,7 +118,7 @@ static int flow_case(uint64_t which, int to_outlet) {
 /* Every two labels of a sheet: pf_outlet_flow must answer as expected, and pf_flow the same, or Undecided for Yes. The
    first few differences are told. */
 static int pairs_case(uint64_t which) {
-    enum { YES = 1, UNDECIDED = 3, TOLD = 5 };
+    enum { YES = 1, UNDECIDED = 3 };
     uint64_t depth = number(), count = number(), differences = 0;
     uint64_t *labels = slice(8 * count);
     uint8_t *expected = slice(count * count);
@@ -135,6 +137,24 @@ static int pairs_case(uint64_t which) {
     return differences == 0;
 }
 
+/* Words of eight directions. The first few differences are told. */
+static int words_case(uint64_t which) {
+    uint64_t count = number(), differences = 0;
+    uint64_t *words = slice(8 * count);
+    uint8_t *expected = slice(count);
+    for (uint64_t i = 0; i < count; i++) {
+        uint32_t answer = pf_first_bad(words[i]);
+        if (answer == expected[i]) continue;
+        if (differences++ < TOLD)
+            printf("case %" PRIu64 ", pf_first_bad: word 0x%016" PRIx64 ": answer %" PRIu32 ", expected %d\n", which,
+                   words[i], answer, expected[i]);
+    }
+    if (differences > TOLD)
+        printf("case %" PRIu64 ": %" PRIu64 " of %" PRIu64 " words differ\n", which, differences, count);
+    free(words), free(expected);
+    return differences == 0;
+}
+
 /* 1 if all is as expected, 0 if not, -1 if there is no such kind of case. */
 static int run_case(int kind, uint64_t which) {
     switch (kind) {
@@ -144,6 +164,7 @@ static int run_case(int kind, uint64_t which) {
     case 'F': return flow_case(which, 0);
     case 'O': return flow_case(which, 1);
     case 'S': return pairs_case(which);
+    case 'W': return words_case(which);
     default: return -1;
     }
 }

@@ -1,33 +1,60 @@
 // Check 4: the first byte in reading order that is none of the nine codes.
+use directions::word;
 use sheet::Found;
 ghost use mathlib.Core.Path.{_≡_};
-ghost use Prim.Native.Nat.{_+_, _*_};
-ghost use Rattle.sheet.specs.Sheet.{grid, first};
+ghost use Prim.Native.Nat.{_+_, _-_, _*_, _≤_};
+ghost use lib.ListN.{length};
+ghost use Rattle.sheet.specs.Sheet.{grid, first, firstFrom};
+ghost use Rattle.sheet.specs.Word.{numberAt};
 ghost use Rattle.sheet.specs.Refusal.{badCode};
-ghost use Rattle.directions.specs.Sizes.{OnSheet, Sized};
+ghost use Rattle.directions.specs.Sizes.{Sized};
 
-// Whether the byte of the cell in a row and a column is none of the nine codes.
-fn is_bad(dirs: &[u8], rows: usize, cols: usize, row: usize, col: usize) -> bool
-    requires { ⌜ Sized rows cols (now dirs) × OnSheet rows cols row col ⌝ }
-    ensures { λ r. ⌜ r ≡ badCode (grid rows cols (now (dirs .entry))) (row * cols + col) ⌝ }
+// Eight bytes from a place on as one word, lowest byte first. Written as shifts that are joined, it compiles to one
+// load.
+fn word_at(bytes: &[u8], at: usize) -> u64
+    requires { ⌜ at + 8 ≤ length (now bytes) ⌝ }
+    ensures { λ r. ⌜ r ≡ numberAt 8 (now (bytes .entry)) at ⌝ }
 {
-    let code = dirs[row * cols + col];
-    !directions::is_code(code)
+    (bytes[at] as u64)
+        | ((bytes[at + 1] as u64) << 8)
+        | ((bytes[at + 2] as u64) << 16)
+        | ((bytes[at + 3] as u64) << 24)
+        | ((bytes[at + 4] as u64) << 32)
+        | ((bytes[at + 5] as u64) << 40)
+        | ((bytes[at + 6] as u64) << 48)
+        | ((bytes[at + 7] as u64) << 56)
 }
 
-// The first cell in reading order whose byte is none of the nine codes.
+// The first bad byte from a cell on, a byte at a time.
+pub fn first_bad_from(dirs: &[u8], rows: usize, cols: usize, from: usize) -> Found
+    requires { ⌜ Sized rows cols (now dirs) × (from ≤ rows * cols) ⌝ }
+    ensures { λ r. ⌜ r ≡ firstFrom (badCode (grid rows cols (now (dirs .entry)))) from (rows * cols - from) ⌝ }
+{
+    let n = rows * cols;
+    let mut cell = from;
+    while cell < n {
+        if directions::is_code(dirs[cell]) {
+            cell += 1;
+        } else {
+            return Found::At(cell);
+        }
+    }
+    Found::Nothing
+}
+
+// The first bad byte of a sheet, a word at a time while eight bytes remain.
 pub fn first_bad_code(dirs: &[u8], rows: usize, cols: usize) -> Found
     requires { ⌜ Sized rows cols (now dirs) ⌝ }
     ensures { λ r. ⌜ r ≡ first (badCode (grid rows cols (now (dirs .entry)))) (rows * cols) ⌝ }
 {
-    let mut found = Found::Nothing;
-    'rows: for row in 0..rows {
-        for col in 0..cols {
-            if is_bad(dirs, rows, cols, row, col) {
-                found = Found::At(row * cols + col);
-                break 'rows;
-            }
+    let n = rows * cols;
+    let mut cell = 0;
+    while cell + 8 <= n {
+        let place = word::first_bad(word_at(dirs, cell));
+        if place < 8 {
+            return Found::At(cell + (place as usize));
         }
+        cell += 8;
     }
-    found
+    first_bad_from(dirs, rows, cols, cell)
 }

@@ -2,3 +2,4 @@ pub mod Sizes
 pub mod Signed
 pub mod Steps
 pub mod Neighbours
+pub mod LowestBits

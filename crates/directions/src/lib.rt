@@ -1,4 +1,6 @@
 // The fixed table of steps, where a cell's water goes, and the neighbours one step back.
+pub mod word;
+
 use sheet::End;
 use sheet::Next;
 use sheet::Step;

@@ -6,6 +6,7 @@ use sheet::Outcome;
 ghost use mathlib.Core.Path.{_≡_};
 ghost use Prim.Native.Nat.{_<_};
 ghost use Rattle.sheet.specs.Refusal.{outcomeValues, outcome, lentAfter};
+ghost use Rattle.sheet.specs.Word.{firstBadOf};
 ghost use Rattle.sheet.specs.Flow.{flow, answerNumber, outletFlow, outletAnswerNumber};
 ghost use Rattle.labelling.specs.Labelling.{sheet, lent};
 ghost use Rattle.lookup.specs.Lookup.{lookupAnswer, lookupValues};
@@ -136,4 +137,12 @@ pub extern "C" fn pf_outlet_flow(depth: usize, p: u64, q: u64) -> u32
     ensures { λ r. ⌜ r ≡ outletAnswerNumber (outletFlow depth p q) ⌝ }
 {
     flow::outlet_answer_number(flow::outlet_flow_of(depth, p, q))
+}
+
+// The word test: the place of the first of a word's eight directions that is none of the nine codes.
+#[no_mangle]
+pub extern "C" fn pf_first_bad(word: u64) -> u32
+    ensures { λ r. ⌜ r ≡ firstBadOf word ⌝ }
+{
+    directions::word::first_bad(word)
 }

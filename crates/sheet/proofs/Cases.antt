@@ -1,6 +1,6 @@
 -- The worked cases hold of the definitions, by computation.
 use mathlib.Core.Path.{_≡_, refl}
-use Rattle.sheet.specs.Cases.{cases, listing, refusals, orders, traps, outletFlows, weighted}
+use Rattle.sheet.specs.Cases.{cases, listing, refusals, orders, traps, outletFlows, weighted, words}
 use Rattle.sheet.specs.Cases.{allComputed, allStated}
 
 -- all cases marked * in document 01
@@ -31,3 +31,7 @@ all-outlet-flows = refl
 pub all-weighted : allComputed weighted ≡ allStated weighted
 unfolding weighted
 all-weighted = refl
+
+pub all-words : allComputed words ≡ allStated words
+unfolding words
+all-words = refl

@@ -2,9 +2,11 @@
 use mathlib.Core.Path.{_≡_, refl, sym, _∙_, ap}
 use mathlib.Core.Bool.{Bool, true, false, cond}
 use mathlib.Core.Logic.{⊎-elim}
-use Prim.Native.Nat.{ℕ, zero, suc, _+_, _<_, _≤_}
+use Prim.Native.Nat.{ℕ, zero, suc, _+_, _-_, _<_, _≤_}
 use native.Mathlib.Nat.{eq-or-lt-of-le}
+use native.Mathlib.Decide.{decLt}
 use native.Mathlib.Omega.{arith}
+use Rattle.sheet.specs.declared.Found.{Found}
 use Rattle.sheet.specs.declared.Found.the-variants.{At, Nothing}
 use Rattle.sheet.specs.Sheet.{first, firstFrom}
 
@@ -20,13 +22,13 @@ pub record FirstAt (test : ℕ → Bool) (n k : ℕ) : Type 0 where
 
 -- ---- from some cell on
 
-from-none : (test : ℕ → Bool) (m i : ℕ) → ((k : ℕ) → i ≤ k → k < i + m → test k ≡ false) → firstFrom test i m ≡ Nothing
+pub from-none : (test : ℕ → Bool) (m i : ℕ) → ((k : ℕ) → i ≤ k → k < i + m → test k ≡ false) → firstFrom test i m ≡ Nothing
 unfolding firstFrom
 from-none test zero i none = refl
 from-none test (suc m) i none =
     rw (none i (omega arith) (omega arith)) (from-none test m (suc i) (λ k h l. none k (omega arith) (omega arith)))
 
-from-at : (test : ℕ → Bool) (m i k : ℕ) → i ≤ k → k < i + m → test k ≡ true → ((j : ℕ) → i ≤ j → j < k → test j ≡ false)
+pub from-at : (test : ℕ → Bool) (m i k : ℕ) → i ≤ k → k < i + m → test k ≡ true → ((j : ℕ) → i ≤ j → j < k → test j ≡ false)
     → firstFrom test i m ≡ At k
 unfolding firstFrom
 from-at test zero i k h l t none = absurd (omega arith)
@@ -113,3 +115,22 @@ at-first test n k e =
 pub first-same : (test test′ : ℕ → Bool) (n : ℕ) → ((k : ℕ) → k < n → test k ≡ test′ k) → first test n ≡ first test′ n
 unfolding first
 first-same test test′ n same = from-same test test′ n 0 (λ k h l. same k (omega arith))
+
+-- with none below i, the first of n is the first from i on
+pub first-from : (test : ℕ → Bool) (n i : ℕ) → i ≤ n → NoneBelow test i → first test n ≡ firstFrom test i (n - i)
+first-from test n i l none = go (firstFrom test i (n - i)) refl
+  where
+    -- what holds of the cells before k from i on holds of all before k
+    before : (k : ℕ) → ((j : ℕ) → i ≤ j → j < k → test j ≡ false) → NoneBelow test k
+    before k later j h =
+        elim (decLt j i) [
+          | yes g ↦ none j g
+          | no g ↦ later j (omega arith) h
+        ]
+
+    go : (r : Found) → firstFrom test i (n - i) ≡ r → first test n ≡ firstFrom test i (n - i)
+    go Nothing e = first-none test n (before n (λ k g h. none-from test (n - i) i e k g (omega arith))) ∙ sym e
+    go (At k) e =
+        let f = at-from test (n - i) i k e in
+        first-at test n k
+        (record { below = omega (arith, f .most); passes = f .passes; none-before = before k (f .none-before) }) ∙ sym e

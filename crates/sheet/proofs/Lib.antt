@@ -5,3 +5,4 @@ pub mod Lists
 pub mod Digits
 pub mod Within
 pub mod Weights
+pub mod Words

@@ -6,6 +6,7 @@ use Prim.Native.Nat.{ℕ, _*_}
 use lib.Dec.{eqb}
 use lib.ListN.{replicate}
 use Rattle.sheet.specs.Sheet.{Grid, Sheet, grid}
+use Rattle.sheet.specs.Word.{bytesOf, numberAt, firstBadOf}
 use Rattle.sheet.specs.Area.{area}
 use Rattle.sheet.specs.River.{network, stem, mouth, Run, river}
 use Rattle.sheet.specs.Label.{labelOf, outlet, listFrom}
@@ -170,6 +171,19 @@ weighted =
     ∷ case (outcomeIs (weightedSheet confluence 1 (0 ∷ 0 ∷ 0 ∷ [])) (lentFor 2)) (3 ∷ 0 ∷ [])
     ∷ case (outcomeIs (weightedSheet (grid 1 1 (3 ∷ [])) 1 (0 ∷ [])) (lentFor 1)) (17 ∷ 0 ∷ [])
     ∷ case (refused .areas ++ refused .labels ++ refused .work) (replicate 6 7 ++ replicate 24 0)
+    ∷ []
+
+-- The word test: words of codes alone, among them all codes but 0; a bad byte at either end and in the middle; the first
+-- of several; a byte with two bits above bytes of 0 and of 128. Then the bytes of a number, and a number of bytes.
+unfoldable pub words : List Case
+unfolding firstBadOf bytesOf numberAt
+words =
+    case (firstBadOf 0 ∷ firstBadOf 0x8040_2010_0804_0201 ∷ firstBadOf 0x8080_8080_8080_8080 ∷ []) (8 ∷ 8 ∷ 8 ∷ [])
+    ∷ case (firstBadOf 3 ∷ firstBadOf 0x0000_0005_0000_0000 ∷ firstBadOf 0xff00_0000_0000_0000 ∷ []) (0 ∷ 4 ∷ 7 ∷ [])
+    ∷ case (firstBadOf 0xffff_ffff_ffff_ffff ∷ firstBadOf 0x0600_0900_0000_0c02 ∷ []) (0 ∷ 1 ∷ [])
+    ∷ case (firstBadOf 0x0300_0000 ∷ firstBadOf 0x8180_8080 ∷ firstBadOf 0xc001 ∷ []) (3 ∷ 3 ∷ 1 ∷ [])
+    ∷ case (bytesOf 4 0x0c03_0201) (1 ∷ 2 ∷ 3 ∷ 12 ∷ [])
+    ∷ case (numberAt 4 (9 ∷ 1 ∷ 2 ∷ 3 ∷ 12 ∷ 9 ∷ []) 1 ∷ []) (0x0c03_0201 ∷ [])
     ∷ []
 
 abbrev pub allComputed : List Case → List (List ℕ)

@@ -1,5 +1,6 @@
 pub mod Direction
 pub mod Sheet
+pub mod Word
 pub mod Water
 pub mod Area
 pub mod River

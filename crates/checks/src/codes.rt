@@ -42,19 +42,19 @@ pub fn first_bad_from(dirs: &[u8], rows: usize, cols: usize, from: usize) -> Fou
     Found::Nothing
 }
 
-// The first bad byte of a sheet, a word at a time while eight bytes remain.
+// The first bad byte of a sheet: a word at a time while eight bytes remain, then the rest, or a word with a bad byte, a
+// byte at a time.
 pub fn first_bad_code(dirs: &[u8], rows: usize, cols: usize) -> Found
     requires { ⌜ Sized rows cols (now dirs) ⌝ }
     ensures { λ r. ⌜ r ≡ first (badCode (grid rows cols (now (dirs .entry)))) (rows * cols) ⌝ }
 {
-    let n = rows * cols;
-    let mut cell = 0;
-    while cell + 8 <= n {
-        let place = word::first_bad(word_at(dirs, cell));
-        if place < 8 {
-            return Found::At(cell + (place as usize));
+    let words = rows * cols / 8;
+    let mut passed = 0;
+    while passed < words {
+        if word::first_bad(word_at(dirs, 8 * passed)) < 8 {
+            break;
         }
-        cell += 8;
+        passed += 1;
     }
-    first_bad_from(dirs, rows, cols, cell)
+    first_bad_from(dirs, rows, cols, 8 * passed)
 }

@@ -46,25 +46,51 @@ take-bytes a b c h l = omega arith
 clearedByte : ℕ → ℕ
 clearedByte x = bitAnd x (bitOr x 128 - 1)
 
--- of a byte: the code clears what the definition clears, and nothing is left exactly if the byte is a code
+-- ---- what holds of each byte, computed for all 256
+
+-- both tests pass, or neither does
+same : Bool → Bool → Bool
+same true b = b
+same false b = not b
+
+same-is : (a b : Bool) → same a b ≡ true → b ≡ a
+unfolding same
+same-is true b e = e
+same-is false b e = not-true b e
+
+every-byte : (test : ℕ → Bool) → first (λ x. not (test x)) 256 ≡ Nothing → (x : ℕ) → x < 256 → test x ≡ true
+every-byte test e x l = not-false (test x) (none-first (λ y. not (test y)) 256 e x l)
+
+-- the code clears what the definition clears, and nothing is left exactly if the byte is a code
 agrees : ℕ → Bool
-unfolding clearedByte clearLowest isCode
-agrees x = both (eqb (clearedByte x) (clearLowest x)) (cond (isCode x) (eqb (clearLowest x) 0) (not (eqb (clearLowest x) 0)))
+unfolding clearedByte clearLowest isCode same
+agrees x = both (eqb (clearedByte x) (clearLowest x)) (same (isCode x) (eqb (clearLowest x) 0))
 
 all-agree : first (λ x. not (agrees x)) 256 ≡ Nothing
 unfolding first agrees
 all-agree = refl
 
-agree : (x : ℕ) → x < 256 → agrees x ≡ true
-agree x l = not-false (agrees x) (none-first (λ y. not (agrees y)) 256 all-agree x l)
-
-cleared-byte : (x : ℕ) → x < 256 → clearedByte x ≡ clearLowest x
+agree : (x : ℕ) → x < 256 → (clearedByte x ≡ clearLowest x) × (eqb (clearLowest x) 0 ≡ isCode x)
 unfolding agrees
-cleared-byte x l = eqb-true _ _ (both-true (eqb (clearedByte x) (clearLowest x)) _ (agree x l) .0)
+agree x l =
+    let b = both-true (eqb (clearedByte x) (clearLowest x)) (same (isCode x) (eqb (clearLowest x) 0))
+    (every-byte agrees all-agree x l) in
+    (eqb-true _ _ (b .0), same-is (isCode x) (eqb (clearLowest x) 0) (b .1))
 
-code-byte : (x : ℕ) → x < 256 → cond (isCode x) (eqb (clearLowest x) 0) (not (eqb (clearLowest x) 0)) ≡ true
-unfolding agrees
-code-byte x l = both-true (eqb (clearedByte x) (clearLowest x)) _ (agree x l) .1
+-- of a word that is one byte, with 0 in the others, all are codes exactly if the byte is
+codeAlone : ℕ → Bool
+unfolding firstBadOf isCode same
+codeAlone x = same (isCode x) (eqb (firstBadOf x) 8)
+
+all-alone : first (λ x. not (codeAlone x)) 256 ≡ Nothing
+unfolding first codeAlone
+all-alone = refl
+
+pub code-alone : (x : ℕ) → x < 256 → eqb (firstBadOf x) 8 ≡ isCode x
+unfolding codeAlone
+code-alone x l = same-is (isCode x) (eqb (firstBadOf x) 8) (every-byte codeAlone all-alone x l)
+
+-- ---- all bytes of a word
 
 clear-lt : (x : ℕ) → x < 256 → clearLowest x < 256
 unfolding clearLowest
@@ -93,7 +119,7 @@ cleared-is (suc k) w l =
     cleared-parts w (repeated k 128) (repeated k 1) (can-take k (w / 256))
     ∙ ap₂ (λ (a b : ℕ). a * 256 + b)
     (cleared-is k (w / 256) (div-lt-iff-lt-mul (pow-pos 8) .1 (rw (pow-suc 256 k) at l)))
-    (cleared-byte (w % 256) (mod-lt w (pow-pos 8)))
+    (agree (w % 256) (mod-lt w (pow-pos 8)) .0)
 
 -- ---- the place of the lowest set bit
 
@@ -121,13 +147,13 @@ pub first-kept : (k w : ℕ) → trailingZeros (k * 8) (clearLowestIn k w) / 8 �
 unfolding clearLowestIn bytesOf firstBad trailingZeros
 first-kept zero w = refl
 first-kept (suc k) w =
-    rw (suc-mul k 8 ∙ add-comm (k * 8) 8)
-    (go (isCode (w % 256)) (code-byte (w % 256) (mod-lt w (pow-pos 8))) (first-kept k (w / 256)))
+    rw (suc-mul k 8 ∙ add-comm (k * 8) 8, sym (agree (w % 256) (mod-lt w (pow-pos 8)) .1))
+    (go (eqb (clearLowest (w % 256)) 0) refl (first-kept k (w / 256)))
   where
     left : ℕ
     left = clearLowestIn k (w / 256)
 
-    go : (t : Bool) → cond t (eqb (clearLowest (w % 256)) 0) (not (eqb (clearLowest (w % 256)) 0)) ≡ true
+    go : (t : Bool) → eqb (clearLowest (w % 256)) 0 ≡ t
         → trailingZeros (k * 8) left / 8 ≡ firstBad (bytesOf k (w / 256))
         → trailingZeros (8 + k * 8) (left * 256 + clearLowest (w % 256)) / 8
         ≡ cond t (suc (firstBad (bytesOf k (w / 256)))) 0
@@ -135,6 +161,6 @@ first-kept (suc k) w =
         let z : clearLowest (w % 256) ≡ 0 = eqb-true _ _ e in
         rw (z, add-zero (left * 256), trailing-none 8 (k * 8) left) (omega (arith, rest))
     go false e rest =
-        let some : clearLowest (w % 256) ≡ 0 → ⊥ = eqb-false _ _ (not-true _ e) in
+        let some : clearLowest (w % 256) ≡ 0 → ⊥ = eqb-false _ _ e in
         let small : clearLowest (w % 256) < 256 = clear-lt (w % 256) (mod-lt w (pow-pos 8)) in
         omega (arith, trailing-some 8 (k * 8) left (clearLowest (w % 256)) small (omega arith))

@@ -96,12 +96,11 @@ fn step_of(code: u8) -> Step
     }
 }
 
-// Whether a byte is one of the nine codes.
+// Whether a byte is one of the nine codes: it is tested as a word whose other bytes are 0, which is a code.
 pub fn is_code(byte: u8) -> bool
     ensures { λ r. ⌜ r ≡ isCode byte ⌝ }
 {
-    let s = step_of(byte);
-    s.code == byte
+    word::first_bad(byte as u64) == 8
 }
 
 // The row or column that a signed step leads to, of count many.

@@ -1,4 +1,4 @@
--- The bytes of a number that was made of bytes, and what the first bad one tells of the bytes.
+-- The bytes of a number that was made of bytes, and what the place of the first bad one tells of the bytes.
 use mathlib.Core.Path.{_≡_, refl, sym, _∙_, ap}
 use mathlib.Core.Bool.{Bool, true, false, cond}
 use mathlib.Core.List.{List, [], _∷_}
@@ -37,6 +37,7 @@ codes-before (b ∷ bytes) j l = go (isCode b) refl l (codes-before bytes) j ref
     go true e l rest (suc i) q = rest i (omega arith)
     go false e l rest i q = absurd (omega arith)
 
+-- and the first bad one is none
 pub bad-there : (bytes : List ℕ) → firstBad bytes < length bytes → isCode (getD bytes (firstBad bytes) 0) ≡ false
 unfolding firstBad
 bad-there [] l = absurd (omega arith)
@@ -48,18 +49,11 @@ bad-there (b ∷ bytes) l = go (isCode b) refl l (bad-there bytes)
     go true e l rest = rest (omega arith)
     go false e l rest = e
 
--- ---- the word of eight bytes from place i on
-
-module _ (bytes : List ℕ) (small : (m : ℕ) → getD bytes m 0 < 256) (i : ℕ) where
-  pub word-codes : (k : ℕ) → i ≤ k → k < i + 8 → k < i + firstBadOf (numberAt 8 bytes i) → isCode (getD bytes k 0) ≡ true
-  unfolding firstBadOf
-  word-codes k h l b =
-      let e : i + (k - i) ≡ k = omega arith in
-      ap (λ (m : ℕ). isCode (getD bytes m 0)) (sym e) ∙ ap isCode (sym (bytes-at 8 bytes i (k - i) small (omega arith)))
-      ∙ codes-before (bytesOf 8 (numberAt 8 bytes i)) (k - i) (omega arith)
-
-  pub word-bad : firstBadOf (numberAt 8 bytes i) < 8 → isCode (getD bytes (i + firstBadOf (numberAt 8 bytes i)) 0) ≡ false
-  unfolding firstBadOf
-  word-bad l =
-      let w = bytesOf 8 (numberAt 8 bytes i) in
-      ap isCode (sym (bytes-at 8 bytes i (firstBad w) small l)) ∙ bad-there w (rw (length-bytes 8 (numberAt 8 bytes i)) l)
+-- if the word of the eight bytes from place i on has no bad byte, they are codes
+pub word-codes : (bytes : List ℕ) (i : ℕ) → ((m : ℕ) → getD bytes m 0 < 256) → 8 ≤ firstBadOf (numberAt 8 bytes i)
+    → (k : ℕ) → i ≤ k → k < i + 8 → isCode (getD bytes k 0) ≡ true
+unfolding firstBadOf
+word-codes bytes i small none k h l =
+    let e : i + (k - i) ≡ k = omega arith in
+    ap (λ (m : ℕ). isCode (getD bytes m 0)) (sym e) ∙ ap isCode (sym (bytes-at 8 bytes i (k - i) small (omega arith)))
+    ∙ codes-before (bytesOf 8 (numberAt 8 bytes i)) (k - i) (omega arith)

@@ -95,7 +95,7 @@ static void index_against_label(void) {
     }
 }
 
-/* Check 4 alone, on sheets without a bad byte, so that all cells are looked at, and what part of the whole call it is. */
+/* Check 4 alone, on sheets without a bad byte, so that all cells are looked at; beside it the whole call. */
 static void words_against_bytes(void) {
     printf("\ntime of check 4 by bytes / time of check 4 by words, 256 x 256 (nanoseconds a cell of each; of the whole "
            "call, depth 18)\n");

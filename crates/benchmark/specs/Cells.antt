@@ -19,7 +19,8 @@ unfoldable pub cellOr : ℕ → Found → ℕ
 cellOr n (At c) = c
 cellOr n Nothing = n
 
--- the first cell whose byte is none of the nine codes, or how many cells there are; 0 without a byte for each cell
+-- the first cell whose byte is none of the nine codes, or how many cells there are; 0 where sizes are outside 1 to 256
+-- or bytes are missing
 unfoldable pub firstBadCell : ℕ → ℕ → List ℕ → ℕ
 unfolding hasCells cellOr first badCode
 firstBadCell rows cols dirs =

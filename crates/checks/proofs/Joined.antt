@@ -1,8 +1,8 @@
--- Bytes shifted to their places and joined are the number of these bytes.
+-- Bytes shifted to their places and joined are the number made of these bytes.
 use mathlib.Core.Path.{_≡_, refl, sym, _∙_, ap}
 use mathlib.Core.List.{List}
 use Prim.Native.Nat.{ℕ, zero, suc, _+_, _*_, _%_, _^_, _<_}
-use native.Mathlib.Nat.{suc-mul, add-mul, mul-assoc, add-assoc, add-suc, suc-add, mul-comm, mul-one, add-zero}
+use native.Mathlib.Nat.{suc-mul, add-mul, mul-assoc, add-assoc, add-suc, suc-add, add-zero}
 use native.Mathlib.Omega.{arith}
 use lib.Arith.{digits-lt}
 use lib.Bits.{bitOr, or-shifted-r}
@@ -10,7 +10,7 @@ use lib.ListN.{getD}
 use lib.Pow.{pow-add, shl-exact}
 use Rattle.sheet.specs.Word.{numberAt}
 
--- a byte more is eight digits more
+-- a byte more is eight bits more
 pow-byte : (k : ℕ) → 2 ^ (suc k * 8) ≡ 2 ^ (k * 8) * 256
 pow-byte k = ap (λ (n : ℕ). 2 ^ n) (suc-mul k 8) ∙ pow-add 2 (k * 8) 8
 

@@ -1,4 +1,4 @@
-// Check 4: the first byte in reading order that is none of the nine codes.
+// Check 4: the first bad byte in reading order, one that is none of the nine codes.
 use directions::word;
 use sheet::Found;
 ghost use mathlib.Core.Path.{_≡_};

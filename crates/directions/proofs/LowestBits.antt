@@ -3,10 +3,12 @@
 use mathlib.Core.Path.{_≡_, refl, sym, _∙_, ap, ap₂}
 use mathlib.Core.Bool.{Bool, true, false, cond, not}
 use Prim.Native.Nat.{ℕ, zero, suc, _+_, _-_, _*_, _/_, _%_, _^_, _<_, _≤_}
-use native.Mathlib.Nat.{mod-lt, div-lt-iff-lt-mul, suc-mul, suc-add, zero-add, mul-one, pow-suc, add-comm, add-zero, lt-of-le-of-lt}
+use native.Mathlib.Nat.{mod-lt, div-lt-iff-lt-mul, suc-mul, suc-add, zero-add, mul-one, pow-suc, add-comm, add-zero}
+use native.Mathlib.Nat.{lt-of-le-of-lt}
 use native.Mathlib.Omega.{arith}
 use lib.Arith.{lt-one}
-use lib.Bits.{bitAnd, bitOr, and-le-l, or-add-and, or-lt, or-block, and-block, block-half, block-odd, shifted-half, shifted-even}
+use lib.Bits.{bitAnd, bitOr, and-le-l, or-add-and, or-lt, or-block, and-block}
+use lib.Bits.{block-half, block-odd, shifted-half, shifted-even}
 use lib.Count.{trailingZeros, under}
 use lib.Dec.{eqb, lit<}
 use lib.Pow.{pow-pos, split}
@@ -22,7 +24,7 @@ use Rattle.directions.specs.LowestBits.{clearLowest, clearLowestIn}
 
 -- ---- what the code computes
 
--- the number of k bytes, each of them b
+-- the number made of k bytes that are each b
 unfoldable pub repeated : ℕ → ℕ → ℕ
 repeated zero b = 0
 repeated (suc k) b = repeated k b * 256 + b
@@ -35,7 +37,7 @@ ones-le (suc k) = omega (arith, ones-le k)
 or-least : (a b : ℕ) → b ≤ bitOr a b
 or-least a b = omega (arith, or-add-and a b, and-le-l a b)
 
--- 1 can be taken from each byte
+-- the subtraction does not go below 0
 pub can-take : (k w : ℕ) → repeated k 1 ≤ bitOr w (repeated k 128)
 can-take k w = omega (arith, ones-le k, or-least w (repeated k 128))
 
@@ -123,14 +125,15 @@ cleared-is (suc k) w l =
 
 -- ---- the place of the lowest set bit
 
--- below j digits of 0
+-- j zero bits below a number are j trailing zeros more
 trailing-none : (j k q : ℕ) → trailingZeros (j + k) (q * 2 ^ j) ≡ j + trailingZeros k q
 unfolding trailingZeros
 trailing-none zero k q = rw (zero-add k, mul-one q) (sym (zero-add _))
 trailing-none (suc j) k q =
-    rw (suc-add j k, shifted-even q j, shifted-half q j) (ap suc (trailing-none j k q) ∙ sym (suc-add j (trailingZeros k q)))
+    rw (suc-add j k, shifted-even q j, shifted-half q j)
+    (ap suc (trailing-none j k q) ∙ sym (suc-add j (trailingZeros k q)))
 
--- within j digits that are not all 0
+-- within j bits that are not all 0
 trailing-some : (j k q r : ℕ) → r < 2 ^ j → 0 < r → trailingZeros (j + k) (q * 2 ^ j + r) < j
 unfolding trailingZeros
 trailing-some zero k q r l some = absurd (omega arith)

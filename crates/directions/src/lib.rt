@@ -1,4 +1,5 @@
-// The fixed table of steps, where a cell's water goes, and the neighbours one step back.
+// The fixed table of steps, where a cell's water goes, and the neighbours one step back; in `word` the test of eight
+// directions at once.
 pub mod word;
 
 use sheet::End;

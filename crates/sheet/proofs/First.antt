@@ -22,14 +22,15 @@ pub record FirstAt (test : ℕ → Bool) (n k : ℕ) : Type 0 where
 
 -- ---- from some cell on
 
-pub from-none : (test : ℕ → Bool) (m i : ℕ) → ((k : ℕ) → i ≤ k → k < i + m → test k ≡ false) → firstFrom test i m ≡ Nothing
+pub from-none : (test : ℕ → Bool) (m i : ℕ) → ((k : ℕ) → i ≤ k → k < i + m → test k ≡ false)
+    → firstFrom test i m ≡ Nothing
 unfolding firstFrom
 from-none test zero i none = refl
 from-none test (suc m) i none =
     rw (none i (omega arith) (omega arith)) (from-none test m (suc i) (λ k h l. none k (omega arith) (omega arith)))
 
-pub from-at : (test : ℕ → Bool) (m i k : ℕ) → i ≤ k → k < i + m → test k ≡ true → ((j : ℕ) → i ≤ j → j < k → test j ≡ false)
-    → firstFrom test i m ≡ At k
+pub from-at : (test : ℕ → Bool) (m i k : ℕ) → i ≤ k → k < i + m → test k ≡ true
+    → ((j : ℕ) → i ≤ j → j < k → test j ≡ false) → firstFrom test i m ≡ At k
 unfolding firstFrom
 from-at test zero i k h l t none = absurd (omega arith)
 from-at test (suc m) i k h l t none =

@@ -173,8 +173,9 @@ weighted =
     ∷ case (refused .areas ++ refused .labels ++ refused .work) (replicate 6 7 ++ replicate 24 0)
     ∷ []
 
--- The word test: words of codes alone, among them all codes but 0; a bad byte at either end and in the middle; the first
--- of several; a byte with two bits above bytes of 0 and of 128. Then the bytes of a number, and a number of bytes.
+-- The word test: words of codes alone, with all nine among them; a bad byte at either end and in the middle; the first
+-- of several; a byte with two bits above bytes of 0, of 128 and of 1. Then the bytes of a number, and a number made of
+-- bytes.
 unfoldable pub words : List Case
 unfolding firstBadOf bytesOf numberAt
 words =

@@ -10,12 +10,13 @@ unfoldable pub bytesOf : ℕ → ℕ → List ℕ
 bytesOf zero x = []
 bytesOf (suc k) x = x % 256 ∷ bytesOf k (x / 256)
 
--- the number of the k bytes of a list from place i on, lowest first
+-- the number made of the k bytes of a list from place i on, lowest first
 unfoldable pub numberAt : ℕ → List ℕ → ℕ → ℕ
 numberAt zero bytes i = 0
 numberAt (suc k) bytes i = numberAt k bytes (suc i) * 256 + getD bytes i 0
 
--- the place of the first byte that is none of the nine codes, counted from 0; how many bytes there are, if it is none
+-- the place of the first byte that is none of the nine codes, counted from 0, or how many bytes there are, if all are
+-- codes
 unfoldable pub firstBad : List ℕ → ℕ
 unfolding isCode
 firstBad [] = 0

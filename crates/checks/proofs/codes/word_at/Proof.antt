@@ -46,7 +46,9 @@ shared-slice-read-result-5 : tie.Need-shared-slice-read-result-5
 shared-slice-read-result-5 c = search needs
 
 cast-result-5 : tie.Need-cast-result-5
-cast-result-5 c = omega (arith, c .shared-slice-known5 .given (c .before .before .before .before .before .args .at + 4))
+cast-result-5 c =
+    let at = c .before .before .before .before .before .args .at in
+    omega (arith, c .shared-slice-known5 .given (at + 4))
 
 add-result-5 : tie.Need-add-result-5
 add-result-5 c = search needs
@@ -55,7 +57,9 @@ shared-slice-read-result-6 : tie.Need-shared-slice-read-result-6
 shared-slice-read-result-6 c = search needs
 
 cast-result-6 : tie.Need-cast-result-6
-cast-result-6 c = omega (arith, c .shared-slice-known6 .given (c .before .before .before .before .before .before .args .at + 5))
+cast-result-6 c =
+    let at = c .before .before .before .before .before .before .args .at in
+    omega (arith, c .shared-slice-known6 .given (at + 5))
 
 add-result-6 : tie.Need-add-result-6
 add-result-6 c = search needs
@@ -64,7 +68,9 @@ shared-slice-read-result-7 : tie.Need-shared-slice-read-result-7
 shared-slice-read-result-7 c = search needs
 
 cast-result-7 : tie.Need-cast-result-7
-cast-result-7 c = omega (arith, c .shared-slice-known7 .given (c .before .before .before .before .before .before .before .args .at + 6))
+cast-result-7 c =
+    let at = c .before .before .before .before .before .before .before .args .at in
+    omega (arith, c .shared-slice-known7 .given (at + 6))
 
 add-result-7 : tie.Need-add-result-7
 add-result-7 c = search needs
@@ -73,11 +79,15 @@ shared-slice-read-result-8 : tie.Need-shared-slice-read-result-8
 shared-slice-read-result-8 c = search needs
 
 cast-result-8 : tie.Need-cast-result-8
-cast-result-8 c = omega (arith, c .shared-slice-known8 .given (c .before .before .before .before .before .before .before .before .args .at + 7))
+cast-result-8 c =
+    let at = c .before .before .before .before .before .before .before .before .args .at in
+    omega (arith, c .shared-slice-known8 .given (at + 7))
 
 returns : tie.Need-returns
 unfolding joined
-returns c = let a = c .before .before .before .before .before .before .before .before .args in joined-is (a .bytes .now) (λ m. omega (arith, c .shared-slice-known8 .given m)) (a .at) 7 (omega arith)
+returns c =
+    let a = c .before .before .before .before .before .before .before .before .args in
+    joined-is (a .bytes .now) (λ m. omega (arith, c .shared-slice-known8 .given m)) (a .at) 7 (omega arith)
 
 pub word-at-spec : {M : Type 1} → statement M
 word-at-spec =

@@ -25,7 +25,7 @@ module _ (bytes : List ℕ) (small : (m : ℕ) → getD bytes m 0 < 256) where
   number-lt zero i = omega arith
   number-lt (suc k) i = rw (pow-byte k) (digits-lt (number-lt k (suc i)) (small i))
 
-  -- the highest byte, and the number of those below it
+  -- the highest byte, and the number made of those below it
   number-top : (k i : ℕ) → numberAt (suc k) bytes i ≡ getD bytes (i + k) 0 * 2 ^ (k * 8) + numberAt k bytes i
   unfolding numberAt
   number-top zero i = rw (add-zero i) (omega arith)

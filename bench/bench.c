@@ -1,5 +1,6 @@
 /* Times the proved labelling call against the plain C baseline, the index call against the labelling call, and check 4
-   by words against check 4 by bytes, on the same sheets in one run, and prints the ratios. */
+   by words against check 4 by bytes, on the same sheets in one run, then the call for many pairs of labels, and prints
+   the ratios. */
 #include <stdint.h>
 #include <stdio.h>
 #include <stdlib.h>
@@ -7,6 +8,7 @@
 #include "baseline.h"
 #include "pfafstetter.h"
 #include "sheets.h"
+#include "time_pairs.h"
 
 static uint32_t baseline_areas[CELLS], index_areas[CELLS];
 static uint64_t baseline_labels[CELLS], index_labels[CELLS];
@@ -135,5 +137,6 @@ int main(void) {
     index_against_label();
     words_against_bytes();
     time_a_cell();
+    pairs_against_plain();
     return 0;
 }

@@ -1,10 +1,11 @@
-/* Times the calls of an older library beside those of this one, on the same sheets in one run, and prints the
-   ratios. */
+/* Times the calls of an older library beside those of this one, on the same sheets and pairs of labels in one run, and
+   prints the ratios. */
 #include <stdint.h>
 #include <stdio.h>
 #include <stdlib.h>
 #include <string.h>
 #include "old.h"
+#include "pairs.h"
 #include "pfafstetter.h"
 #include "sheets.h"
 
@@ -45,7 +46,7 @@ static double ratio_of(call_of new_call, call_of old_call, const char *name, con
     return p / q;
 }
 
-int main(void) {
+static void sheets_old_and_new(void) {
     static const int sides[] = {64, 256}, depths[] = {1, 3, 18};
     double worst = 0, ratio;
     weights_of_1();
@@ -61,5 +62,27 @@ int main(void) {
             if (ratio > worst) worst = ratio;
         }
     printf("largest new / old %.2f\n", worst);
+}
+
+static void flow_old_and_new(void) {
+    static const pairs_call calls[] = {flow_one_by_one, old_flow_one_by_one};
+    double times[2];
+    printf("\nnanoseconds of a call of pf_flow\n");
+    for (int k = 0; k < KINDS; k++) {
+        int depth = kinds[k].depth;
+        kinds[k].make(depth);
+        if (!same_answers(flow_one_by_one, old_flow_one_by_one, depth)) {
+            printf("pf_flow, %s, depth %d: the answers differ\n", kinds[k].name, depth);
+            exit(1);
+        }
+        least_pair_times(calls, 2, depth, times);
+        printf("%-12s  depth %2d  old %6.1f  new %6.1f  new / old %.2f\n", kinds[k].name, depth, times[1], times[0],
+               times[0] / times[1]);
+    }
+}
+
+int main(void) {
+    sheets_old_and_new();
+    flow_old_and_new();
     return 0;
 }

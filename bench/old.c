@@ -2,8 +2,10 @@
    and with OLD_WEIGHTS if its calls take weights. */
 #define pf_label old_pf_label
 #define pf_index old_pf_index
+#define pf_flow old_pf_flow
 #include "pfafstetter.h"
 #include "old.h"
+#include "pairs.h"
 #include "sheets.h"
 
 #ifdef OLD_WEIGHTS
@@ -21,4 +23,9 @@ uint64_t old_index(int side, int depth) {
     size_t n = (size_t)side * side;
     return pf_index(side, side, depth, dirs, n, LENT_WEIGHTS areas, n, labels, n, work, 8 * n, units, n, outlets, n,
                     counts, n);
+}
+
+uint64_t old_flow_one_by_one(int depth) {
+    for (int k = 0; k < PAIRS; k++) answers[k] = (uint8_t)pf_flow(depth, p_labels[k], q_labels[k]);
+    return 256 * (uint64_t)PAIRS;
 }

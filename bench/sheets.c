@@ -1,6 +1,7 @@
 /* The sheets of the benchmark, and how calls on them are timed. */
 #include <string.h>
-#include <time.h>
+#include "chance.h"
+#include "clock.h"
 #include "sheets.h"
 
 enum { EAST = 1, WEST = 16, NORTHWEST = 32, NORTH = 64, MAX_WEIGHT = 1000 };
@@ -9,13 +10,6 @@ uint8_t dirs[CELLS];
 uint16_t weights[SIDE];
 uint32_t areas[CELLS], work[8 * CELLS], outlets[CELLS], counts[CELLS];
 uint64_t labels[CELLS], units[CELLS];
-
-static uint64_t seed = 88172645463325252ull;
-
-static uint32_t below(uint32_t n) {
-    seed ^= seed << 13, seed ^= seed >> 7, seed ^= seed << 17;
-    return (uint32_t)(seed % n);
-}
 
 /* One river through all cells, row by row, to and fro; its outlet is cell 0. */
 static void snake(int side) {
@@ -72,12 +66,6 @@ void weights_of_1(void) {
 
 void weights_by_chance(void) {
     for (int row = 0; row < SIDE; row++) weights[row] = (uint16_t)(1 + below(MAX_WEIGHT));
-}
-
-static double now(void) {
-    struct timespec t;
-    clock_gettime(CLOCK_MONOTONIC, &t);
-    return (double)t.tv_sec + 1e-9 * (double)t.tv_nsec;
 }
 
 /* The time of one call, in seconds, over several: more on a small sheet. */

@@ -45,6 +45,15 @@ uint32_t pf_lookup(uint64_t leading, const uint64_t *labels, size_t labels_len, 
 /* Does water from the label q pass the label p, at a depth? 0 No, 1 Yes, 2 Same, 3 Undecided, 128 + refusal number. */
 uint32_t pf_flow(size_t depth, uint64_t p, uint64_t q);
 
+/* The flow question for many pairs: the labels p[i] and q[i], for each i below the smaller of p_len and q_len. The byte
+   answers[i] becomes the number that pf_flow gives for that pair; a refused pair stops no other. Accepted, the lowest
+   byte of the returned number is 0 and the rest (the number / 256) is the count of pairs; so many bytes are written,
+   the others keep their values. Otherwise it is the refusal's number, and nothing is written: 2 for the depth, then 3
+   if answers_len is smaller than the count of pairs. (A count of 2^56 or more would be told without its highest bits;
+   no memory holds so many labels.) */
+uint64_t pf_flow_pairs(size_t depth, const uint64_t *p, size_t p_len, const uint64_t *q, size_t q_len, uint8_t *answers,
+                       size_t answers_len);
+
 /* Does water from the label q pass the outlet of the unit that the label p names? That outlet is the cell to which the
    cells labelled p drain, as pf_index lists it. 0 No, 1 Yes, 2 Same (the water passes the outlet then too), 128 +
    refusal number; never 3. The refusals are those of pf_flow. */

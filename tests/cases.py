@@ -14,8 +14,8 @@ import pathlib
 import sys
 
 sys.dont_write_bytecode = True
-from reference import (Intake, first_bad, flow, index, index_intake, label, label_intake, lookup, outlet_flow, report,
-                       take_end, take_line)
+from reference import (Intake, first_bad, flow, flow_pairs, index, index_intake, label, label_intake, lookup,
+                       outlet_flow, report, take_end, take_line)
 
 CASES = pathlib.Path(__file__).resolve().parent / 'cases'
 INDEX_EXAMPLE = CASES.parent.parent / 'examples' / 'index.out'
@@ -77,6 +77,30 @@ FLOW = [
     ('depth 19: 2 before Same', 19, 91, 91, ('Refused', 2)),
     ('depth 19: 2 before 12', 19, 9, 91, ('Refused', 2)),
     ('depth 19, 19 digits', 19, 1111111111111111111, 2, ('Refused', 2)),
+]
+
+# (name, depth, P's labels, Q's labels, places for answers; number, answers): the flow question about many pairs
+PAIRS = [
+    ('several gauges, one spill', 3, [91, 93, 92, 21, 131, 9, 105], [92] * 7, 7, 0, [1, 0, 2, 0, 3, 140, 139]),
+    ('one gauge, several spills', 3, [91] * 7, [92, 93, 91, 21, 131, 9, 105], 7, 0, [1, 1, 2, 0, 0, 140, 139]),
+    ('the same labels at depth 2', 2, [91, 93, 92, 21, 131, 9, 105], [92] * 7, 7, 0, [3, 0, 2, 0, 139, 140, 139]),
+    ('a refused pair stops no other', 2, [10, 91, 9, 1], [1, 92, 91, 10], 4, 0, [139, 3, 140, 139]),
+    ('refused pairs alone', 1, [0, 11], [5, 11], 2, 0, [140, 139]),
+    ('one pair, places past it', 1, [1], [3], 9, 0, [3]),
+    ('more of P, no labels', 2, [1, 10, 105], [21], 1, 0, [1]),
+    ('more of Q, no labels', 2, [21], [1, 2 ** 64 - 1], 1, 0, [0]),
+    ('no labels of P', 18, [], [1, 2], 0, 0, []),
+    ('no labels of Q', 18, [1, 2], [], 5, 0, []),
+    ('nothing lent', 18, [], [], 0, 0, []),
+    ('the largest number twice', 18, [2 ** 64 - 1, 10 ** 18 - 1], [2 ** 64 - 1, 10 ** 18 - 1], 2, 0, [139, 2]),
+    ('no place', 3, [91], [92], 0, 3, None),
+    ('one place too few', 3, [91, 91, 91], [92, 92, 92], 2, 3, None),
+    ('one place too few, more of P', 3, [91, 91, 91], [92, 92], 1, 3, None),
+    ('one place too few, all pairs refused', 3, [10, 10], [10, 10], 1, 3, None),
+    ('depth 0', 0, [91], [92], 1, 2, None),
+    ('depth 19', 19, [91], [92], 1, 2, None),
+    ('depth 19 and nothing lent', 19, [], [], 0, 2, None),
+    ('2 before 3', 19, [91, 91], [92, 92], 1, 2, None),
 ]
 
 # (name, rows, cols, depth, directions, weights, areas, labels, work places; number, place)
@@ -201,6 +225,11 @@ def flow_checks():
     for name, depth, p, q, answer in FLOW:
         yield 'flow: ' + name, flow(depth, p, q), answer
         yield 'outlet flow: ' + name, outlet_flow(depth, p, q), 'Yes' if answer == 'Undecided' else answer
+
+
+def pair_checks():
+    for name, *arguments, number, answers in PAIRS:
+        yield 'pairs: ' + name, flow_pairs(*arguments), (number, answers)
 
 
 def sheet_checks():
@@ -330,8 +359,9 @@ def intake_withdrawal_checks():
 def main():
     files = list(file_checks())
     checks = files + [('there are stored cases', len(files) > 0, True)]
-    checks += [*flow_checks(), *sheet_checks(), *word_checks(), *sample_checks(), *weight_checks(), *index_checks()]
-    checks += [*lookup_checks(), *intake_checks(), *intake_weight_checks(), *intake_withdrawal_checks()]
+    checks += [*flow_checks(), *pair_checks(), *sheet_checks(), *word_checks(), *sample_checks(), *weight_checks()]
+    checks += [*index_checks(), *lookup_checks(), *intake_checks(), *intake_weight_checks()]
+    checks += [*intake_withdrawal_checks()]
     failures = [check for check in checks if check[1] != check[2]]
     for name, got, expected in failures:
         print(f'{name}: expected {expected!r:.200}, got {got!r:.200}')

@@ -199,6 +199,8 @@ def lookup(leading, labels):
 
 # The flow question and the outlet question.
 
+ANSWERS = {'No': 0, 'Yes': 1, 'Same': 2, 'Undecided': 3}
+
 def outlet_flow(depth, p, q):
     """Does water from label q pass the outlet of label p's unit: 'Same', 'Yes', 'No' or ('Refused', number)."""
     if not 1 <= depth <= MAX_DEPTH:
@@ -221,6 +223,19 @@ def flow(depth, p, q):
     the depth."""
     answer = outlet_flow(depth, p, q)
     return 'Undecided' if answer == 'Yes' and len(digits_of(p)) == depth else answer
+
+def answer_number(answer):
+    """The number of an answer; that of a refusal is 128 + its own."""
+    return 128 + answer[1] if isinstance(answer, tuple) else ANSWERS[answer]
+
+def flow_pairs(depth, ps, qs, room):
+    """The flow question about each label of P and the label of Q at the same place, with room for so many answers:
+    (number, answers). Refused, answers are None."""
+    if not 1 <= depth <= MAX_DEPTH:
+        return 2, None
+    if room < min(len(ps), len(qs)):
+        return 3, None
+    return 0, [answer_number(flow(depth, p, q)) for p, q in zip(ps, qs)]
 
 # The intake.
 

@@ -15,6 +15,9 @@ and length after.
 'S', that question about every two labels of a sheet: depth, the number of labels, the labels; the answers, a byte each,
 a row of them for each label as p, with one for each label as q.
 'W', the word test: the number of words, the words; the answers, a byte each.
+'M', the flow question about many pairs: depth and the lengths of P's labels, Q's labels and answers; these slices
+before the call; the answer (256 x the number of pairs, or refusal number); the answers, a byte each, after it. The
+labels must stay as they are.
 
 At the end a tally of the kinds of cases goes to standard error; if one of them did not occur, the status is 1. The same
 --seed makes the same cases."""
@@ -30,11 +33,11 @@ import fuzz
 import lent_weights
 import lookups
 import outlets
+import pairs
 import reference
 import weights
 import words
 
-ANSWERS = {'No': 0, 'Yes': 1, 'Same': 2, 'Undecided': 3}
 PLACE = 256  # an answer is number + 256 x place
 LABEL_WIDTHS = [4, 8, 4]  # bytes of a place of areas, labels, work places
 INDEX_WIDTHS = [8, 4, 4]  # of labels, outlets, counts of units
@@ -50,11 +53,12 @@ tally = {
     'pf_index': dict.fromkeys(INDEX_KINDS, 0),
     'weights': dict.fromkeys(lent_weights.KINDS, 0),
     'pf_lookup': dict.fromkeys(lookups.KINDS, 0),
-    'pf_flow': dict.fromkeys([*ANSWERS] + REFUSED_FLOWS, 0),
+    'pf_flow': dict.fromkeys([*reference.ANSWERS] + REFUSED_FLOWS, 0),
     'pf_outlet_flow': dict.fromkeys(['No', 'Yes', 'Same'] + REFUSED_FLOWS, 0),
     'outlets': dict.fromkeys(outlets.KINDS, 0),
     'pf_first_bad': dict.fromkeys(words.KINDS, 0),
     'directions': dict.fromkeys(words.SHEET_KINDS, 0),
+    'pf_flow_pairs': dict.fromkeys(pairs.KINDS, 0),
 }
 
 
@@ -257,9 +261,8 @@ def flow_cases(out, depth, p, q):
     """The flow question and the outlet question."""
     for case, call, question in [(b'F', 'pf_flow', reference.flow), (b'O', 'pf_outlet_flow', reference.outlet_flow)]:
         answer = question(depth, p, q)
-        refused = isinstance(answer, tuple)
-        out.write(case + numbers([depth, p, q, 128 + answer[1] if refused else ANSWERS[answer]]))
-        tally[call][REFUSED % answer[1] if refused else answer] += 1
+        out.write(case + numbers([depth, p, q, reference.answer_number(answer)]))
+        tally[call][REFUSED % answer[1] if isinstance(answer, tuple) else answer] += 1
 
 
 # Depth, p and q of questions that are always asked.
@@ -304,6 +307,19 @@ def lookup_questions(out, rng, count, indexes, large_indexes):
             tally['pf_lookup'][kind] += 1
 
 
+def pair_questions(out, rng, count, indexes):
+    for call in pairs.questions(rng, count, indexes):
+        number, answers = reference.flow_pairs(*call)
+        before = rng.randbytes(call.room)
+        answer, after = number, before
+        if number == 0:
+            answer, after = PLACE * len(answers), bytes(answers) + before[len(answers):]
+        out.write(b'M' + numbers([call.depth, len(call.p), len(call.q), call.room, *call.p, *call.q]) + before)
+        out.write(numbers([answer]) + after)
+        for kind, times in pairs.counts(call, number, answers).items():
+            tally['pf_flow_pairs'][kind] += times
+
+
 # Directions a word at a time.
 
 def word_questions(out, rng, count):
@@ -327,6 +343,7 @@ def main():
                              'pf_outlet_flow')
     parser.add_argument('--lookups', type=int, default=20000, help='random lookups')
     parser.add_argument('--words', type=int, default=20000, help='random words')
+    parser.add_argument('--pairs', type=int, default=200000, help='random pairs of labels, of calls with many pairs')
     parser.add_argument('--seed', type=int, default=1)
     options = parser.parse_args()
     rng = random.Random(options.seed)
@@ -341,6 +358,7 @@ def main():
     outlet_questions(out, rng, 2 * options.sheets)
     word_questions(out, rng, options.words)
     word_sheets(out, rng)
+    pair_questions(out, rng, options.pairs, indexes)
     out.flush()
     for call, kinds in tally.items():
         print('%s: %s' % (call, ', '.join('%s %d' % kind for kind in kinds.items())), file=sys.stderr)

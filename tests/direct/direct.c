@@ -1,7 +1,7 @@
-/* Calls pf_label, pf_index, pf_lookup, pf_flow, pf_outlet_flow and pf_first_bad on the cases that come on standard
-   input, and compares the answer and every place of every lent slice afterwards with what is expected; on the labels of
-   a sheet also the answers of pf_flow with those of pf_outlet_flow. The cases are made by tests/direct/cases.py, which
-   also says how they are laid out. */
+/* Calls pf_label, pf_index, pf_lookup, pf_flow, pf_flow_pairs, pf_outlet_flow and pf_first_bad on the cases that come
+   on standard input, and compares the answer and every place of every lent slice afterwards with what is expected; on
+   the labels of a sheet also the answers of pf_flow with those of pf_outlet_flow. The cases are made by
+   tests/direct/cases.py, which also says how they are laid out. */
 #include <inttypes.h>
 #include <stdint.h>
 #include <stdio.h>
@@ -117,7 +117,7 @@ static int flow_case(uint64_t which, int to_outlet) {
 
 /* Every two labels of a sheet: pf_outlet_flow must answer as expected, and pf_flow the same, or Undecided for Yes. The
    first few differences are told. */
-static int pairs_case(uint64_t which) {
+static int labels_case(uint64_t which) {
     enum { YES = 1, UNDECIDED = 3 };
     uint64_t depth = number(), count = number(), differences = 0;
     uint64_t *labels = slice(8 * count);
@@ -155,6 +155,48 @@ static int words_case(uint64_t which) {
     return differences == 0;
 }
 
+/* Tells the first few answers that differ, with the labels at their place. */
+static void tell_answers(uint64_t which, uint64_t depth, const struct lent *p, const struct lent *q,
+                         const struct lent *answers) {
+    const uint64_t *ps = p->expected, *qs = q->expected;
+    const uint8_t *given = answers->places, *expected = answers->expected;
+    uint64_t differences = 0;
+    for (uint64_t i = 0; i < answers->length; i++) {
+        if (given[i] == expected[i] || differences++ >= TOLD) continue;
+        printf("case %" PRIu64 ", pf_flow_pairs: depth %" PRIu64 ", place %" PRIu64 ", ", which, depth, i);
+        if (i < p->length && i < q->length)
+            printf("from %" PRIu64 " past %" PRIu64 ": ", qs[i], ps[i]);
+        else
+            printf("past the last pair: ");
+        printf("%d, expected %d\n", given[i], expected[i]);
+    }
+    if (differences > TOLD)
+        printf("case %" PRIu64 ": %" PRIu64 " of %" PRIu64 " places differ\n", which, differences, answers->length);
+}
+
+/* A call of pf_flow_pairs. The labels must stay as they are. */
+static int pairs_case(uint64_t which) {
+    enum { P, Q, ANSWERS, SLICES };
+    struct lent lent[] = {{.name = "labels of P", .width = 8}, {.name = "labels of Q", .width = 8},
+                          {.name = "answers", .width = 1}};
+    uint64_t depth = number(), expected, answer;
+    for (int i = 0; i < SLICES; i++) lent[i].length = number();
+    for (int i = 0; i < SLICES; i++) lent[i].places = slice(lent[i].width * lent[i].length);
+    expected = number();
+    for (int i = P; i < ANSWERS; i++) lent[i].expected = copy(lent[i].places, lent[i].width * lent[i].length);
+    lent[ANSWERS].expected = slice(lent[ANSWERS].length);
+    answer = pf_flow_pairs(depth, lent[P].places, lent[P].length, lent[Q].places, lent[Q].length, lent[ANSWERS].places,
+                           lent[ANSWERS].length);
+    int good = answer == expected;
+    if (!good)
+        printf("case %" PRIu64 ", pf_flow_pairs: depth %" PRIu64 ", %" PRIu64 " and %" PRIu64 " labels, %" PRIu64
+               " places: answer %" PRIu64 ", expected %" PRIu64 "\n", which, depth, lent[P].length, lent[Q].length,
+               lent[ANSWERS].length, answer, expected);
+    tell_answers(which, depth, &lent[P], &lent[Q], &lent[ANSWERS]);
+    for (int i = 0; i < SLICES; i++) good &= as_expected(which, &lent[i]);
+    return good;
+}
+
 /* 1 if all is as expected, 0 if not, -1 if there is no such kind of case. */
 static int run_case(int kind, uint64_t which) {
     switch (kind) {
@@ -163,8 +205,9 @@ static int run_case(int kind, uint64_t which) {
     case 'P': return lookup_case(which);
     case 'F': return flow_case(which, 0);
     case 'O': return flow_case(which, 1);
-    case 'S': return pairs_case(which);
+    case 'S': return labels_case(which);
     case 'W': return words_case(which);
+    case 'M': return pairs_case(which);
     default: return -1;
     }
 }

@@ -27,11 +27,11 @@ every-snoc test (b ∷ x) a = rw (every-snoc test x a) (go (test a) (test b) (ev
     go false true r = refl
     go false false r = refl
 
-none : (m : ℕ) → m ≤ 0 → digitsOf m ≡ []
-none m h = let z : m ≡ 0 = omega arith in rw z digits-zero
+pub no-digits : (m : ℕ) → m ≤ 0 → digitsOf m ≡ []
+no-digits m h = let z : m ≡ 0 = omega arith in rw z digits-zero
 
 pub digits-none : (m : ℕ) → m ≤ 0 → length (digitsOf m) ≡ 0
-digits-none m h = ap length (none m h)
+digits-none m h = ap length (no-digits m h)
 
 pub digits-some : (m : ℕ) → 0 < length (digitsOf m) → 0 < m
 digits-some zero h = absurd (omega (arith, digits-none 0 (omega arith)))
@@ -39,10 +39,10 @@ digits-some (suc m) h = omega arith
 
 pub label-none : (depth m : ℕ) → m ≤ 0 → isLabel depth m ≡ true
 unfolding isLabel areDigits every
-label-none depth m h = rw (none m h, le-leb 0 depth (omega arith))
+label-none depth m h = rw (no-digits m h, le-leb 0 depth (omega arith))
 
 module _ (m : ℕ) (fits : m < 2 ^ 64) (some : 0 < m) where
-  last-digit : digitsOf m ≡ digitsOf (m / 10) ++ (m % 10 ∷ [])
+  pub last-digit : digitsOf m ≡ digitsOf (m / 10) ++ (m % 10 ∷ [])
   last-digit = digits-step m (omega arith) (λ e. omega arith)
 
   pub digits-longer : length (digitsOf m) ≡ suc (length (digitsOf (m / 10)))

@@ -1,4 +1,5 @@
 pub mod Places
 pub mod LastDigit
+pub mod LastPlaces
 pub mod Inverse
 pub mod Cases

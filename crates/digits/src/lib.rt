@@ -1,5 +1,6 @@
 // A label as one decimal number, and its digits, the most significant first.
 use checks::depth_fits;
+use sheet::Found;
 ghost use mathlib.Core.Path.{_≡_};
 ghost use Prim.Native.Nat.{_≤_, _<_, _^_};
 ghost use lib.ListN.{length};
@@ -7,6 +8,7 @@ ghost use Rattle.sheet.specs.Label.{number, digitsOf};
 ghost use Rattle.sheet.specs.Refusal.{within, written};
 ghost use Rattle.sheet.specs.Flow.{every, isLabel};
 ghost use Rattle.digits.specs.Digits.{digitsAnswer, digitsValues, digitsPlaces, labelAnswer, labelValues};
+ghost use Rattle.digits.specs.Digits.{endDigits, writtenLast, labelStart};
 
 // The answer of write_digits: how many digits were written, or document 01's number of the refusal.
 pub enum DigitsAnswer {
@@ -52,9 +54,8 @@ pub fn count_digits(label: u64) -> usize
     count
 }
 
-// Writes the digits of a label, of which there are count, to the first places, the last digit first. A step for the
-// flow question and the outlet question.
-pub fn put_digits(label: u64, count: usize, out: &mut [u8])
+// Writes the digits of a label, of which there are count, to the first places, the last digit first.
+fn put_digits(label: u64, count: usize, out: &mut [u8])
     requires { ⌜ count ≡ length (digitsOf label) ⌝ }
     requires { ⌜ count ≤ length (now out) ⌝ }
     ensures { λ _. ⌜ now (out .exit) ≡ written (digitsOf label) (now (out .entry)) ⌝ }
@@ -86,6 +87,33 @@ pub fn write_digits(depth: usize, label: u64, out: &mut [u8]) -> DigitsAnswer
         return DigitsAnswer::Refused(11);
     }
     DigitsAnswer::Refused(2)
+}
+
+// Judges a number as a label and writes its digits to the last places, each worked out once. Gives where they start, or
+// nothing for a number that is no label at the depth; of such a number the digits after its last 0 are written, at most
+// as many as the depth. A step for the flow question.
+pub fn put_label(depth: usize, label: u64, out: &mut [u8]) -> Found
+    requires { ⌜ depth ≤ length (now out) ⌝ }
+    ensures start { λ r. ⌜ r ≡ labelStart depth label (length (now (out .entry))) ⌝ }
+    ensures places { λ _. ⌜ now (out .exit) ≡ writtenLast (endDigits depth label) (now (out .entry)) ⌝ }
+{
+    let mut at = out.len();
+    let mut room = depth;
+    let mut m = label;
+    while 0 < m {
+        if room < 1 {
+            return Found::Nothing;
+        }
+        let digit = m % 10;
+        if digit < 1 {
+            return Found::Nothing;
+        }
+        at = at - 1;
+        room = room - 1;
+        out[at] = digit as u8;
+        m = m / 10;
+    }
+    Found::At(at)
 }
 
 // Every digit is from 1 to 9.

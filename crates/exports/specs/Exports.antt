@@ -1,7 +1,10 @@
--- The numbers that a host gets for the outcome of labelling and for the answer of the index call.
-use Prim.Native.Nat.{ℕ, _+_, _*_, _<_, _≤_}
+-- The numbers that a host gets for the outcome of labelling and for the answers of the index call and of the call for
+-- many pairs.
+use Prim.Native.Nat.{ℕ, _+_, _*_, _%_, _^_, _<_, _≤_}
 use Rattle.sheet.specs.declared.Outcome.{Outcome}
 use Rattle.sheet.specs.Refusal.{outcomeValues}
+use Rattle.flow.specs.declared.pairs.PairsAnswer.{PairsAnswer}
+use Rattle.flow.specs.declared.pairs.PairsAnswer.the-variants.{Pairs, Refused as PairsRefused}
 use Rattle.index.specs.declared.Indexed.{Indexed}
 use Rattle.index.specs.declared.Indexed.the-variants.{Units, Refused}
 
@@ -19,3 +22,8 @@ indexedCode (Refused number place) = number + 256 * place
 abbrev pub CodeTells : Indexed → Type 0
 CodeTells (Units units) = units ≤ 65536
 CodeTells (Refused number place) = (1 ≤ number) × (number < 256) × (place < 65536)
+
+-- 256 × the count of pairs, in 64 bits, which is exact below 2 ^ 56 pairs; else the refusal's number
+abbrev pub pairsCode : PairsAnswer → ℕ
+pairsCode (Pairs count) = count * 256 % 2 ^ 64
+pairsCode (PairsRefused number) = number

@@ -1,17 +1,20 @@
 // The calls for hosts in C and in languages that call C; include/pfafstetter.h declares them. Each only calls proved
 // functions.
+use flow::pairs::PairsAnswer;
 use index::Indexed;
 use lookup::LookupAnswer;
 use sheet::Outcome;
 ghost use mathlib.Core.Path.{_≡_};
 ghost use Prim.Native.Nat.{_<_};
+ghost use lib.ListN.{length};
 ghost use Rattle.sheet.specs.Refusal.{outcomeValues, outcome, lentAfter};
 ghost use Rattle.sheet.specs.Word.{firstBadOf};
 ghost use Rattle.sheet.specs.Flow.{flow, answerNumber, outletFlow, outletAnswerNumber};
+ghost use Rattle.flow.specs.Pairs.{pairsAnswer, pairsPlaces};
 ghost use Rattle.labelling.specs.Labelling.{sheet, lent};
 ghost use Rattle.lookup.specs.Lookup.{lookupAnswer, lookupValues};
 ghost use Rattle.index.specs.Index.{lentIndex, indexed, indexAfter};
-ghost use Rattle.exports.specs.Exports.{outcomeCode, indexedCode, CodeTells};
+ghost use Rattle.exports.specs.Exports.{outcomeCode, indexedCode, CodeTells, pairsCode};
 
 // The refusal's number + 256 × its place; 0 if accepted.
 fn outcome_code(outcome: Outcome) -> u64
@@ -137,6 +140,27 @@ pub extern "C" fn pf_outlet_flow(depth: usize, p: u64, q: u64) -> u32
     ensures { λ r. ⌜ r ≡ outletAnswerNumber (outletFlow depth p q) ⌝ }
 {
     flow::outlet_answer_number(flow::outlet_flow_of(depth, p, q))
+}
+
+// 256 × the count of pairs, or the refusal's number.
+fn pairs_code(answer: PairsAnswer) -> u64
+    ensures { λ r. ⌜ r ≡ pairsCode answer ⌝ }
+{
+    match answer {
+        PairsAnswer::Pairs(count) => (count as u64) << 8,
+        PairsAnswer::Refused(number) => number as u64,
+    }
+}
+
+// The flow question for each pair, P's label and Q's at the same place.
+#[no_mangle]
+pub extern "C" fn pf_flow_pairs(depth: usize, p: &[u64], q: &[u64], answers: &mut [u8]) -> u64
+    ensures answer { λ r. ⌜ r ≡ pairsCode (pairsAnswer depth (length (now (p .entry))) (length (now (q .entry)))
+        (length (now (answers .entry)))) ⌝ }
+    ensures places { λ _. ⌜ now (answers .exit)
+        ≡ pairsPlaces depth (now (p .entry)) (now (q .entry)) (now (answers .entry)) ⌝ }
+{
+    pairs_code(flow::pairs::flow_pairs(depth, p, q, answers))
 }
 
 // The word test: the place of the first of a word's eight directions that is none of the nine codes.

@@ -17,6 +17,7 @@ use Rattle.sheet.specs.Label.{digitsOf}
 use Rattle.sheet.specs.Refusal.{both, depthFits}
 use Rattle.sheet.specs.Flow.{ruleAt, isLabel, partAt, answerAt, answerUnequal, outletFlow, isWhole, cellAnswer, flow}
 use Rattle.sheet.specs.Flow.{answerNumber, outletAnswerNumber}
+use Rattle.flow.specs.OutletAnswer.{outletAnswer}
 
 -- an answer that is the defined one has its number too
 pub and-number : {A : Type 0} (number : A → ℕ) {answer defined : A} → answer ≡ defined
@@ -47,24 +48,22 @@ answer-of (Refused number) =
 pub answer-number-apart : (a b : Flow) → answerNumber a ≡ answerNumber b → a ≡ b
 answer-number-apart a b e = sym (answer-of a) ∙ ap answerOf e ∙ answer-of b
 
--- the answer to the outlet question that has the same name
-abbrev outletAnswerOf : Flow → OutletFlow
-outletAnswerOf Same = OutletSame
-outletAnswerOf Yes = OutletYes
-outletAnswerOf No = OutletNo
-outletAnswerOf Undecided = OutletYes
-outletAnswerOf (Refused number) = OutletRefused number
+pub outlet-of-cell : (whole : Bool) (a : OutletFlow) → outletAnswer (cellAnswer whole a) ≡ a
+outlet-of-cell whole OutletSame = refl
+outlet-of-cell true OutletYes = refl
+outlet-of-cell false OutletYes = refl
+outlet-of-cell whole OutletNo = refl
+outlet-of-cell whole (OutletRefused number) = refl
 
-outlet-answer-of : (a : OutletFlow) → outletAnswerOf (cellAnswer true a) ≡ a
-outlet-answer-of OutletSame = refl
-outlet-answer-of OutletYes = refl
-outlet-answer-of OutletNo = refl
-outlet-answer-of (OutletRefused number) = refl
+-- the outlet question's answer, from the flow question's
+pub outlet-from-flow : (depth p q : ℕ) → outletAnswer (flow depth p q) ≡ outletFlow depth p q
+unfolding flow
+outlet-from-flow depth p q = outlet-of-cell (isWhole depth p) (outletFlow depth p q)
 
 pub outlet-answer-number-apart : (a b : OutletFlow) → outletAnswerNumber a ≡ outletAnswerNumber b → a ≡ b
 outlet-answer-number-apart a b e =
     let same = answer-number-apart (cellAnswer true a) (cellAnswer true b) e in
-    sym (outlet-answer-of a) ∙ ap outletAnswerOf same ∙ outlet-answer-of b
+    sym (outlet-of-cell true a) ∙ ap outletAnswer same ∙ outlet-of-cell true b
 
 abbrev fitsByte : OutletFlow → Type 0
 fitsByte a = outletAnswerNumber a < 256
@@ -102,3 +101,6 @@ cell-byte whole (OutletRefused number) h = h
 pub flow-byte : (depth p q : ℕ) → answerNumber (flow depth p q) < 256
 unfolding flow
 flow-byte depth p q = cell-byte (isWhole depth p) (outletFlow depth p q) (outlet-flow-byte depth p q)
+
+pub number-byte : (depth p q number : ℕ) → number ≡ answerNumber (flow depth p q) → number < 256
+number-byte depth p q number e = omega (arith, flow-byte depth p q)

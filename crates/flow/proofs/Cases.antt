@@ -1,8 +1,10 @@
--- Worked flow questions, computed from the definitions.
+-- Worked flow questions, and calls for many pairs, computed from the definitions.
 use mathlib.Core.Path.{_≡_, refl}
 use mathlib.Core.List.{[], _∷_}
 use Rattle.sheet.specs.declared.Flow.the-variants.{Same, Yes, No, Undecided, Refused}
 use Rattle.sheet.specs.Flow.{flow, answerNumber}
+use Rattle.flow.specs.declared.pairs.PairsAnswer.the-variants.{Pairs, Refused as PairsRefused}
+use Rattle.flow.specs.Pairs.{pairNumbers, pairsAnswer, pairsPlaces}
 
 -- 2 at depths 0 and 19, before 11
 pub flow-depth : flow 0 105 9 ∷ flow 19 9 9 ∷ [] ≡ Refused 2 ∷ Refused 2 ∷ []
@@ -41,3 +43,29 @@ flow-depth-reached = refl
 pub answer-numbers : answerNumber No ∷ answerNumber Yes ∷ answerNumber Same ∷ answerNumber Undecided ∷ answerNumber
     (Refused 12) ∷ [] ≡ 0 ∷ 1 ∷ 2 ∷ 3 ∷ 140 ∷ []
 answer-numbers = refl
+
+-- each answer; refused pairs stand first, in the middle and last
+pub pairs-numbers : pairNumbers 3 (105 ∷ 92 ∷ 91 ∷ 9 ∷ 91 ∷ 131 ∷ 1111 ∷ []) (9 ∷ 91 ∷ 92 ∷ 91 ∷ 91 ∷ 14 ∷ 1111 ∷ []) ≡
+    139 ∷ 0 ∷ 1 ∷ 140 ∷ 2 ∷ 3 ∷ 139 ∷ []
+unfolding pairNumbers
+pairs-numbers = refl
+
+-- as many pairs as the shorter slice has
+pub pairs-shorter : pairNumbers 3 (91 ∷ []) (92 ∷ 105 ∷ []) ∷ pairNumbers 3 (91 ∷ 105 ∷ []) (92 ∷ []) ∷
+    pairNumbers 3 [] (92 ∷ []) ∷ [] ≡ (1 ∷ []) ∷ (1 ∷ []) ∷ [] ∷ []
+unfolding pairNumbers
+pairs-shorter = refl
+
+-- 2 before 3; 3 by the shorter slice; no pairs need no place
+pub pairs-answers : pairsAnswer 0 2 2 1 ∷ pairsAnswer 19 0 0 0 ∷ pairsAnswer 18 3 2 1 ∷ pairsAnswer 1 2 3 1 ∷
+    pairsAnswer 3 3 2 2 ∷ pairsAnswer 3 2 3 9 ∷ pairsAnswer 3 0 5 0 ∷
+    [] ≡ PairsRefused 2 ∷ PairsRefused 2 ∷ PairsRefused 3 ∷ PairsRefused 3 ∷ Pairs 2 ∷ Pairs 2 ∷ Pairs 0 ∷ []
+unfolding pairsAnswer
+pairs-answers = refl
+
+-- places past the last pair keep their values; refused, all do
+pub pairs-places : pairsPlaces 3 (91 ∷ 9 ∷ []) (92 ∷ []) (7 ∷ 8 ∷ []) ∷
+    pairsPlaces 3 (91 ∷ 9 ∷ []) (92 ∷ 9 ∷ []) (7 ∷ []) ∷ pairsPlaces 19 (91 ∷ []) (92 ∷ []) (7 ∷ []) ∷
+    [] ≡ (1 ∷ 8 ∷ []) ∷ (7 ∷ []) ∷ (7 ∷ []) ∷ []
+unfolding pairsPlaces
+pairs-places = refl

@@ -1,6 +1,5 @@
--- Laws of the definitions from place to place: where two labels part, and the part of a slice that digits were written
--- to.
-use mathlib.Core.Path.{_≡_, sym, ap, _∙_}
+-- Laws of where two labels part, from place to place.
+use mathlib.Core.Path.{_≡_}
 use mathlib.Core.Bool.{Bool, true, false, cond}
 use mathlib.Core.List.{List, [], _∷_}
 use Prim.Native.Nat.{ℕ, suc, _+_, _≤_, _<_}
@@ -8,10 +7,9 @@ use native.Mathlib.Numerals.{add-one}
 use native.Mathlib.Omega.{arith}
 use borrow.Author.Tests.{eq-eqb, ne-eqb}
 use lib.Dec.{eqb}
-use lib.ListN.{length, drop, take, getD, drop-of-length-le, length-append}
-use lib.Seq.{drop-cons, take-at}
+use lib.ListN.{length, drop, getD, drop-of-length-le}
+use lib.Seq.{drop-cons}
 use Rattle.sheet.specs.declared.Found.the-variants.{At, Nothing}
-use Rattle.sheet.specs.Refusal.{written}
 use Rattle.sheet.specs.Flow.{partFrom, partAt}
 
 -- ---- where two labels part, by place
@@ -55,16 +53,3 @@ module _ (x y : List ℕ) (i : ℕ) (e : partAt x y ≡ At i) where
   pub part-right : i < length y
   unfolding partAt
   part-right = omega (arith, part-in 0 x y i e .1)
-
--- ---- the written part of a slice
-
--- the first n places of a slice that x was written to
-module _ (x out rest : List ℕ) (n : ℕ) (count : n ≡ length x) (is : out ≡ written x rest) where
-  pub written-within : n ≤ length out
-  written-within = omega (arith, simp length-append at (ap length is))
-
-  pub written-first : take n out ≡ x
-  written-first = rw is (take-at x (drop (length x) rest) n (sym count))
-
-  pub written-count : n ≡ length (take n out)
-  written-count = count ∙ ap length (sym written-first)

@@ -1,18 +1,21 @@
 // The flow question, does water from the label q pass the label p, and the outlet question, does it pass the outlet of
 // the unit that p names?
+pub mod pairs;
+
 use checks::depth_fits;
-use digits::count_digits;
-use digits::is_label;
-use digits::put_digits;
+use digits::put_label;
 use sheet::Flow;
 use sheet::Found;
 use sheet::OutletFlow;
 ghost use mathlib.Core.Path.{_≡_};
+ghost use mathlib.Core.Bool.{true};
 ghost use Prim.Native.Nat.{_<_};
 ghost use lib.ListN.{length, drop};
-ghost use Rattle.sheet.specs.Refusal.{both};
-ghost use Rattle.sheet.specs.Flow.{partAt, every, isOdd, ruleAt, isLabel, answerAt, answerUnequal, outletFlow};
-ghost use Rattle.sheet.specs.Flow.{cellAnswer, flow, answerNumber, outletAnswerNumber};
+ghost use Rattle.sheet.specs.Label.{digitsOf};
+ghost use Rattle.sheet.specs.Refusal.{depthFits};
+ghost use Rattle.sheet.specs.Flow.{partAt, every, isOdd, ruleAt, isLabel, answerAt, cellAnswer, flow, outletFlow};
+ghost use Rattle.sheet.specs.Flow.{answerNumber, outletAnswerNumber};
+ghost use Rattle.flow.specs.OutletAnswer.{outletAnswer};
 
 // The first place where both have a digit and the digits differ.
 fn part_at(p: &[u8], q: &[u8]) -> Found
@@ -73,47 +76,6 @@ fn answer_at(p: &[u8], q: &[u8]) -> OutletFlow
     }
 }
 
-// The answer for unequal labels.
-fn answer_unequal(p: u64, q: u64) -> OutletFlow
-    ensures { λ r. ⌜ r ≡ answerUnequal p q ⌝ }
-{
-    let mut a = [0u8; 20];
-    let mut b = [0u8; 20];
-    let n = count_digits(p);
-    let m = count_digits(q);
-    put_digits(p, n, &mut a);
-    put_digits(q, m, &mut b);
-    answer_at(&a[..n], &b[..m])
-}
-
-// Both are labels at the depth.
-fn are_labels(depth: usize, p: u64, q: u64) -> bool
-    ensures { λ r. ⌜ r ≡ both (isLabel depth p) (isLabel depth q) ⌝ }
-{
-    if is_label(depth, p) {
-        return is_label(depth, q);
-    }
-    false
-}
-
-// The outlet question: does water from the label q pass the outlet of the unit that the label p names? 2, 11, Same, 12,
-// then the rule.
-pub fn outlet_flow_of(depth: usize, p: u64, q: u64) -> OutletFlow
-    ensures answer { λ r. ⌜ r ≡ outletFlow depth p q ⌝ }
-    ensures number { λ r. ⌜ outletAnswerNumber r ≡ outletAnswerNumber (outletFlow depth p q) ⌝ }
-{
-    if depth_fits(depth) {
-        if are_labels(depth, p, q) {
-            if p == q {
-                return OutletFlow::Same;
-            }
-            return answer_unequal(p, q);
-        }
-        return OutletFlow::Refused(11);
-    }
-    OutletFlow::Refused(2)
-}
-
 // The answer to the flow question from that to the outlet question; `whole` tells that p has fewer digits than the
 // depth.
 fn cell_answer(whole: bool, answer: OutletFlow) -> Flow
@@ -127,13 +89,69 @@ fn cell_answer(whole: bool, answer: OutletFlow) -> Flow
     }
 }
 
-// The flow question: does water from the label q pass the label p? The answer to the outlet question, but Undecided for
-// Yes where p has as many digits as the depth.
+// The answer to the flow question where p is a label and its digits are at hand: 11 for q, Same, 12, then the rule.
+fn answer_by_digits(depth: usize, p: u64, digits: &[u8], q: u64) -> Flow
+    requires { ⌜ depthFits depth ≡ true ⌝ }
+    requires { ⌜ isLabel depth p ≡ true ⌝ }
+    requires { ⌜ now digits ≡ digitsOf p ⌝ }
+    ensures { λ r. ⌜ r ≡ flow depth p q ⌝ }
+{
+    let mut places = [0u8; 18];
+    match put_label(depth, q, &mut places) {
+        Found::Nothing => Flow::Refused(11),
+        Found::At(start) => {
+            if p == q {
+                return Flow::Same;
+            }
+            cell_answer(digits.len() < depth, answer_at(digits, &places[start..]))
+        }
+    }
+}
+
+// The answer to the flow question at a depth from 1 to 18: 11, Same, 12, then the rule.
+fn answer_fitting(depth: usize, p: u64, q: u64) -> Flow
+    requires { ⌜ depthFits depth ≡ true ⌝ }
+    ensures { λ r. ⌜ r ≡ flow depth p q ⌝ }
+{
+    let mut places = [0u8; 18];
+    match put_label(depth, p, &mut places) {
+        Found::Nothing => Flow::Refused(11),
+        Found::At(start) => answer_by_digits(depth, p, &places[start..], q),
+    }
+}
+
+// The flow question: does water from the label q pass the label p? 2, 11, Same, 12, then the rule; Undecided where it
+// is met and p has as many digits as the depth.
 pub fn flow_of(depth: usize, p: u64, q: u64) -> Flow
     ensures answer { λ r. ⌜ r ≡ flow depth p q ⌝ }
     ensures number { λ r. ⌜ answerNumber r ≡ answerNumber (flow depth p q) ⌝ }
 {
-    cell_answer(count_digits(p) < depth, outlet_flow_of(depth, p, q))
+    if depth_fits(depth) {
+        return answer_fitting(depth, p, q);
+    }
+    Flow::Refused(2)
+}
+
+// The answer to the outlet question from that to the flow question: Yes for Undecided.
+fn outlet_answer(answer: Flow) -> OutletFlow
+    ensures { λ r. ⌜ r ≡ outletAnswer answer ⌝ }
+{
+    match answer {
+        Flow::Same => OutletFlow::Same,
+        Flow::Yes => OutletFlow::Yes,
+        Flow::No => OutletFlow::No,
+        Flow::Undecided => OutletFlow::Yes,
+        Flow::Refused(number) => OutletFlow::Refused(number),
+    }
+}
+
+// The outlet question: does water from the label q pass the outlet of the unit that the label p names? 2, 11, Same, 12,
+// then the rule.
+pub fn outlet_flow_of(depth: usize, p: u64, q: u64) -> OutletFlow
+    ensures answer { λ r. ⌜ r ≡ outletFlow depth p q ⌝ }
+    ensures number { λ r. ⌜ outletAnswerNumber r ≡ outletAnswerNumber (outletFlow depth p q) ⌝ }
+{
+    outlet_answer(flow_of(depth, p, q))
 }
 
 // The number of an answer: 0 No, 1 Yes, 2 Same, 3 Undecided, 128 + the refusal's number. A refusal may carry any byte,

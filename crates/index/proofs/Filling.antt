@@ -1,15 +1,14 @@
 -- Laws of entries written one by one: what is still to write, written on the present slices, gives the whole written on
 -- the slices lent.
 use mathlib.Core.Path.{_≡_, refl, ap, _∙_}
-use mathlib.Core.List.{List, _++_, map}
+use mathlib.Core.List.{List, map}
 use Prim.Native.Nat.{ℕ, _+_, _-_, _≤_}
-use native.Mathlib.Nat.{zero-add}
 use native.Mathlib.Numerals.{add-one}
 use native.Mathlib.Omega.{arith}
 use lib.ListN.{length, getD, drop, set, length-set, length-map}
-use lib.Seq.{sets, sets-eq}
+use lib.Seq.{sets}
 use Rattle.sheet.specs.Label.{labelAt}
-use Rattle.sheet.specs.Refusal.{written}
+use Rattle.sheet.proofs.Lists.{written-whole}
 use Rattle.index.specs.Units.{UnitEntry}
 use Rattle.index.specs.Index.{LentIndex, lentIndex, writtenIndex}
 use Rattle.index.specs.Steps.{groupsOf, Group, Room}
@@ -21,10 +20,6 @@ writtenFrom at entries I =
     lentIndex (sets (I .labels) at (map (λ (e : UnitEntry). e .label) entries))
     (sets (I .outlets) at (map (λ (e : UnitEntry). e .outlet) entries))
     (sets (I .counts) at (map (λ (e : UnitEntry). e .count) entries))
-
-written-whole : (new old : List ℕ) → length new ≤ length old → sets old 0 new ≡ written new old
-written-whole new old l =
-    sets-eq new old 0 (omega arith) ∙ ap (λ (k : ℕ). new ++ drop k old) (zero-add (length new))
 
 -- the groups before position `first` are written, at the places before `at`; I was lent, and J is what the slices hold
 pub record Filling (cells labels : List ℕ) (I J : LentIndex) (at first : ℕ) : Type 0 where

@@ -1,11 +1,18 @@
--- The list of the values of a function at cells, and a slice whose first places are written with one.
+-- A slice whose first places are written, and the list of the values of a function at cells.
 use mathlib.Core.Path.{_≡_, refl, _∙_, ap}
-use mathlib.Core.List.{List}
-use Prim.Native.Nat.{ℕ, zero, suc, _+_, _<_}
+use mathlib.Core.List.{List, _++_}
+use Prim.Native.Nat.{ℕ, zero, suc, _+_, _≤_, _<_}
+use native.Mathlib.Nat.{zero-add}
 use native.Mathlib.Omega.{arith}
 use lib.ListN.{length, getD, drop, List·getD-append}
+use lib.Seq.{sets, sets-eq}
 use Rattle.sheet.specs.Label.{listFrom}
 use Rattle.sheet.specs.Refusal.{written}
+
+-- the first places set one after the other
+pub written-whole : (new old : List ℕ) → length new ≤ length old → sets old 0 new ≡ written new old
+written-whole new old l =
+    sets-eq new old 0 (omega arith) ∙ ap (λ (k : ℕ). new ++ drop k old) (zero-add (length new))
 
 module _ (f : ℕ → ℕ) where
   pub length-list : (i m : ℕ) → length (listFrom f i m) ≡ m

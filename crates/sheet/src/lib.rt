@@ -32,19 +32,19 @@ pub enum Outcome {
     Refused(u8, usize),
 }
 
-// The answer to the outlet question; a refusal carries document 01's number.
+// The answer to the outlet question, in the order of the answers' numbers; a refusal carries document 01's number.
 pub enum OutletFlow {
-    Same,
-    Yes,
     No,
+    Yes,
+    Same,
     Refused(u8),
 }
 
-// The answer to the flow question; a refusal carries document 01's number.
+// The answer to the flow question, in the order of the answers' numbers; a refusal carries document 01's number.
 pub enum Flow {
-    Same,
-    Yes,
     No,
+    Yes,
+    Same,
     Undecided,
     Refused(u8),
 }

@@ -1,26 +1,23 @@
--- `flow_of` meets its contract: the answer to the outlet question, and then the last step.
+-- `flow_of` meets its contract.
+use mathlib.Core.Path.{sym, _∙_}
 use borrow.Author.Needs.{needs}
-use Rattle.sheet.specs.Flow.{isWhole, flow, answerNumber}
+use Rattle.sheet.specs.Flow.{answerNumber}
 use Rattle.flow.proofs.Answers.{and-number}
+use Rattle.flow.proofs.Judged.{refused-2}
 use Rattle.flow.proofs.flow_of.Statement.{statement}
 use Rattle.flow.proofs.flow_of.Tie as tie
 
-count-digits-requires : tie.Need-count-digits-requires
-count-digits-requires c κs = search needs
+depth-fits-requires : tie.Need-depth-fits-requires
+depth-fits-requires c κs = search needs
 
-outlet-flow-of-requires : tie.Need-outlet-flow-of-requires
-outlet-flow-of-requires c κs = search needs
-
-cell-answer-requires : tie.Need-cell-answer-requires
-cell-answer-requires c κs = search needs
+answer-fitting-requires : tie.Need-answer-fitting-requires
+answer-fitting-requires c κs = sym (c .before .depth-fits .ensures) ∙ c .if1 .taken
 
 returns : tie.Need-returns
-unfolding flow isWhole
-returns c =
-    let count = c .before .before .count-digits .ensures in
-    let outlet = c .before .outlet-flow-of .ensures .0 in
-    and-number answerNumber (simp (c .cell-answer .ensures, outlet, count))
+returns c = and-number answerNumber (c .answer-fitting .ensures)
+
+returns-2 : tie.Need-returns-2
+returns-2 c = and-number answerNumber (refused-2 _ _ _ (sym (c .before .depth-fits .ensures) ∙ c .if1 .left))
 
 pub flow-of-spec : {M : Type 1} → statement M
-flow-of-spec =
-    tie.close (tie.spec count-digits-requires outlet-flow-of-requires cell-answer-requires returns)
+flow-of-spec = tie.close (tie.spec depth-fits-requires answer-fitting-requires returns returns-2)

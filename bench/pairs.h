@@ -1,0 +1,30 @@
+/* The pairs of labels of the benchmark, and how calls on them are timed. */
+#ifndef PAIRS_H
+#define PAIRS_H
+#include <stdint.h>
+
+enum { PAIRS = 100000, KINDS = 7 };
+
+/* The pairs that were made last. */
+extern uint64_t p_labels[PAIRS], q_labels[PAIRS];
+
+/* What is lent to a call for its answers. */
+extern uint8_t answers[PAIRS];
+
+/* The kinds of pairs; `make` makes them with labels of up to `depth` digits. */
+extern const struct kind { const char *name; int depth; void (*make)(int depth); } kinds[KINDS];
+
+/* A call that answers all pairs, and what it returns. */
+typedef uint64_t (*pairs_call)(int depth);
+
+/* Asks pf_flow about each pair; returns what the call for many pairs does. */
+uint64_t flow_one_by_one(int depth);
+
+/* Do both calls return the same and write the same answers? */
+int same_answers(pairs_call first, pairs_call second, int depth);
+
+/* The least time of each of `count` calls, in nanoseconds a pair, over rounds in which all are timed, one right after
+   the other; every second round goes through them backwards. */
+void least_pair_times(const pairs_call *calls, int count, int depth, double *times);
+
+#endif

@@ -1,0 +1,49 @@
+/* The flow question for many pairs in plain C, written for speed, to be timed beside pf_flow_pairs. Same arguments,
+   answers and refusals. */
+#include "plain_pairs.h"
+
+enum { MAX_DEPTH = 18, NO_LABEL = -1 };
+enum { NO, YES, SAME, UNDECIDED, REFUSED = 128 };
+
+/* Writes the digits of a label to the last places and gives their count, or NO_LABEL. A digit comes from the quotient,
+   and the loop's end from the number before it was divided: gcc makes faster code of this than of % and a test of the
+   quotient. */
+static int put_digits(int depth, uint64_t label, uint8_t digits[MAX_DEPTH]) {
+    int count = 0;
+    uint64_t left = label, undivided;
+    if (label == 0) return 0;
+    do {
+        undivided = left;
+        left = undivided / 10;
+        uint8_t digit = (uint8_t)(undivided - 10 * left);
+        if (digit == 0 || count == depth) return NO_LABEL;
+        digits[MAX_DEPTH - ++count] = digit;
+    } while (undivided > 9);
+    return count;
+}
+
+static uint8_t answer_of(int depth, uint64_t p, uint64_t q) {
+    uint8_t p_places[MAX_DEPTH], q_places[MAX_DEPTH];
+    int i = 0, n = put_digits(depth, p, p_places);
+    if (n == NO_LABEL) return REFUSED + 11;
+    int m = put_digits(depth, q, q_places);
+    if (m == NO_LABEL) return REFUSED + 11;
+    if (p == q) return SAME;
+    const uint8_t *x = p_places + MAX_DEPTH - n, *y = q_places + MAX_DEPTH - m;
+    int shorter = n < m ? n : m;
+    while (i < shorter && x[i] == y[i]) i++;
+    if (i == shorter) return REFUSED + 12;
+    if (x[i] > y[i]) return NO;
+    for (; i < n; i++)
+        if (x[i] % 2 == 0) return NO;
+    return n < depth ? YES : UNDECIDED;
+}
+
+uint64_t plain_flow_pairs(size_t depth, const uint64_t *p, size_t p_len, const uint64_t *q, size_t q_len,
+                          uint8_t *answers, size_t answers_len) {
+    size_t count = p_len < q_len ? p_len : q_len;
+    if (depth < 1 || depth > MAX_DEPTH) return 2;
+    if (answers_len < count) return 3;
+    for (size_t k = 0; k < count; k++) answers[k] = answer_of((int)depth, p[k], q[k]);
+    return 256 * (uint64_t)count;
+}

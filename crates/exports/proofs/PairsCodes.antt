@@ -1,0 +1,35 @@
+-- The code of an answer of the call for many pairs tells the answer: its lowest byte whether it was refused, and the
+-- rest the count of pairs, where P's slice has fewer than 2 ^ 56 places; 2 ^ 56 would take 2 ^ 59 bytes.
+use mathlib.Core.Path.{_≡_, refl}
+use mathlib.Core.Bool.{Bool, true, false, cond}
+use Prim.Native.Nat.{ℕ, _/_, _%_, _^_, _<_}
+use native.Mathlib.Omega.{arith}
+use lib.Dec.{leb}
+use Rattle.sheet.specs.Refusal.{depthFits}
+use Rattle.flow.specs.declared.pairs.PairsAnswer.{PairsAnswer}
+use Rattle.flow.specs.declared.pairs.PairsAnswer.the-variants.{Pairs, Refused}
+use Rattle.flow.specs.Pairs.{pairCount, pairsAnswer, pairsValues}
+use Rattle.flow.proofs.PairNumbers.{count-p}
+use Rattle.exports.specs.Exports.{pairsCode}
+
+module _ (depth m n places : ℕ) where
+  -- what holds of the count and of both refusals holds of the answer
+  answer-either : (P : PairsAnswer → Type 0) → P (Pairs (pairCount m n)) → P (Refused 3) → P (Refused 2)
+      → P (pairsAnswer depth m n places)
+  unfolding pairsAnswer
+  answer-either P counted short deep = go (depthFits depth) (leb (pairCount m n) places)
+    where
+      go : (d r : Bool) → P (cond d (cond r (Pairs (pairCount m n)) (Refused 3)) (Refused 2))
+      go true true = counted
+      go true false = short
+      go false r = deep
+
+  -- the lowest byte: 0, or the refusal's number
+  pub pairs-byte : pairsCode (pairsAnswer depth m n places) % 256 ≡ pairsValues (pairsAnswer depth m n places) .number
+  pairs-byte = answer-either (λ a. pairsCode a % 256 ≡ pairsValues a .number) (omega arith) refl refl
+
+  -- the rest: the count of pairs
+  pub pairs-rest : m < 2 ^ 56
+      → pairsCode (pairsAnswer depth m n places) / 256 ≡ pairsValues (pairsAnswer depth m n places) .count
+  pairs-rest h =
+      answer-either (λ a. pairsCode a / 256 ≡ pairsValues a .count) (omega (arith, count-p m n)) refl refl

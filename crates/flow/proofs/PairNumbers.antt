@@ -1,0 +1,138 @@
+-- Laws of the call for many pairs: as many numbers as pairs, each that of its own pair; how they are written one by
+-- one; and the answer by the results of the tests.
+use mathlib.Core.Path.{_≡_, refl, ap, _∙_}
+use mathlib.Core.Bool.{Bool, true, false, cond}
+use mathlib.Core.List.{List, [], _∷_}
+use Prim.Native.Nat.{ℕ, zero, suc, _+_, _≤_, _<_}
+use native.Mathlib.Numerals.{add-one}
+use native.Mathlib.Omega.{arith}
+use borrow.Author.Tests.{le-leb, lt-leb, leb-true, leb-false}
+use lib.Dec.{leb, leb·suc-suc}
+use lib.ListN.{length, getD, drop, set, length-set, drop-of-length-le}
+use lib.Seq.{drop-cons, sets}
+use Rattle.sheet.specs.Refusal.{depthFits, written}
+use Rattle.sheet.specs.Flow.{flow, answerNumber}
+use Rattle.sheet.proofs.Lists.{written-whole}
+use Rattle.flow.specs.declared.pairs.PairsAnswer.{PairsAnswer}
+use Rattle.flow.specs.declared.pairs.PairsAnswer.the-variants.{Pairs, Refused}
+use Rattle.flow.specs.Pairs.{pairNumbers, pairCount, pairsAnswer, ifAnswered, pairsPlaces, pairsValues}
+
+-- ---- the count of pairs
+
+module _ (m n : ℕ) where
+  count-within : (pairCount m n ≤ m) × (pairCount m n ≤ n)
+  unfolding pairCount
+  count-within = go (leb m n) refl
+    where
+      go : (b : Bool) → leb m n ≡ b → (cond b m n ≤ m) × (cond b m n ≤ n)
+      go true e = (omega arith, leb-true m n e)
+      go false e = (omega (arith, leb-false m n e), omega arith)
+
+  pub count-p : pairCount m n ≤ m
+  count-p = count-within .0
+
+  pub count-q : pairCount m n ≤ n
+  count-q = count-within .1
+
+count-suc : (m n : ℕ) → suc (pairCount m n) ≡ pairCount (suc m) (suc n)
+unfolding pairCount
+count-suc m n = rw leb·suc-suc (go (leb m n))
+  where
+    go : (b : Bool) → suc (cond b m n) ≡ cond b (suc m) (suc n)
+    go true = refl
+    go false = refl
+
+-- one number for each pair
+pub numbers-count : (depth : ℕ) (x y : List ℕ) → length (pairNumbers depth x y) ≡ pairCount (length x) (length y)
+unfolding pairNumbers pairCount
+numbers-count depth [] y = rw (le-leb 0 (length y) (omega arith))
+numbers-count depth (p ∷ x) [] = rw (lt-leb (suc (length x)) 0 (omega arith))
+numbers-count depth (p ∷ x) (q ∷ y) = ap suc (numbers-count depth x y) ∙ count-suc (length x) (length y)
+
+-- ---- the numbers by place
+
+none-of-q : (depth : ℕ) (x : List ℕ) → pairNumbers depth x [] ≡ []
+unfolding pairNumbers
+none-of-q depth [] = refl
+none-of-q depth (p ∷ x) = refl
+
+module _ (depth : ℕ) (x y : List ℕ) (i : ℕ) where
+  pub numbers-here : i < pairCount (length x) (length y)
+      → pairNumbers depth (drop i x) (drop i y)
+      ≡ answerNumber (flow depth (getD x i 0) (getD y i 0)) ∷ pairNumbers depth (drop (suc i) x) (drop (suc i) y)
+  unfolding pairNumbers
+  numbers-here h =
+      rw (
+        drop-cons x i 0 (omega (arith, count-p (length x) (length y))),
+        drop-cons y i 0 (omega (arith, count-q (length x) (length y))),
+      )
+
+  pub numbers-end : pairCount (length x) (length y) ≤ i → pairNumbers depth (drop i x) (drop i y) ≡ []
+  unfolding pairNumbers pairCount
+  numbers-end h = go (leb (length x) (length y)) h
+    where
+      go : (b : Bool) → cond b (length x) (length y) ≤ i → pairNumbers depth (drop i x) (drop i y) ≡ []
+      go true g = rw (drop-of-length-le x g)
+      go false g = rw (drop-of-length-le y g) (none-of-q depth (drop i x))
+
+-- the number at a place is that of the flow question's answer for the labels at that place
+pub number-at : (depth : ℕ) (x y : List ℕ) (i : ℕ) → i < pairCount (length x) (length y)
+    → getD (pairNumbers depth x y) i 0 ≡ answerNumber (flow depth (getD x i 0) (getD y i 0))
+unfolding pairNumbers pairCount
+number-at depth [] y i h = absurd (omega (arith, count-p 0 (length y)))
+number-at depth (p ∷ x) [] i h = absurd (omega (arith, count-q (suc (length x)) 0))
+number-at depth (p ∷ x) (q ∷ y) zero h = refl
+number-at depth (p ∷ x) (q ∷ y) (suc i) h =
+    number-at depth x y i (omega (arith, count-suc (length x) (length y)))
+
+-- ---- written one by one
+
+-- the numbers before place i are written; `before` was lent, and `answers` is what the slice holds
+pub record Answering (depth : ℕ) (x y before answers : List ℕ) (i : ℕ) : Type 0 where
+  pub to-do : sets answers i (pairNumbers depth (drop i x) (drop i y)) ≡ written (pairNumbers depth x y) before
+  pub same-length : length answers ≡ length before
+
+module _ (depth : ℕ) (x y before : List ℕ) where
+  pub answering-starts : pairCount (length x) (length y) ≤ length before → Answering depth x y before before 0
+  answering-starts h = record {
+    to-do = written-whole (pairNumbers depth x y) before (omega (arith, numbers-count depth x y));
+    same-length = refl;
+  }
+
+  module _ {answers : List ℕ} {i : ℕ} (a : Answering depth x y before answers i) where
+    pub answering-goes-on : (number : ℕ) → i < pairCount (length x) (length y)
+        → number ≡ answerNumber (flow depth (getD x i 0) (getD y i 0))
+        → Answering depth x y before (set answers i number) (i + 1)
+    answering-goes-on number h e = record {
+      to-do = rw (add-one i, e) (rw (numbers-here depth x y i h) at (a .to-do));
+      same-length = length-set answers i number ∙ a .same-length;
+    }
+
+    pub answering-ends : pairCount (length x) (length y) ≤ i → answers ≡ written (pairNumbers depth x y) before
+    answering-ends h = rw (numbers-end depth x y i h) at (a .to-do)
+
+-- ---- the answer of the call
+
+module _ (depth m n places : ℕ) where
+  pub depth-refused : depthFits depth ≡ false → Refused 2 ≡ pairsAnswer depth m n places
+  unfolding pairsAnswer
+  depth-refused e = rw e
+
+  module _ (fits : depthFits depth ≡ true) (count : ℕ) (counted : count ≡ pairCount m n) where
+    pub short-refused : places < count → Refused 3 ≡ pairsAnswer depth m n places
+    unfolding pairsAnswer
+    short-refused h = rw (fits, lt-leb (pairCount m n) places (omega arith))
+
+    pub all-answered : count ≤ places → Pairs count ≡ pairsAnswer depth m n places
+    unfolding pairsAnswer
+    all-answered h = rw (fits, le-leb (pairCount m n) places (omega arith)) (ap Pairs counted)
+
+-- the answer, its values, and the answers afterwards
+pub promised : (depth : ℕ) (x y before after : List ℕ) (a : PairsAnswer)
+    → a ≡ pairsAnswer depth (length x) (length y) (length before) → after ≡ ifAnswered a (pairNumbers depth x y) before
+    → (a ≡ pairsAnswer depth (length x) (length y) (length before)) ×
+    ((pairsValues a ≡ pairsValues (pairsAnswer depth (length x) (length y) (length before))) ×
+    (after ≡ pairsPlaces depth x y before))
+unfolding pairsPlaces
+promised depth x y before after a e f =
+    (e, (ap pairsValues e, f ∙ ap (λ (b : PairsAnswer). ifAnswered b (pairNumbers depth x y) before) e))

@@ -1,0 +1,111 @@
+-- `answer_by_digits` meets its contract: the last places of the array hold q's digits, and each return gives one of the
+-- answers.
+use native.Mathlib.Omega.{arith}
+use mathlib.Core.Path.{_≡_, sym, _∙_}
+use mathlib.Core.Bool.{true}
+use mathlib.Core.List.{List}
+use Prim.Native.Nat.{ℕ, _≤_}
+use lib.ListN.{replicate}
+use borrow.Author.Needs.{needs}
+use Rattle.sheet.specs.declared.Found.the-variants.{At}
+use Rattle.sheet.specs.Flow.{isLabel}
+use Rattle.sheet.proofs.Within.{depth-most}
+use Rattle.digits.specs.Digits.{labelStart}
+use Rattle.digits.proofs.LastPlaces.{found-label, found-within, found-digits, found-none}
+use Rattle.flow.proofs.Judged.{q-refused, same, unequal}
+use Rattle.flow.proofs.answer_by_digits.Statement.{statement}
+use Rattle.flow.proofs.answer_by_digits.Tie as tie
+
+-- the places that the digits are written to
+abbrev places : List ℕ
+places = replicate 18 0
+
+-- Points of the function, each from a later one.
+abbrev start : tie.After-put-label → tie.Start
+start c = c .before .before .before
+
+abbrev after-put-label : tie.After-known-told → tie.After-put-label
+after-put-label c = c .before .before .before .before
+
+-- where q's digits start
+abbrev startAt : tie.After-known-told → ℕ
+startAt c = c .before .start .given .0 .0
+
+found : (c : tie.After-known-told)
+    → labelStart ((start (after-put-label c)) .args .depth) ((start (after-put-label c)) .args .q) 18 ≡ At (startAt c)
+found c = sym ((after-put-label c) .put-label .ensures .0) ∙ c .before .start .given .1
+
+room : (c : tie.After-known-told) → (start (after-put-label c)) .args .depth ≤ 18
+room c = depth-most _ ((start (after-put-label c)) .pre .0)
+
+within : (c : tie.After-known-told) → startAt c ≤ 18
+within c = found-within _ _ places _ _ (omega arith) (room c) (found c) ((after-put-label c) .put-label .ensures .1)
+
+q-label : (c : tie.After-known-told)
+    → isLabel ((start (after-put-label c)) .args .depth) ((start (after-put-label c)) .args .q) ≡ true
+q-label c = found-label _ _ places _ _ (omega arith) (room c) (found c) ((after-put-label c) .put-label .ensures .1)
+
+slice-aggregate-put-label : tie.Need-slice-aggregate-put-label
+slice-aggregate-put-label c = search needs
+
+put-label-requires : tie.Need-put-label-requires
+put-label-requires c κs = depth-most _ (c .before .before .pre .0)
+
+enum-told : tie.Need-enum-told
+enum-told c = search needs
+
+enum-known-start : tie.Need-enum-known-start
+enum-known-start c = search needs
+
+returns : tie.Need-returns
+returns c =
+    let asked = (start (after-put-label (c .before))) .pre in
+    same _ _ _ (asked .0) (asked .1 .0) (q-label (c .before)) (c .if1 .taken)
+
+sub-answer-at : tie.Need-sub-answer-at
+sub-answer-at c = within (c .before)
+
+part-answer-at-start : tie.Need-part-answer-at-start
+part-answer-at-start c = within (c .before .before)
+
+part-answer-at-end : tie.Need-part-answer-at-end
+part-answer-at-end c = search needs
+
+answer-at-requires : tie.Need-answer-at-requires
+answer-at-requires c κs = search needs
+
+cell-answer-requires : tie.Need-cell-answer-requires
+cell-answer-requires c κs = search needs
+
+returns-2 : tie.Need-returns-2
+returns-2 c =
+    let put = c .before .before .before in
+    let none = found-none _ _ _ (sym (put .put-label .ensures .0) ∙ c .enum-told .given .1) in
+    q-refused _ _ _ ((start put) .pre .0) ((start put) .pre .1 .0) none
+
+returns-3 : tie.Need-returns-3
+returns-3 c =
+    let told = c .before .before .before .before .before in
+    let asked = (start (after-put-label told)) .pre in
+    let q-digits =
+    found-digits _ _ places _ _ (omega arith) (room told) (found told)
+    ((after-put-label told) .put-label .ensures .1) in
+    unequal _ _ _ (asked .0) (asked .1 .0) (q-label told) (c .before .before .before .before .if1 .left) _ _
+    (asked .1 .1) q-digits _ (c .before .answer-at .ensures) _ (c .cell-answer .ensures)
+
+pub answer-by-digits-spec : {M : Type 1} → statement M
+answer-by-digits-spec =
+    tie.close
+    (tie.spec
+    slice-aggregate-put-label
+    put-label-requires
+    enum-told
+    enum-known-start
+    returns
+    sub-answer-at
+    part-answer-at-start
+    part-answer-at-end
+    answer-at-requires
+    cell-answer-requires
+    returns-2
+    returns-3)

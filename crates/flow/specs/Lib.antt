@@ -1,0 +1,2 @@
+pub mod OutletAnswer
+pub mod Pairs

@@ -1,0 +1,310 @@
+"""Makes the calls of tests/direct/cases.py that ask the flow question about many pairs: a depth, the labels of P and of
+Q and a number of places for the answers, good and bad; tells of which kinds they are."""
+from collections import Counter
+from typing import NamedTuple
+
+import lookups
+import reference
+
+DEPTHS = [1, 2, 3, 4, 18]
+BAD_DEPTHS = [0, 19, 20, 256 + 3, 2 ** 32 + 3, 2 ** 64 - 1]
+LENGTHS = [0, 1, 2, 3, 7, 8, 9, 100, 1000]  # numbers of pairs
+GAUGES = 100000  # compared with one spill
+MANY = 60  # places more than are needed
+SHEETS = 100  # whose labels are compared
+ODD, DIGITS = '13579', '123456789'
+MOST_DIGITS = 20  # of a 64-bit number
+
+# Labels of each length that matters and numbers that are none; they are compared with each other.
+EDGES = [0, 1, 2, 3, 9, 10, 11, 12, 13, 19, 20, 21, 22, 91, 92, 93, 99, 100, 101, 111, 112, 131, 14, 105, 901, 999,
+         1111, 1313, 1428, 9999, 11111, int('1' * 17), int('1' * 18), int('1' * 17 + '2'), int('1' * 17 + '3'),
+         int('9' * 18), *lookups.NO_LABELS]
+
+# What is counted of a pair, and of a call.
+REFUSED_PAIRS = ['pairs refused by 11 for ' + name for name in ('p', 'q', 'both')]
+BEGUN = ['pairs refused by 12 where p begins q', 'pairs refused by 12 where q begins p']
+PAIR_KINDS = ['pairs ' + answer for answer in reference.ANSWERS] + REFUSED_PAIRS + BEGUN
+AT_DEPTH = 'depth %d'
+ROOM_KINDS = ['as many places as pairs', 'one place more', 'many places more', 'as many places as the longer slice',
+              'fewer places than the longer slice', 'one place too few', 'several places too few', 'no place']
+LENGTH_KINDS = ['nothing lent', 'P alone empty', 'Q alone empty', 'as many of P as of Q', 'one more of P',
+                'many more of P', 'one more of Q', 'many more of Q', 'numbers past the last pair that are no labels']
+PLACE_KINDS = ['first pair refused', 'pair between refused', 'last pair refused', 'only the first pair refused',
+               'only the last pair refused', 'all pairs refused', 'no pair refused']
+KINDS = (['accepted', 'refused by 2', 'refused by 3', '2 before 3', 'refused by 2 with nothing lent']
+         + [AT_DEPTH % depth for depth in DEPTHS + BAD_DEPTHS] + ROOM_KINDS + LENGTH_KINDS + PLACE_KINDS
+         + ['one label as Q', 'more than 65535 pairs with one label as Q', 'one label as P',
+            'another answer with P and Q exchanged'] + PAIR_KINDS)
+
+
+class Call(NamedTuple):
+    depth: int
+    p: list
+    q: list
+    room: int  # places for answers
+
+
+# What is counted.
+
+def is_refused(answer):
+    return answer >= 128
+
+
+def pair_kind(depth, p, q, answer):
+    """The kind of a refused pair."""
+    if answer == 128 + 12:
+        return BEGUN[reference.digits_of(p).startswith(reference.digits_of(q))]
+    bad = [reference.flow(depth, label, label) == ('Refused', 11) for label in (p, q)]
+    return REFUSED_PAIRS[2 if all(bad) else bad.index(True)]
+
+
+def pair_counts(call, answers):
+    counted = Counter(answers)
+    found = Counter({'pairs ' + name: counted[number] for name, number in reference.ANSWERS.items()})
+    found.update(pair_kind(call.depth, p, q, answer) for p, q, answer in zip(call.p, call.q, answers)
+                 if is_refused(answer))
+    return found
+
+
+def place_kinds(answers):
+    """Where the refused pairs stand; there is a pair."""
+    refused = [is_refused(answer) for answer in answers]
+    alone = sum(refused) == 1 < len(refused)
+    return {'first pair refused': refused[0], 'pair between refused': any(refused[1:-1]),
+            'last pair refused': refused[-1], 'only the first pair refused': alone and refused[0],
+            'only the last pair refused': alone and refused[-1], 'all pairs refused': all(refused),
+            'no pair refused': not any(refused)}
+
+
+def label_kinds(call, answers):
+    """Of an accepted call with pairs."""
+    count = len(answers)
+    one_p, one_q = (count > 1 and len(set(labels[:count])) == 1 for labels in (call.p, call.q))
+    exchanged = any(reference.answer_number(reference.flow(call.depth, q, p)) != answer
+                    for p, q, answer in zip(call.p, call.q, answers))
+    return {'one label as Q': one_q, 'more than 65535 pairs with one label as Q': one_q and count > 65535,
+            'one label as P': one_p, 'another answer with P and Q exchanged': exchanged}
+
+
+def length_kinds(call):
+    """Of an accepted call."""
+    p, q, count = len(call.p), len(call.q), min(len(call.p), len(call.q))
+    unused = call.p[count:] + call.q[count:]
+    return {'nothing lent': p == q == call.room == 0, 'P alone empty': p == 0 < q, 'Q alone empty': q == 0 < p,
+            'as many of P as of Q': p == q > 0, 'one more of P': p == q + 1, 'many more of P': p > q + 1,
+            'one more of Q': q == p + 1, 'many more of Q': q > p + 1,
+            'numbers past the last pair that are no labels': any(number in lookups.NO_LABELS for number in unused)}
+
+
+def room_kinds(call, number):
+    """Of a call at a good depth."""
+    count, longer = sorted([len(call.p), len(call.q)])
+    more = call.room - count
+    if number == 3:
+        return {'one place too few': more == -1, 'several places too few': more < -1, 'no place': call.room == 0}
+    return {'as many places as pairs': more == 0, 'one place more': more == 1, 'many places more': more > 1,
+            'as many places as the longer slice': count < longer == call.room,
+            'fewer places than the longer slice': call.room < longer}
+
+
+def counts(call, number, answers):
+    """How many there are of each kind, once a call has given its refusal number, or 0, and the answers."""
+    count = min(len(call.p), len(call.q))
+    found = {'refused by %d' % number if number else 'accepted': True}
+    if call.depth in DEPTHS + BAD_DEPTHS:
+        found[AT_DEPTH % call.depth] = True
+    if number == 2:
+        found['2 before 3'] = call.room < count
+        found['refused by 2 with nothing lent'] = len(call.p) == len(call.q) == call.room == 0
+    else:
+        found.update(room_kinds(call, number))
+    if number == 0:
+        found.update(length_kinds(call))
+    if number == 0 and count > 0:
+        found.update(**place_kinds(answers), **label_kinds(call, answers), **pair_counts(call, answers))
+    return found
+
+
+# Labels, as text.
+
+def good_depth(depth):
+    """The good depth that is nearest, so that at a bad one too the labels are good."""
+    return min(max(depth, 1), reference.MAX_DEPTH)
+
+
+def digits(rng, count):
+    return ''.join(rng.choices(rng.choice([ODD, ODD, DIGITS]), k=count))
+
+
+def any_label(rng, depth):
+    return digits(rng, rng.choice([depth, rng.randint(1, depth), rng.randint(0, depth)]))
+
+
+def near(rng, depth, text):
+    """A label that begins as this one does: mostly some of its digits and then others; else the same label, one that
+    begins it, or one that it begins."""
+    kind = rng.random()
+    if kind < 0.08:
+        return text
+    if kind < 0.14:
+        return text[:rng.randint(0, len(text))]
+    if kind < 0.2:
+        return text + digits(rng, rng.randint(0, depth - len(text)))
+    shared = text[:rng.randrange(max(1, len(text)))]
+    rest = depth - len(shared)
+    return shared + digits(rng, rng.choice([rest, rng.randint(1, rest), rng.randint(1, max(1, rest - 1))]))
+
+
+def no_label(rng, depth, text):
+    """A number that is no label at the depth: a label with a 0 in it, one with more digits, or any other."""
+    kind = rng.randrange(5)
+    if kind < 2:
+        cut = rng.randint(1, max(1, len(text)))
+        return int((text[:cut] or '7') + '0' + text[cut:])
+    if kind < 4:
+        text = (text + digits(rng, MOST_DIGITS))[:rng.randint(depth + 1, MOST_DIGITS)]
+        return int(text) if int(text) < 2 ** 64 else int(text[:-1])
+    return rng.choice(lookups.NO_LABELS)
+
+
+# Pairs, as (p, q).
+
+def pair(rng, depth, bad):
+    """Two labels of which one is like the other; by the chance `bad` one of them or both are none."""
+    text = any_label(rng, depth)
+    texts = [text, near(rng, depth, text)]
+    if rng.random() < 0.5:
+        texts.reverse()
+    made = [lookups.number_of(text) for text in texts]
+    if rng.random() < bad:
+        for place in rng.choice([[0], [1], [0, 1]]):
+            made[place] = no_label(rng, depth, texts[place])
+    return tuple(made)
+
+
+def pair_with(rng, depth, wanted):
+    """A pair whose answer is as wanted: `wanted` is a test of the answer and the pair."""
+    while True:
+        p, q = pair(rng, depth, 0.5)
+        if wanted(reference.flow(depth, p, q), p, q):
+            return p, q
+
+
+def good_pair(rng, depth):
+    return pair_with(rng, depth, lambda answer, p, q: not isinstance(answer, tuple))
+
+
+def refused_pair(rng, depth, kind):
+    """A pair of one of the kinds of refused pairs."""
+    return pair_with(rng, depth, lambda answer, p, q: isinstance(answer, tuple)
+                     and pair_kind(depth, p, q, reference.answer_number(answer)) == kind)
+
+
+def parted(made):
+    """The labels of P and those of Q."""
+    return [p for p, q in made], [q for p, q in made]
+
+
+def some_pairs(rng, depth, count):
+    """Pairs like `pair`, with one label as P or one as Q now and then; few, many or none of them are no labels."""
+    bad = rng.choice([0, 0.02, 0.2, 0.2, 0.5])
+    p, q = parted([pair(rng, depth, bad) for _ in range(count)])
+    one = rng.randrange(10)
+    if one < 2 and count > 0:
+        text = any_label(rng, depth)
+        labels = [no_label(rng, depth, text) if rng.random() < bad else lookups.number_of(near(rng, depth, text))
+                  for _ in range(count)]
+        p, q = [(labels, [lookups.number_of(text)] * count), ([lookups.number_of(text)] * count, labels)][one]
+    return p, q
+
+
+def past(rng, count):
+    """Numbers past the last pair, which are not looked at."""
+    return [rng.choice([0, 1, 91, 10, rng.getrandbits(64), *lookups.NO_LABELS]) for _ in range(count)]
+
+
+# Calls.
+
+def rooms(rng, count, longer):
+    """Numbers of places: as many as pairs, more and fewer."""
+    wanted = {count, count + 1, count + rng.randint(2, MANY), longer, count - 1, count // 2, 0, rng.randint(0, count)}
+    return sorted(room for room in wanted if room >= 0)
+
+
+def small(rng):
+    """Every number of up to three labels of P and of Q and up to four places, at every depth."""
+    for depth in DEPTHS + BAD_DEPTHS:
+        for p_count in range(4):
+            for q_count in range(4):
+                for room in range(5):
+                    p, q = parted([pair(rng, good_depth(depth), 0.2) for _ in range(4)])
+                    yield Call(depth, p[:p_count], q[:q_count], room)
+
+
+def lengths(rng):
+    """Each number of pairs, with numbers past the last pair and without, and with places enough or too few."""
+    for count in LENGTHS:
+        for p_more, q_more in [(0, 0), (1, 0), (0, 1), (rng.randint(2, MANY), 0), (0, rng.randint(2, 3 * MANY))]:
+            for room in rooms(rng, count, count + p_more + q_more):
+                depth = rng.choice(DEPTHS + [rng.choice(BAD_DEPTHS)])
+                p, q = some_pairs(rng, good_depth(depth), count)
+                yield Call(depth, p + past(rng, p_more), q + past(rng, q_more), room)
+
+
+def refused_places(rng):
+    """Pairs refused at some places among good ones: first, between, last, several, all."""
+    for count in (1, 2, 3, 7, 8, 9, 100):
+        every = set(range(count))
+        for places in ({0}, {count // 2}, {count - 1}, {0, count - 1}, every - {0}, every - {count - 1}, every):
+            for kind in REFUSED_PAIRS + BEGUN:
+                depth = rng.choice(DEPTHS[1:])
+                p, q = parted([refused_pair(rng, depth, kind) if place in places else good_pair(rng, depth)
+                               for place in range(count)])
+                yield Call(depth, p, q, count + rng.choice([0, 1, MANY]))
+
+
+def edges():
+    """Every two of some numbers, at every depth."""
+    p, q = parted([(p, q) for p in EDGES for q in EDGES])
+    for depth in DEPTHS + BAD_DEPTHS:
+        yield Call(depth, p, q, len(p))
+
+
+def gauges(rng):
+    """One spill and many gauges: the labels of P are like the one of Q."""
+    depth, spill = 6, digits(rng, 5)
+    labels = [no_label(rng, depth, spill) if rng.random() < 0.05 else lookups.number_of(near(rng, depth, spill))
+              for _ in range(GAUGES)]
+    yield Call(depth, labels, [int(spill)] * GAUGES, GAUGES + 1)
+
+
+def of_sheets(rng, indexes):
+    """The labels of sheets: each with one of them, and each with any other."""
+    for labels in rng.sample(indexes, min(len(indexes), SHEETS)):
+        longest = max(len(reference.digits_of(label)) for label in labels)
+        depth = rng.choice([good_depth(longest), good_depth(longest + 1), 18])
+        count = len(labels)
+        yield Call(depth, labels, [rng.choice(labels)] * count, count)
+        yield Call(depth, labels, rng.choices(labels, k=count), count + rng.randint(0, 1))
+
+
+def by_chance(rng, count):
+    """Calls of many lengths with so many pairs in all."""
+    while count > 0:
+        pairs = min(count, rng.choice(LENGTHS + [rng.randint(0, MANY)]))
+        depth = rng.choice(DEPTHS + [rng.randint(1, 18)])
+        p, q = some_pairs(rng, depth, pairs)
+        p_more, q_more = rng.choice([(0, 0), (0, 0), (rng.randint(1, MANY), 0), (0, rng.randint(1, MANY))])
+        yield Call(depth, p + past(rng, p_more), q + past(rng, q_more), pairs + rng.choice([0, 0, 1, p_more + q_more]))
+        count -= pairs
+
+
+def questions(rng, count, indexes):
+    """A fixed number of calls, some about the labels of sheets, and random ones with `count` pairs in all."""
+    yield from small(rng)
+    yield from lengths(rng)
+    yield from refused_places(rng)
+    yield from edges()
+    yield from gauges(rng)
+    yield from of_sheets(rng, indexes)
+    yield from by_chance(rng, count)

@@ -114,11 +114,10 @@ module _ (depth label : ℕ) (before : List ℕ) where
     less = omega arith;
   }
 
-  module _ (fits : label < 2 ^ 64) (room : depth ≤ length before) {out : List ℕ} {at left m : ℕ}
-      (p : Putting depth label before out at left m) where
-    pub putting-goes-on : 0 < m → 1 ≤ left → 1 ≤ m % 10
+  module _ {out : List ℕ} {at left m : ℕ} (p : Putting depth label before out at left m) where
+    pub putting-goes-on : label < 2 ^ 64 → depth ≤ length before → 0 < m → 1 ≤ left → 1 ≤ m % 10
         → Putting depth label before (set out (at - 1) (m % 10)) (at - 1) (left - 1) (m / 10)
-    putting-goes-on some more digit = record {
+    putting-goes-on fits room some more digit = record {
       to-do =
           before-turn (endDigits (left - 1) (m / 10)) out (m % 10) at
           (omega (arith, p .places, p .at-most, p .same-length))
@@ -148,42 +147,44 @@ module _ (depth label : ℕ) (before : List ℕ) where
 
 -- ---- found in the last places
 
--- a label whose digits were put into the places `before`, which are now `out`
-module _ (depth label : ℕ) (before out : List ℕ) (start : ℕ) (fits : label < 2 ^ 64) (room : depth ≤ length before)
-    (found : labelStart depth label (length before) ≡ At start)
-    (put : out ≡ writtenLast (endDigits depth label) before) where
-  found-both : (isLabel depth label ≡ true) × (length before - length (digitsOf label) ≡ start)
+module _ (depth label places start : ℕ) (found : labelStart depth label places ≡ At start) where
+  found-both : (isLabel depth label ≡ true) × (places - length (digitsOf label) ≡ start)
   unfolding labelStart
   found-both = go (isLabel depth label) refl found
     where
-      go : (b : Bool) → isLabel depth label ≡ b
-          → cond b (At (length before - length (digitsOf label))) Nothing ≡ At start
-          → (isLabel depth label ≡ true) × (length before - length (digitsOf label) ≡ start)
+      go : (b : Bool) → isLabel depth label ≡ b → cond b (At (places - length (digitsOf label))) Nothing ≡ At start
+          → (isLabel depth label ≡ true) × (places - length (digitsOf label) ≡ start)
       go true l e = (l, cc)
       go false l e = let z : _≡_ {A = ℕ} 0 1 = cc in absurd (omega arith)
 
   pub found-label : isLabel depth label ≡ true
   found-label = found-both .0
 
-  pub found-within : start ≤ length before
+  pub found-within : start ≤ places
   found-within = omega (arith, found-both .1)
 
-  put-digits : out ≡ writtenLast (digitsOf label) before
-  put-digits = rw (ends-label depth label fits found-label) at put
+-- a label whose digits were put into the places `before`, which are now `out`
+module _ (depth label : ℕ) (before out : List ℕ) (start : ℕ) (fits : label < 2 ^ 64) (room : depth ≤ length before)
+    (found : labelStart depth label (length before) ≡ At start)
+    (put : out ≡ writtenLast (endDigits depth label) before) where
+  all-digits : endDigits depth label ≡ digitsOf label
+  all-digits = ends-label depth label fits (found-label depth label (length before) start found)
+
+  starts : length before - length (digitsOf label) ≡ start
+  starts = found-both depth label (length before) start found .1
 
   digits-room : length (digitsOf label) ≤ length before
-  digits-room =
-      omega (arith, ends-length depth label, ap length (ends-label depth label fits found-label))
+  digits-room = omega (arith, ends-length depth label, ap length all-digits)
 
   first-places : length (take (length before - length (digitsOf label)) before) ≡ start
-  first-places = length-take-le (length before - length (digitsOf label)) before (omega arith) ∙ found-both .1
+  first-places = length-take-le (length before - length (digitsOf label)) before (omega arith) ∙ starts
 
   -- the places from the start on
   pub found-digits : take (length before - start) (drop start out) ≡ digitsOf label
   found-digits =
       let first = take (length before - length (digitsOf label)) before in
-      rw (put-digits, drop-at first (digitsOf label) start first-places)
-      (take-all (length before - start) (digitsOf label) (omega (arith, found-both .1, digits-room)))
+      rw (put, all-digits, drop-at first (digitsOf label) start first-places)
+      (take-all (length before - start) (digitsOf label) (omega (arith, starts, digits-room)))
 
 pub found-none : (depth label places : ℕ) → labelStart depth label places ≡ Nothing → isLabel depth label ≡ false
 unfolding labelStart

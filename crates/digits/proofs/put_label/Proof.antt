@@ -23,11 +23,10 @@ same-length c = c .before .before .loop .inv .same-length
 returns : tie.Need-returns Inv-loop μ-loop
 returns c =
     let l = c .before .before .loop in
-    let start = c .before .before .before in
     let long =
     label-long (l .m) (omega (arith, l .inv .less)) (c .before .loop-test .taken) (l .room) (omega arith) in (
-      no-label _ _ _ (omega arith) (start .pre) (l .inv) long,
-      putting-stops _ _ _ (omega arith) (start .pre) (l .inv) (ends-full (l .room) (l .m) (omega arith)),
+      no-label _ _ _ (l .inv) long,
+      putting-stops _ _ _ (l .inv) (ends-full (l .room) (l .m) (omega arith)),
     )
 
 same-length-2 : tie.Need-same-length-2 Inv-loop μ-loop
@@ -36,11 +35,10 @@ same-length-2 c = c .before .before .before .loop .inv .same-length
 returns-2 : tie.Need-returns-2 Inv-loop μ-loop
 returns-2 c =
     let l = c .before .before .before .loop in
-    let start = c .before .before .before .before in
     let zero-last = label-zero (l .m) (omega (arith, l .inv .less)) (c .before .before .loop-test .taken) (l .room)
     (omega arith) in (
-      no-label _ _ _ (omega arith) (start .pre) (l .inv) zero-last,
-      putting-stops _ _ _ (omega arith) (start .pre) (l .inv) (ends-here (l .room) (l .m) (omega arith)),
+      no-label _ _ _ (l .inv) zero-last,
+      putting-stops _ _ _ (l .inv) (ends-here (l .room) (l .m) (omega arith)),
     )
 
 sub-at : tie.Need-sub-at Inv-loop μ-loop
@@ -60,7 +58,7 @@ loop-less c = omega arith
 
 loop-again : tie.Need-loop-again Inv-loop μ-loop
 loop-again c =
-    putting-goes-on _ _ _ (omega arith) (c .before .before .before .before .pre) (c .before .before .before .loop .inv)
+    putting-goes-on _ _ _ (c .before .before .before .loop .inv) (omega arith) (c .before .before .before .before .pre)
     (c .before .before .loop-test .taken) (omega arith) (omega arith)
 
 same-length-3 : tie.Need-same-length-3 Inv-loop μ-loop
@@ -68,10 +66,9 @@ same-length-3 c = c .before .loop .inv .same-length
 
 returns-3 : tie.Need-returns-3 Inv-loop μ-loop
 returns-3 c =
-    let l = c .before .loop in
-    let start = c .before .before in (
-      a-label _ _ _ (omega arith) (start .pre) (l .inv) (c .loop-test .left),
-      putting-stops _ _ _ (omega arith) (start .pre) (l .inv) (ends-here (l .room) (l .m) (omega arith)),
+    let l = c .before .loop in (
+      a-label _ _ _ (l .inv) (c .loop-test .left),
+      putting-stops _ _ _ (l .inv) (ends-here (l .room) (l .m) (omega arith)),
     )
 
 pub put-label-spec : {M : Type 1} → statement M

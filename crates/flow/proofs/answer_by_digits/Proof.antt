@@ -39,11 +39,11 @@ room : (c : tie.After-known-told) → (start (after-put-label c)) .args .depth �
 room c = depth-most _ ((start (after-put-label c)) .pre .0)
 
 within : (c : tie.After-known-told) → startAt c ≤ 18
-within c = found-within _ _ places _ _ (omega arith) (room c) (found c) ((after-put-label c) .put-label .ensures .1)
+within c = found-within _ _ _ _ (found c)
 
 q-label : (c : tie.After-known-told)
     → isLabel ((start (after-put-label c)) .args .depth) ((start (after-put-label c)) .args .q) ≡ true
-q-label c = found-label _ _ places _ _ (omega arith) (room c) (found c) ((after-put-label c) .put-label .ensures .1)
+q-label c = found-label _ _ _ _ (found c)
 
 slice-aggregate-put-label : tie.Need-slice-aggregate-put-label
 slice-aggregate-put-label c = search needs

@@ -36,7 +36,7 @@ room : (c : tie.After-known-told) → (start (after-put-label c)) .args .depth �
 room c = depth-most _ ((start (after-put-label c)) .pre)
 
 within : (c : tie.After-known-told) → startAt c ≤ 18
-within c = found-within _ _ places _ _ (omega arith) (room c) (found c) ((after-put-label c) .put-label .ensures .1)
+within c = found-within _ _ _ _ (found c)
 
 slice-aggregate-put-label : tie.Need-slice-aggregate-put-label
 slice-aggregate-put-label c = search needs
@@ -65,7 +65,7 @@ answer-by-digits-requires c κs =
     let put = (after-put-label told) .put-label .ensures .1 in (
       (start (after-put-label told)) .pre,
       (
-        found-label _ _ places _ _ (omega arith) (room told) (found told) put,
+        found-label _ _ _ _ (found told),
         found-digits _ _ places _ _ (omega arith) (room told) (found told) put,
       ),
     )

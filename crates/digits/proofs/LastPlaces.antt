@@ -13,7 +13,7 @@ use lib.Seq.{append-snoc, drop-at, drop-length, length-take-le, set-split, take-
 use Rattle.sheet.specs.declared.Found.the-variants.{At, Nothing}
 use Rattle.sheet.specs.Label.{digitsOf}
 use Rattle.sheet.specs.Flow.{isLabel}
-use Rattle.digits.specs.Digits.{endDigits, writtenLast, labelStart}
+use Rattle.digits.specs.LastPlaces.{endDigits, writtenLast, labelStart}
 use Rattle.digits.proofs.LastDigit.{no-digits, digits-none, last-digit, digits-longer}
 use Rattle.digits.proofs.LastDigit.{label-none, label-zero, label-long, label-turn}
 

@@ -1,12 +1,10 @@
 -- Document 01's rules for a label given as a number or as digits: refusals 2, 11 and 3, and what a lent slice holds
 -- afterwards.
 use mathlib.Core.Bool.{cond}
-use mathlib.Core.List.{List, [], _∷_, _++_}
-use Prim.Native.Nat.{ℕ, zero, suc, _/_, _%_, _-_}
-use lib.Dec.{eqb, leb}
-use lib.ListN.{length, take}
-use Rattle.sheet.specs.declared.Found.{Found}
-use Rattle.sheet.specs.declared.Found.the-variants.{At, Nothing}
+use mathlib.Core.List.{List}
+use Prim.Native.Nat.{ℕ}
+use lib.Dec.{leb}
+use lib.ListN.{length}
 use Rattle.sheet.specs.Label.{number, digitsOf}
 use Rattle.sheet.specs.Refusal.{depthFits, written}
 use Rattle.sheet.specs.Flow.{areDigits, isLabel}
@@ -58,20 +56,3 @@ pub record LabelValues : Type 0 where
 abbrev pub labelValues : LabelAnswer → LabelValues
 labelValues (Label label) = record { number = 0; label = label }
 labelValues (LabelRefused number) = record { number = number; label = 0 }
-
--- the digits of m from its last one back to a 0, at most k of them, the most significant first; of a label with up to k
--- digits these are all
-unfoldable pub endDigits : ℕ → ℕ → List ℕ
-endDigits zero m = []
-endDigits (suc k) m = let r = endDigits k (m / 10) in cond (eqb (m % 10) 0) [] (r ++ (m % 10 ∷ []))
-
--- the last places of a slice written with new values; the others keep theirs
-abbrev pub writtenLast : List ℕ → List ℕ → List ℕ
-writtenLast new old = take (length old - length new) old ++ new
-
--- where a label's digits start that stand in the last of so many places; nothing for a number that is no label
-unfoldable pub labelStart : ℕ → ℕ → ℕ → Found
-unfolding isLabel digitsOf
-labelStart depth label places =
-    let start : Found = At (places - length (digitsOf label)) in
-    cond (isLabel depth label) start Nothing

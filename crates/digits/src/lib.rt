@@ -8,7 +8,7 @@ ghost use Rattle.sheet.specs.Label.{number, digitsOf};
 ghost use Rattle.sheet.specs.Refusal.{within, written};
 ghost use Rattle.sheet.specs.Flow.{every, isLabel};
 ghost use Rattle.digits.specs.Digits.{digitsAnswer, digitsValues, digitsPlaces, labelAnswer, labelValues};
-ghost use Rattle.digits.specs.Digits.{endDigits, writtenLast, labelStart};
+ghost use Rattle.digits.specs.LastPlaces.{endDigits, writtenLast, labelStart};
 
 // The answer of write_digits: how many digits were written, or document 01's number of the refusal.
 pub enum DigitsAnswer {

@@ -48,7 +48,7 @@ answer-of (Refused number) =
 pub answer-number-apart : (a b : Flow) → answerNumber a ≡ answerNumber b → a ≡ b
 answer-number-apart a b e = sym (answer-of a) ∙ ap answerOf e ∙ answer-of b
 
-pub outlet-of-cell : (whole : Bool) (a : OutletFlow) → outletAnswer (cellAnswer whole a) ≡ a
+outlet-of-cell : (whole : Bool) (a : OutletFlow) → outletAnswer (cellAnswer whole a) ≡ a
 outlet-of-cell whole OutletSame = refl
 outlet-of-cell true OutletYes = refl
 outlet-of-cell false OutletYes = refl

@@ -57,7 +57,7 @@ none-of-q depth [] = refl
 none-of-q depth (p ∷ x) = refl
 
 module _ (depth : ℕ) (x y : List ℕ) (i : ℕ) where
-  pub numbers-here : i < pairCount (length x) (length y)
+  numbers-here : i < pairCount (length x) (length y)
       → pairNumbers depth (drop i x) (drop i y)
       ≡ answerNumber (flow depth (getD x i 0) (getD y i 0)) ∷ pairNumbers depth (drop (suc i) x) (drop (suc i) y)
   unfolding pairNumbers
@@ -67,7 +67,7 @@ module _ (depth : ℕ) (x y : List ℕ) (i : ℕ) where
         drop-cons y i 0 (omega (arith, count-q (length x) (length y))),
       )
 
-  pub numbers-end : pairCount (length x) (length y) ≤ i → pairNumbers depth (drop i x) (drop i y) ≡ []
+  numbers-end : pairCount (length x) (length y) ≤ i → pairNumbers depth (drop i x) (drop i y) ≡ []
   unfolding pairNumbers pairCount
   numbers-end h = go (leb (length x) (length y)) h
     where

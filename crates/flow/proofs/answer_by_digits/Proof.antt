@@ -10,7 +10,7 @@ use borrow.Author.Needs.{needs}
 use Rattle.sheet.specs.declared.Found.the-variants.{At}
 use Rattle.sheet.specs.Flow.{isLabel}
 use Rattle.sheet.proofs.Within.{depth-most}
-use Rattle.digits.specs.Digits.{labelStart}
+use Rattle.digits.specs.LastPlaces.{labelStart}
 use Rattle.digits.proofs.LastPlaces.{found-label, found-within, found-digits, found-none}
 use Rattle.flow.proofs.Judged.{q-refused, same, unequal}
 use Rattle.flow.proofs.answer_by_digits.Statement.{statement}

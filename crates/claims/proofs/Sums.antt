@@ -113,6 +113,18 @@ sum-one (suc n) c f l = elim (ℕ-discrete n c) [
 pub sum-has : (n : ℕ) (t : ℕ → Bool) (f : ℕ → ℕ) (c : ℕ) → t c ≡ true → c < n → f c ≤ sumOver n t f
 sum-has n t f c e l = omega (arith, sum-one n c f l, sum-mono n t (λ q. eqb q c) f (λ q h. ap t (eqb-true q c h) ∙ e))
 
+-- one cell more passes
+pub sum-more : (n : ℕ) (t u : ℕ → Bool) (f : ℕ → ℕ) (c : ℕ) → c < n → t c ≡ false → u c ≡ true
+    → ((q : ℕ) → q < n → q ≢ c → u q ≡ t q) → sumOver n u f ≡ sumOver n t f + f c
+sum-more n t u f c l old new same =
+    let e : Either n u t (λ q. eqb q c) = record {
+      split = λ q ql h. elim (ℕ-discrete q c) [ yes e ↦ inr (eq-eqb q c e) | no d ↦ inl (sym (same q ql d) ∙ h) ];
+      left = λ q ql h. elim (ℕ-discrete q c) [ yes e ↦ ap u e ∙ new | no d ↦ same q ql d ∙ h ];
+      right = λ q ql h. ap u (eqb-true q c h) ∙ new;
+      apart = λ q ql h k. true≢false (sym h ∙ ap t (eqb-true q c k) ∙ old);
+    } in
+    omega (arith, sum-either n u t (λ q. eqb q c) f e, sum-one n c f l)
+
 -- ---- counts
 
 pub count-sum : (n : ℕ) (t : ℕ → Bool) → count n t ≡ sumOver n t (λ q. 1)
@@ -134,10 +146,4 @@ count-none (suc n) t h = rw (h n (omega arith)) (count-none n t (λ q l. h q (om
 pub count-more : (n : ℕ) (t u : ℕ → Bool) (c : ℕ) → c < n → t c ≡ false → u c ≡ true
     → ((q : ℕ) → q < n → q ≢ c → u q ≡ t q) → count n u ≡ count n t + 1
 count-more n t u c l old new same =
-    let e : Either n u t (λ q. eqb q c) = record {
-      split = λ q ql h. elim (ℕ-discrete q c) [ yes e ↦ inr (eq-eqb q c e) | no d ↦ inl (sym (same q ql d) ∙ h) ];
-      left = λ q ql h. elim (ℕ-discrete q c) [ yes e ↦ ap u e ∙ new | no d ↦ same q ql d ∙ h ];
-      right = λ q ql h. ap u (eqb-true q c h) ∙ new;
-      apart = λ q ql h k. true≢false (sym h ∙ ap t (eqb-true q c k) ∙ old);
-    } in
-    omega (arith, count-sum n u, count-sum n t, sum-either n u t (λ q. eqb q c) (λ q. 1) e, sum-one n c (λ q. 1) l)
+    omega (arith, count-sum n u, count-sum n t, sum-more n t u (λ q. 1) c l old new same)

@@ -11,17 +11,17 @@ use Rattle.index.specs.Units.{withLabel, distinctLabels, unitEntry, unit
 use Rattle.index.specs.Index.{LentIndex, lentIndex, indexed, indexAfter}
 
 -- a sheet with weights, and one without: each is then 1
-abbrev weightedSheet : Grid → ℕ → List ℕ → Sheet
+abbrev pub weightedSheet : Grid → ℕ → List ℕ → Sheet
 weightedSheet G depth weights = record { grid = G; depth = depth; weights = weights }
 
-abbrev sheet : Grid → ℕ → Sheet
+abbrev pub sheet : Grid → ℕ → Sheet
 sheet G depth = weightedSheet G depth (replicate (G .rows) 1)
 
 -- what is lent for n cells, and for so many units, each place holding 7
-abbrev lentFor : ℕ → Lent
+abbrev pub lentFor : ℕ → Lent
 lentFor n = record { areas = replicate n 7; labels = replicate n 7; work = replicate (8 * n) 7 }
 
-abbrev lentUnits : ℕ → LentIndex
+abbrev pub lentUnits : ℕ → LentIndex
 lentUnits k = lentIndex (replicate k 7) (replicate k 7) (replicate k 7)
 
 -- a label that begins another stands before it, and one that stands already is not put again
@@ -82,7 +82,7 @@ sample-a-accepted = refl
 -- ---- weights
 
 -- the outlet is cell 2; cell 0, to which cell 1 flows, and cell 4 flow into it
-abbrev twoStreams : Grid
+abbrev pub twoStreams : Grid
 twoStreams = grid 3 2 (4 ∷ 16 ∷ 16 ∷ 0 ∷ 64 ∷ 0 ∷ [])
 
 -- without weights the river is the stream of two cells

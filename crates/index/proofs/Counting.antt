@@ -1,19 +1,19 @@
--- How many cells of a list pass a test, and how many of the sheet's cells: equal where the list holds those cells, each
--- once.
+-- Sums over the cells of a list that pass a test, and over the sheet's cells: equal where the list holds those cells,
+-- each once; counts as such sums.
 use mathlib.Core.Path.{_≡_, refl, sym, _∙_, ap}
 use mathlib.Core.Bool.{Bool, true, false, cond, true≢false}
 use mathlib.Core.List.{List, [], _∷_, List·Memᴰ, List·Memᴰ·head, List·Memᴰ·tail, List·Memᴰ·not-nil}
 use mathlib.Core.List.{List·Memᴰ·cases-cons}
 use mathlib.Core.Logic.{_⊎_, inl, inr, _≢_}
-use Prim.Native.Nat.{ℕ, suc, _<_}
+use Prim.Native.Nat.{ℕ, suc, _+_, _<_}
 use native.Mathlib.Omega.{arith}
 use lib.Dec.{eqb}
 use lib.ListN.{length}
 use borrow.Author.Tests.{eqb-false, eq-eqb, ne-eqb}
-use Rattle.sheet.specs.Area.{count}
+use Rattle.sheet.specs.Area.{count, sumOver}
 use Rattle.lookup.specs.Lookup.{counted}
 use Rattle.claims.proofs.Counts.{not-true}
-use Rattle.claims.proofs.Sums.{count-none, count-more}
+use Rattle.claims.proofs.Sums.{sum-zero, sum-more, count-sum}
 
 pub counted-none : (t : ℕ → Bool) (cs : List ℕ) → ((c : ℕ) → List·Memᴰ c cs → t c ≡ false) → counted t cs ≡ 0
 unfolding counted
@@ -50,36 +50,57 @@ except-true c u q e = go (eqb q c) refl e
     go true p h = absurd (true≢false (sym h))
     go false p h = (eqb-false q c p, h)
 
-pub counted-cells : (n : ℕ) (cs : List ℕ) (u t : ℕ → Bool) → Once cs → SameTests n cs u t → count n u ≡ counted t cs
-unfolding counted
-counted-cells n [] u t o r =
-    count-none n u (λ q l. not-true (u q) (λ e. List·Memᴰ·not-nil (r .listed q l e)))
-counted-cells n (c ∷ cs) u t (once-on d o) r = go (t c) refl (λ v. counted-cells n cs v t o)
+-- the sum of f over those cells of a list that pass a test
+unfoldable pub summed : (ℕ → Bool) → (ℕ → ℕ) → List ℕ → ℕ
+summed t f [] = 0
+summed t f (c ∷ cs) = let r = summed t f cs in cond (t c) (f c + r) r
+
+pub summed-cells : (n : ℕ) (cs : List ℕ) (u t : ℕ → Bool) (f : ℕ → ℕ) → Once cs → SameTests n cs u t
+    → sumOver n u f ≡ summed t f cs
+unfolding summed
+summed-cells n [] u t f o r =
+    sum-zero n u f
+    (λ q l. ap (λ (b : Bool). cond b (f q) 0) (not-true (u q) (λ e. List·Memᴰ·not-nil (r .listed q l e))))
+summed-cells n (c ∷ cs) u t f (once-on d o) r = go (t c) refl (λ v. summed-cells n cs v t f o)
   where
     rest : {q : ℕ} → (q ≡ c) ⊎ List·Memᴰ q cs → q ≢ c → List·Memᴰ q cs
-    rest (inl e) f = absurd (f e)
-    rest (inr m) f = m
+    rest (inl e) g = absurd (g e)
+    rest (inr m) g = m
 
-    go : (b : Bool) → t c ≡ b → ((v : ℕ → Bool) → SameTests n cs v t → count n v ≡ counted t cs)
-        → count n u ≡ cond b (suc (counted t cs)) (counted t cs)
-    go true e f =
+    go : (b : Bool) → t c ≡ b → ((v : ℕ → Bool) → SameTests n cs v t → sumOver n v f ≡ summed t f cs)
+        → sumOver n u f ≡ cond b (f c + summed t f cs) (summed t f cs)
+    go true e g =
         let now : u c ≡ true = r .same c (List·Memᴰ·head refl) ∙ e in
         let l : c < n = r .below c (List·Memᴰ·head refl) in
-        let fewer = f (except c u) (record {
+        let fewer = g (except c u) (record {
           below = λ q m. r .below q (List·Memᴰ·tail m);
           listed = λ q k h.
               let x = except-true c u q h in rest (List·Memᴰ·cases-cons (r .listed q k (x .1))) (x .0);
           same = λ q m.
               except-other c u q (λ p. d (rw p at m)) ∙ r .same q (List·Memᴰ·tail m);
         }) in
-        let more = count-more n (except c u) u c l (rw (eq-eqb c c refl) refl) now
+        let more = sum-more n (except c u) u f c l (rw (eq-eqb c c refl) refl) now
         (λ q k x. sym (except-other c u q x)) in
         omega (arith, more, fewer)
-    go false e f =
+    go false e g =
         let now : u c ≡ false = r .same c (List·Memᴰ·head refl) ∙ e in
-        f u (record {
+        g u (record {
           below = λ q m. r .below q (List·Memᴰ·tail m);
           listed = λ q k h.
               rest (List·Memᴰ·cases-cons (r .listed q k h)) (λ p. true≢false (sym h ∙ ap u p ∙ now));
           same = λ q m. r .same q (List·Memᴰ·tail m);
         })
+
+-- a count is such a sum
+summed-ones : (t : ℕ → Bool) (cs : List ℕ) → summed t (λ c. 1) cs ≡ counted t cs
+unfolding summed counted
+summed-ones t [] = refl
+summed-ones t (c ∷ cs) = go (t c) (summed-ones t cs)
+  where
+    go : (b : Bool) → summed t (λ c. 1) cs ≡ counted t cs
+        → cond b (1 + summed t (λ c. 1) cs) (summed t (λ c. 1) cs) ≡ cond b (suc (counted t cs)) (counted t cs)
+    go true h = omega arith
+    go false h = h
+
+pub counted-cells : (n : ℕ) (cs : List ℕ) (u t : ℕ → Bool) → Once cs → SameTests n cs u t → count n u ≡ counted t cs
+counted-cells n cs u t o r = count-sum n u ∙ summed-cells n cs u t (λ c. 1) o r ∙ summed-ones t cs

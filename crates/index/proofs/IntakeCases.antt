@@ -16,17 +16,17 @@ use Rattle.index.specs.declared.Indexed.the-variants.{Units, Refused}
 use Rattle.index.specs.Index.{LentIndex, lentIndex}
 use Rattle.index.specs.FromIntake.{intakeIndexed, intakeIndexAfter}
 
-abbrev one : Lent
+abbrev pub one : Lent
 one = lent (7 ∷ 7 ∷ []) (7 ∷ 7 ∷ []) (replicate 9 7)
 
-abbrev two : LentIndex
+abbrev pub two : LentIndex
 two = lentIndex (7 ∷ 7 ∷ []) (7 ∷ 7 ∷ []) (7 ∷ 7 ∷ [])
 
-abbrev sizes : Sizes
+abbrev pub sizes : Sizes
 sizes = record { rows = 1; cols = 1; depth = 1 }
 
 -- the direction byte and the weight of the row
-abbrev withWeight : ℕ → LentSheet
+abbrev pub withWeight : ℕ → LentSheet
 withWeight weight = lentSheet (1 ∷ []) (weight ∷ [])
 
 pub at-start : intakeIndexed (record { stage = WaitingForSizeNames }) (withWeight 1) one two ≡ Refused 15 0

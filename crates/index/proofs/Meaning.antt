@@ -166,7 +166,8 @@ module _ (S : Sheet) (L : Lent) (accepted : outcome S L ≡ Accepted) (I : LentI
         rw (named-outlet o ∙ sym outlet-at) at d
 
     -- the test of a unit's cells by digits and by the label that was written
-    same-test : (c : ℕ) → isOfUnit S (at k) c ≡ both (inside (S .grid) c) (eqb (labelAt labels c) (indexLabel index k))
+    pub same-test : (c : ℕ) → isOfUnit S (at k) c
+        ≡ both (inside (S .grid) c) (eqb (labelAt labels c) (indexLabel index k))
     same-test c = go (inside (S .grid) c) refl (eqb (labelAt labels c) (indexLabel index k)) refl
       where
         go : (s : Bool) → inside (S .grid) c ≡ s → (t : Bool) → eqb (labelAt labels c) (indexLabel index k) ≡ t
@@ -281,23 +282,24 @@ module _ (S : Sheet) (L : Lent) (accepted : outcome S L ≡ Accepted) (I : LentI
 -- ---- the index as the call wrote it
 
 -- what an accepted call comes to
-record IndexFilled (S : Sheet) (L : Lent) (I : LentIndex) (count : ℕ) : Type 0 where
-  accepted : outcome S L ≡ Accepted
-  all-units : count ≡ length (units S)
+pub record IndexFilled (S : Sheet) (L : Lent) (I : LentIndex) (count : ℕ) : Type 0 where
+  pub accepted : outcome S L ≡ Accepted
+  pub all-units : count ≡ length (units S)
+  pub fits : indexFits (length (units S)) I ≡ true
 
-index-filled : (S : Sheet) (L : Lent) (I : LentIndex) (count : ℕ) → indexed S L I ≡ Units count
+pub index-filled : (S : Sheet) (L : Lent) (I : LentIndex) (count : ℕ) → indexed S L I ≡ Units count
     → IndexFilled S L I count
 unfolding indexed indexedOn roomFor
 index-filled S L I count e = by-outcome (outcome S L) refl e
   where
-    by-room : outcome S L ≡ Accepted → (b : Bool) → cond b (Units (length (units S))) (Refused 3 0) ≡ Units count
-        → IndexFilled S L I count
-    by-room q true h = record { accepted = q; all-units = cc }
-    by-room q false h = let z : _≡_ {A = ℕ} 0 1 = cc in absurd (omega arith)
+    by-room : outcome S L ≡ Accepted → (b : Bool) → indexFits (length (units S)) I ≡ b
+        → cond b (Units (length (units S))) (Refused 3 0) ≡ Units count → IndexFilled S L I count
+    by-room q true f h = record { accepted = q; all-units = cc; fits = f }
+    by-room q false f h = let z : _≡_ {A = ℕ} 0 1 = cc in absurd (omega arith)
 
     by-outcome : (o : Outcome) → outcome S L ≡ o → indexedOn o (length (units S)) I ≡ Units count
         → IndexFilled S L I count
-    by-outcome Accepted q h = by-room q (indexFits (length (units S)) I) h
+    by-outcome Accepted q h = by-room q (indexFits (length (units S)) I) refl h
     by-outcome (NotLabelled number place) q h = let z : _≡_ {A = ℕ} 0 1 = cc in absurd (omega arith)
 
 directly : (S : Sheet) (L : Lent) (I : LentIndex) (L′ : Lent) (I′ : LentIndex) (count : ℕ)

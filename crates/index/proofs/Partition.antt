@@ -1,5 +1,6 @@
--- The counts of the units add up to the number of inside cells.
-use mathlib.Core.Path.{_≡_, refl, sym, _∙_}
+-- Sums over the cells of several units are those of the units' sums; the counts of the units add up to the number of
+-- inside cells.
+use mathlib.Core.Path.{_≡_, refl, sym, _∙_, ap}
 use mathlib.Core.Bool.{Bool, true, false, cond, true≢false}
 use mathlib.Core.List.{List, [], _∷_, map, List·Memᴰ, List·Memᴰ·head, List·Memᴰ·tail, List·Memᴰ·not-nil}
 use mathlib.Core.List.{List·Memᴰ·cases-cons}
@@ -7,23 +8,18 @@ use mathlib.Core.Logic.{_⊎_, inl, inr}
 use Prim.Native.Nat.{ℕ, _<_}
 use native.Mathlib.Omega.{arith}
 use Rattle.sheet.specs.Sheet.{Sheet, cells, inside}
-use Rattle.sheet.specs.Area.{count}
+use Rattle.sheet.specs.Area.{count, sumOver}
 use Rattle.sheet.specs.Label.{labelDigits}
 use Rattle.claims.specs.Bounds.{sum}
 use Rattle.claims.proofs.Counts.{not-true}
-use Rattle.claims.proofs.Sums.{Either, sum-either, count-sum, count-none, sum-same}
+use Rattle.claims.proofs.Sums.{Either, sum-either, sum-zero, count-sum, sum-same}
 use Rattle.claims.proofs.Dictionary.{before-irreflexive}
-use Rattle.index.specs.Units.{isOfUnit, unitCells, distinctLabels}
+use Rattle.index.specs.Units.{isOfUnit, isOfOne, unitCells, distinctLabels}
 use Rattle.index.proofs.LabelsRise.{LabelsRise, rise-on}
 use Rattle.index.proofs.Distinct.{among-rise, among-has}
 use Rattle.index.proofs.Outlets.{of-unit, unit-of}
 
--- c is a cell of one of the units
-unfoldable isOfOne : Sheet → List (List ℕ) → ℕ → Bool
-isOfOne S [] c = false
-isOfOne S (x ∷ xs) c = let rest = isOfOne S xs c in cond (isOfUnit S x c) true rest
-
-of-one : (S : Sheet) (xs : List (List ℕ)) (c : ℕ) → isOfOne S xs c ≡ true
+pub of-one : (S : Sheet) (xs : List (List ℕ)) (c : ℕ) → isOfOne S xs c ≡ true
     → (inside (S .grid) c ≡ true) × List·Memᴰ (labelDigits S c) xs
 unfolding isOfOne
 of-one S [] c e = absurd (true≢false (sym e))
@@ -70,23 +66,22 @@ split-units S n x xs (rise-on b w) = record {
     later q true h = refl
     later q false h = h
 
-sum-units : (S : Sheet) (xs : List (List ℕ)) → LabelsRise xs
-    → sum (λ m. m) (map (unitCells S) xs) ≡ count (cells (S .grid)) (isOfOne S xs)
-unfolding sum unitCells isOfOne
-sum-units S [] w = sym (count-none (cells (S .grid)) (isOfOne S []) (λ q l. refl))
-sum-units S (x ∷ xs) (rise-on b w) =
+-- the sum over the cells of units that rise is that of their sums
+pub sum-units : (S : Sheet) (f : ℕ → ℕ) (xs : List (List ℕ)) → LabelsRise xs
+    → sum (λ m. m) (map (λ x. sumOver (cells (S .grid)) (isOfUnit S x) f) xs)
+    ≡ sumOver (cells (S .grid)) (isOfOne S xs) f
+unfolding sum isOfOne
+sum-units S f [] w = sym (sum-zero (cells (S .grid)) (isOfOne S []) f (λ q l. refl))
+sum-units S f (x ∷ xs) (rise-on b w) =
     let n = cells (S .grid) in
     omega (
       arith,
-      sum-units S xs w,
-      count-sum n (isOfUnit S x),
-      count-sum n (isOfOne S xs),
-      count-sum n (isOfOne S (x ∷ xs)),
-      sum-either n (isOfOne S (x ∷ xs)) (isOfUnit S x) (isOfOne S xs) (λ q. 1) (split-units S n x xs (rise-on b w)),
+      sum-units S f xs w,
+      sum-either n (isOfOne S (x ∷ xs)) (isOfUnit S x) (isOfOne S xs) f (split-units S n x xs (rise-on b w)),
     )
 
 -- every inside cell is of one of the units, and no other cell is
-all-of-one : (S : Sheet) (q : ℕ) → q < cells (S .grid) → isOfOne S (distinctLabels S) q ≡ inside (S .grid) q
+pub all-of-one : (S : Sheet) (q : ℕ) → q < cells (S .grid) → isOfOne S (distinctLabels S) q ≡ inside (S .grid) q
 unfolding distinctLabels
 all-of-one S q l = go (inside (S .grid) q) refl
   where
@@ -94,10 +89,26 @@ all-of-one S q l = go (inside (S .grid) q) refl
     go true i = one-of S (distinctLabels S) q i (among-has S (cells (S .grid)) q l i)
     go false i = not-true _ (λ h. true≢false (sym (of-one S (distinctLabels S) q h .0) ∙ i))
 
+-- the sum over the cells of all units is that over all inside cells
+pub sum-all-units : (S : Sheet) (f : ℕ → ℕ)
+    → sumOver (cells (S .grid)) (isOfOne S (distinctLabels S)) f ≡ sumOver (cells (S .grid)) (inside (S .grid)) f
+sum-all-units S f = sum-same (cells (S .grid)) _ _ f f (all-of-one S) (λ q l. refl)
+
+-- counts of cells as such sums
+cells-sum : (S : Sheet) (x : List ℕ) → unitCells S x ≡ sumOver (cells (S .grid)) (isOfUnit S x) (λ q. 1)
+unfolding unitCells
+cells-sum S x = count-sum (cells (S .grid)) (isOfUnit S x)
+
+cells-sums : (S : Sheet) (xs : List (List ℕ))
+    → map (unitCells S) xs ≡ map (λ x. sumOver (cells (S .grid)) (isOfUnit S x) (λ q. 1)) xs
+cells-sums S [] = refl
+cells-sums S (x ∷ xs) = let e = cells-sum S x in let r = cells-sums S xs in λ i. e i ∷ r i
+
 pub counts-add : (S : Sheet)
     → sum (λ m. m) (map (unitCells S) (distinctLabels S)) ≡ count (cells (S .grid)) (inside (S .grid))
 unfolding distinctLabels
 counts-add S =
     let n = cells (S .grid) in
-    sum-units S (distinctLabels S) (among-rise S n) ∙ count-sum n (isOfOne S (distinctLabels S))
-    ∙ sum-same n _ _ (λ q. 1) (λ q. 1) (all-of-one S) (λ q l. refl) ∙ sym (count-sum n (inside (S .grid)))
+    ap (sum (λ m. m)) (cells-sums S (distinctLabels S))
+    ∙ sum-units S (λ q. 1) (distinctLabels S) (among-rise S n) ∙ sum-all-units S (λ q. 1)
+    ∙ sym (count-sum n (inside (S .grid)))

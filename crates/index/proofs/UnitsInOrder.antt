@@ -99,12 +99,14 @@ module _ (S : Sheet) (L : Lent) (old : List ℕ) {areas work : List ℕ} {queued
       stand-once cs
       (λ i j l k e. order .once i j (omega arith) (omega (arith, long)) (omega arith) (omega (arith, long)) e)
 
-  groups : GroupsOf label cs (grouped label cs)
-  groups =
-      groups-of label cs
-      (never-fall label cs
+  pub falls : NeverFall label cs
+  falls =
+      never-fall label cs
       (λ i l. told (getD cs i 0) (order .are-inside i (omega arith) (omega (arith, long))))
-      (λ i j l k. order .never-fall i j (omega arith) l (omega (arith, long))))
+      (λ i j l k. order .never-fall i j (omega arith) l (omega (arith, long)))
+
+  groups : GroupsOf label cs (grouped label cs)
+  groups = groups-of label cs falls
 
   -- an entry's first cell is inside, and has its label
   entry-inside : (e : UnitEntry) → List·Memᴰ e (grouped label cs) → Inside S (e .outlet)
@@ -116,7 +118,7 @@ module _ (S : Sheet) (L : Lent) (old : List ℕ) {areas work : List ℕ} {queued
   entry-named e m =
       sym (digits-written S L accepted (e .outlet) (entry-inside e m)) ∙ ap digitsOf (groups .each e m .named)
 
-  same-digits : map entryDigits (grouped label cs) ≡ distinctLabels S
+  pub same-digits : map entryDigits (grouped label cs) ≡ distinctLabels S
   unfolding distinctLabels
   same-digits =
       same-labels _ _ (groups .rise) (among-rise S (cells (S .grid)))
@@ -148,7 +150,7 @@ module _ (S : Sheet) (L : Lent) (old : List ℕ) {areas work : List ℕ} {queued
   entry-told e m = rw (groups .each e m .named) at (told (e .outlet) (entry-inside e m))
 
   -- a listed cell is of an entry's unit exactly if it has its label
-  same-test : (e : UnitEntry) → List·Memᴰ e (grouped label cs) → (c : ℕ) → List·Memᴰ c cs
+  pub same-test : (e : UnitEntry) → List·Memᴰ e (grouped label cs) → (c : ℕ) → List·Memᴰ c cs
       → isOfUnit S (entryDigits e) c ≡ eqb (label c) (e .label)
   same-test e m c k = go (eqb (label c) (e .label)) refl
     where

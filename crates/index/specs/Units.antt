@@ -43,6 +43,12 @@ unfoldable pub isOfUnit : Sheet → List ℕ → ℕ → Bool
 unfolding inside labelDigits sameDigits
 isOfUnit S x c = both (inside (S .grid) c) (sameDigits (labelDigits S c) x)
 
+-- c is a cell of one of these units
+unfoldable pub isOfOne : Sheet → List (List ℕ) → ℕ → Bool
+unfolding isOfUnit
+isOfOne S [] c = false
+isOfOne S (x ∷ xs) c = let rest = isOfOne S xs c in cond (isOfUnit S x c) true rest
+
 -- the water of a cell goes to no cell of the unit x
 unfoldable pub leavesUnit : Sheet → List ℕ → ℕ → Bool
 unfolding next onward isOfUnit

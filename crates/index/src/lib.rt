@@ -22,7 +22,7 @@ pub enum Indexed {
 
 // The index of a sheet whose labelling came to `found`: refused as labelling was, else filled from the order along
 // rivers in the work places.
-fn index_in_order(
+pub fn index_in_order(
     found: Inspection,
     n: usize,
     work: &[u32],

@@ -1,6 +1,6 @@
-/* Times the proved labelling call against the plain C baseline, the index call against the labelling call, and check 4
-   by words against check 4 by bytes, on the same sheets in one run, then the call for many pairs of labels, and prints
-   the ratios. */
+/* Times the proved labelling call against the plain C baseline, the index call against the labelling call, the levy
+   call against the index call, and check 4 by words against check 4 by bytes, on the same sheets in one run, then the
+   call for many pairs of labels, and prints the ratios. */
 #include <stdint.h>
 #include <stdio.h>
 #include <stdlib.h>
@@ -11,7 +11,8 @@
 #include "time_pairs.h"
 
 static uint32_t baseline_areas[CELLS], index_areas[CELLS];
-static uint64_t baseline_labels[CELLS], index_labels[CELLS];
+static uint64_t baseline_labels[CELLS], index_labels[CELLS], dues[CELLS];
+static const uint64_t total = 100000000000; /* cents, the largest total of the levy call */
 
 static uint64_t proved(int side, int depth) {
     size_t n = (size_t)side * side;
@@ -22,6 +23,12 @@ static uint64_t indexed(int side, int depth) {
     size_t n = (size_t)side * side;
     return pf_index(side, side, depth, dirs, n, weights, side, index_areas, n, index_labels, n, work, 8 * n, units, n,
                     outlets, n, counts, n);
+}
+
+static uint64_t levied(int side, int depth) {
+    size_t n = (size_t)side * side;
+    return pf_levy(side, side, depth, dirs, n, weights, side, index_areas, n, index_labels, n, work, 8 * n, units, n,
+                   outlets, n, counts, n, total, dues, n);
 }
 
 /* Of the crate benchmark: the first cell of a sheet whose byte is none of the nine codes, or its number of cells. */
@@ -79,21 +86,44 @@ static void weighted_against_baseline(void) {
     weights_of_1();
 }
 
-static void index_against_label(void) {
-    printf("\ntime of the index call / time of the labelling call, 256 x 256, depth 18, weights 1 "
-           "(milliseconds of each; units)\n");
+static void index_against_label(const char *name) {
+    uint64_t a = indexed(SIDE, 18), b = proved(SIDE, 18);
+    if (a % 256 != 0 || b != 0 || memcmp(index_areas, areas, sizeof areas)
+        || memcmp(index_labels, labels, sizeof labels)) {
+        printf("%s: areas or labels of the index call differ\n", name);
+        exit(1);
+    }
+    double p, q;
+    least_times(indexed, proved, SIDE, 18, &p, &q);
+    printf("%-7s index / label  %.2f  (%.2f / %.2f; %u)\n", name, p / q, p * 1e3, q * 1e3, (unsigned)(a / 256));
+}
+
+/* Do the dues of so many units add up to the total? */
+static int add_up(size_t count) {
+    uint64_t sum = 0;
+    for (size_t k = 0; k < count; k++) sum += dues[k];
+    return sum == total;
+}
+
+static void levy_against_index(const char *name) {
+    memset(dues, 0, sizeof dues);
+    uint64_t a = levied(SIDE, 18), b = indexed(SIDE, 18);
+    if (a % 256 != 0 || a != b || !add_up(a / 256)) {
+        printf("%s: not the answer of the index call, or dues that do not add up to the total\n", name);
+        exit(1);
+    }
+    double p, q;
+    least_times(levied, indexed, SIDE, 18, &p, &q);
+    printf("%-7s levy / index   %.2f  (%.2f / %.2f; %u)\n", name, p / q, p * 1e3, q * 1e3, (unsigned)(a / 256));
+}
+
+static void index_and_levy(void) {
+    printf("\ntime of the index call / time of the labelling call, and of the levy call / of the index call, "
+           "256 x 256, depth 18, weights 1 (milliseconds of each; units)\n");
     for (size_t s = 0; s < SHAPES; s++) {
         shapes[s].make(SIDE);
-        uint64_t a = indexed(SIDE, 18), b = proved(SIDE, 18);
-        if (a % 256 != 0 || b != 0 || memcmp(index_areas, areas, sizeof areas)
-            || memcmp(index_labels, labels, sizeof labels)) {
-            printf("%s: areas or labels of the index call differ\n", shapes[s].name);
-            exit(1);
-        }
-        double p, q;
-        least_times(indexed, proved, SIDE, 18, &p, &q);
-        printf("%-7s index / label  %.2f  (%.2f / %.2f; %u)\n", shapes[s].name, p / q, p * 1e3, q * 1e3,
-               (unsigned)(a / 256));
+        index_against_label(shapes[s].name);
+        levy_against_index(shapes[s].name);
     }
 }
 
@@ -134,7 +164,7 @@ int main(void) {
     weights_of_1();
     label_against_baseline();
     weighted_against_baseline();
-    index_against_label();
+    index_and_levy();
     words_against_bytes();
     time_a_cell();
     pairs_against_plain();

@@ -35,6 +35,19 @@ uint64_t pf_index(size_t rows, size_t cols, size_t depth, const uint8_t *dirs, s
                   uint32_t *work, size_t work_len, uint64_t *units, size_t units_len, uint32_t *outlets,
                   size_t outlets_len, uint32_t *counts, size_t counts_len);
 
+/* Shares a total of whole cents among the units of a sheet's index by the weights of their cells. The call is
+   pf_index's with the total, 0 to 100,000,000,000 cents, and a fourth slice that needs one place for each unit, dues.
+   With S(k) the summed weight of the cells of the first k units and A that of all inside cells, dues[k - 1] is the
+   whole part of total x S(k) / A, less the whole part of total x S(k - 1) / A. The dues add up to the total, and each
+   lies less than one cent from its exact share, total x (weight of the unit's cells) / A. Returns as pf_index does; the
+   refusals are 18 (a larger total; nothing at all is written), then those of pf_label, then 3 if one of the four slices
+   is too short. Refused, no place of the four slices is written. */
+uint64_t pf_levy(size_t rows, size_t cols, size_t depth, const uint8_t *dirs, size_t dirs_len, const uint16_t *weights,
+                 size_t weights_len, uint32_t *areas, size_t areas_len, uint64_t *labels, size_t labels_len,
+                 uint32_t *work, size_t work_len, uint64_t *units, size_t units_len, uint32_t *outlets,
+                 size_t outlets_len, uint32_t *counts, size_t counts_len, uint64_t total, uint64_t *dues,
+                 size_t dues_len);
+
 /* Finds the labels that begin with the leading digits (0 for none) in a slice that rises strictly in dictionary order,
    such as the labels of an index. Returns 0: they are the labels from start on, length of them; where there are none,
    length is 0 and start is the place that they would take. Or returns a refusal, and start and length are 0: 11 if the

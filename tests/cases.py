@@ -2,7 +2,8 @@
 # direct call.
 #
 # A file can get refusals 1 to 10, 14 and 17. It cannot get
-#   11, 12 and 16: they belong to the flow question, the outlet question and the lookup, of which the program makes no use;
+#   11, 12, 16 and 18: they belong to the flow question, the outlet question, the lookup and the levy, of which the
+#   program makes no use;
 #   13: the program hands over no line and no end after the end;
 #   15: the program labels only after the intake has accepted the end.
 # Nor can it get 1 to 4 or 17 from labelling, since the intake has refused such sizes, directions and weights before;
@@ -14,7 +15,7 @@ import pathlib
 import sys
 
 sys.dont_write_bytecode = True
-from reference import (Intake, first_bad, flow, flow_pairs, index, index_intake, label, label_intake, lookup,
+from reference import (Intake, first_bad, flow, flow_pairs, index, index_intake, label, label_intake, levy, lookup,
                        outlet_flow, report, take_end, take_line)
 
 CASES = pathlib.Path(__file__).resolve().parent / 'cases'
@@ -182,6 +183,42 @@ INDEXES = [
     ('17 before 3 of the index', 1, 1, 1, bytes([1]), [1001], 1, 1, 8, 0, 0, 0, 17, 0, None),
 ]
 
+# Three cells of row 0 and two of row 2 come together at the cell in row 1, column 0. At depth 1 the label of that cell
+# is 1; those of the streams are 2 and 3, the heavier the larger.
+NORTH_AND_SOUTH = bytes([0, 8, 16, 16, 16, 0, 0, 0, 0, 32, 16, 0])
+
+MOST = 100000000000  # cents of a levy
+
+# (name, rows, cols, depth, directions, weights, areas, labels, work places, labels, outlets and counts of units, total,
+# dues of units; number, place, dues)
+LEVIES = [
+    ('sample A', 3, 4, 2, SAMPLE_A, ONES, 12, 12, 96, 9, 9, 9, 100, 9, 0, 0, [9, 9, 9, 9, 9, 18, 9, 9, 19]),
+    ('sample A at depth 1', 3, 4, 1, SAMPLE_A, ONES, 12, 12, 96, 7, 7, 7, 100, 7, 0, 0, [9, 9, 9, 9, 9, 18, 37]),
+    ('the total 0', 3, 4, 2, SAMPLE_A, ONES, 12, 12, 96, 9, 9, 9, 0, 9, 0, 0, [0] * 9),
+    ('one cent', 3, 4, 2, SAMPLE_A, ONES, 12, 12, 96, 9, 9, 9, 1, 9, 0, 0, [0] * 8 + [1]),
+    ('a cent for each cell', 3, 4, 2, SAMPLE_A, ONES, 12, 12, 96, 9, 9, 9, 11, 9, 0, 0, [1, 1, 1, 1, 1, 2, 1, 1, 2]),
+    ('the largest total', 3, 4, 1, SAMPLE_A, ONES, 12, 12, 96, 7, 7, 7, MOST, 7, 0, 0,
+     [9090909090, 9090909091, 9090909091, 9090909091, 9090909091, 18181818182, 36363636364]),
+    ('by weights', 3, 4, 1, NORTH_AND_SOUTH, [2, 5, 3], 12, 12, 96, 3, 3, 3, 17, 3, 0, 0, [5, 6, 6]),
+    ('equal weights', 3, 4, 1, NORTH_AND_SOUTH, [2, 5, 3], 12, 12, 96, 3, 3, 3, 100, 3, 0, 0, [29, 35, 36]),
+    ('a row without an inside cell', 2, 2, 1, bytes([0, 0, 16, 16]), [9, 3], 4, 4, 32, 1, 1, 1, 7, 1, 0, 0, [7]),
+    ('1 by 1, code 1', 1, 1, 1, bytes([1]), [1000], 1, 1, 8, 1, 1, 1, MOST, 1, 0, 0, [MOST]),
+    ('one cent too much', 1, 1, 1, bytes([1]), ONES, 1, 1, 8, 1, 1, 1, MOST + 1, 1, 18, 0, None),
+    ('the largest number', 1, 1, 1, bytes([1]), ONES, 1, 1, 8, 1, 1, 1, 2 ** 64 - 1, 1, 18, 0, None),
+    ('18 before 1', 257, 1, 1, bytes([4] * 257), ONES, 257, 257, 2056, 1, 1, 1, MOST + 1, 1, 18, 0, None),
+    ('18 before 2', 1, 1, 19, bytes([1]), ONES, 1, 1, 8, 1, 1, 1, MOST + 1, 1, 18, 0, None),
+    ('18 before 3', 1, 1, 1, b'', [], 0, 0, 0, 0, 0, 0, MOST + 1, 0, 18, 0, None),
+    ('18 before 17', 1, 1, 1, bytes([1]), [0], 1, 1, 8, 1, 1, 1, MOST + 1, 1, 18, 0, None),
+    ('18 before 7', 1, 2, 1, bytes([16, 1]), ONES, 2, 2, 16, 1, 1, 1, MOST + 1, 1, 18, 0, None),
+    ('18 before 3 of the dues', 1, 1, 1, bytes([1]), ONES, 1, 1, 8, 1, 1, 1, MOST + 1, 0, 18, 0, None),
+    ('one unit too few', 3, 4, 2, SAMPLE_A, ONES, 12, 12, 96, 8, 9, 9, 100, 9, 3, 0, None),
+    ('one outlet too few', 3, 4, 2, SAMPLE_A, ONES, 12, 12, 96, 9, 8, 9, 100, 9, 3, 0, None),
+    ('one count too few', 3, 4, 2, SAMPLE_A, ONES, 12, 12, 96, 9, 9, 8, 100, 9, 3, 0, None),
+    ('one due too few', 3, 4, 2, SAMPLE_A, ONES, 12, 12, 96, 9, 9, 9, 100, 8, 3, 0, None),
+    ('17 before 3 of the dues', 1, 1, 1, bytes([1]), [1001], 1, 1, 8, 1, 1, 1, 100, 0, 17, 0, None),
+    ('7 before 3 of the dues', 1, 2, 1, bytes([16, 1]), ONES, 2, 2, 16, 1, 1, 1, 100, 0, 7, 1, None),
+]
+
 LABELS = [label for label, outlet, count in SAMPLE_A_UNITS]
 
 # (name, leading digits, labels; number, start, length)
@@ -247,6 +284,18 @@ def index_checks():
     yield 'index: the example in C', INDEX_EXAMPLE.read_text().splitlines()[1:-1], lines
 
 
+def levy_checks():
+    for name, *arguments, number, place, dues in LEVIES:
+        got, total = levy(*arguments), arguments[-2]
+        yield 'levy: ' + name, (*got[:2], got[5]), (number, place, dues)
+        if number != 18:
+            yield 'levy, areas and labels: ' + name, got[2:4], label(*arguments[:-5])[2:]
+        if number == 0:
+            yield 'levy, units: ' + name, got[4], index(*arguments[:-2])[4]
+            yield 'levy, the sum: ' + name, sum(dues), total
+    yield 'levy: 18 writes nothing', levy(3, 4, 2, SAMPLE_A, ONES, 12, 12, 96, 9, 9, 9, MOST + 1, 9)[2:], (None,) * 4
+
+
 def lookup_checks():
     for name, leading, labels, *answer in LOOKUPS:
         yield 'lookup: ' + name, lookup(leading, labels), tuple(answer)
@@ -265,10 +314,6 @@ def sample_checks():
     cut = [0, 8, 8, 9, 1, 3, 9, 9, 2, 4, 6, 9]
     yield 'label: sample A at depth 1', label(3, 4, 1, SAMPLE_A, ONES, 12, 12, 96), (0, 0, areas, cut)
     yield 'label: 1 by 1, code 1', label(1, 1, 1, bytes([1]), ONES, 1, 1, 8), (0, 0, [1], [0])
-
-
-# Three cells of row 0 and two of row 2 come together at the cell in row 1, column 0.
-NORTH_AND_SOUTH = bytes([0, 8, 16, 16, 16, 0, 0, 0, 0, 32, 16, 0])
 
 
 def weight_checks():
@@ -360,7 +405,7 @@ def main():
     files = list(file_checks())
     checks = files + [('there are stored cases', len(files) > 0, True)]
     checks += [*flow_checks(), *pair_checks(), *sheet_checks(), *word_checks(), *sample_checks(), *weight_checks()]
-    checks += [*index_checks(), *lookup_checks(), *intake_checks(), *intake_weight_checks()]
+    checks += [*index_checks(), *levy_checks(), *lookup_checks(), *intake_checks(), *intake_weight_checks()]
     checks += [*intake_withdrawal_checks()]
     failures = [check for check in checks if check[1] != check[2]]
     for name, got, expected in failures:

@@ -2,6 +2,7 @@
 # Written from documents 01 and 02 alone, by lists, sorting and text. Refusals are their numbers; 0 means accepted.
 
 import sys
+from itertools import accumulate
 from typing import NamedTuple
 
 # Direction codes with their steps in rows and columns.
@@ -11,6 +12,7 @@ MAX_SIDE = 256
 MAX_DEPTH = 18
 MAX_TAKEN = 4  # mouths taken from a unit
 MAX_WEIGHT = 1000
+MAX_TOTAL = 100_000_000_000  # cents of a levy
 LENT = 2048  # direction bytes that the program lends
 LENT_WEIGHTS = 256  # weights that the program lends
 WORK = 8  # work places for each cell
@@ -196,6 +198,40 @@ def lookup(leading, labels):
     if found:
         return 0, found[0], len(found)
     return 0, sorted([*entries, leading]).index(leading), 0
+
+# The levy.
+
+def unit_weights(rows, cols, dirs, weights, labels):
+    """The summed weight of the cells of each unit of an accepted sheet, in the order of `units_of`."""
+    sums = {}
+    for cell in range(rows * cols):
+        if dirs[cell] != OUTSIDE:
+            digits = digits_of(labels[cell])
+            sums[digits] = sums.get(digits, 0) + weights[cell // cols]
+    return [sums[digits] for digits in sorted(sums)]
+
+def dues_of(total, summed):
+    """What each unit owes of the total; `summed` are the weights of the units."""
+    whole = sum(summed)
+    owed = [total * first // whole for first in [0, *accumulate(summed)]]  # by the first k units together
+    return [after - before for before, after in zip(owed, owed[1:])]
+
+def levy_after(labelled, rows, cols, dirs, weights, units_len, outlets_len, counts_len, total, dues_len):
+    """What `levy` gives where labelling gives `labelled`."""
+    if total > MAX_TOTAL:
+        return 18, 0, None, None, None, None
+    number, place, areas, labels, units = index_after(labelled, rows, cols, dirs, units_len, outlets_len, counts_len)
+    if number == 0 and dues_len < len(units):
+        number, units = 3, None
+    dues = dues_of(total, unit_weights(rows, cols, dirs, weights, labels)) if number == 0 else None
+    return number, place, areas, labels, units, dues
+
+def levy(rows, cols, depth, dirs, weights, areas_len, labels_len, work_len, units_len, outlets_len, counts_len, total,
+         dues_len):
+    """Indexes and shares a total: (number, place, areas, labels, units, dues). Refused, units and dues are None; by 18
+    or by labelling, the others too."""
+    labelled = label(rows, cols, depth, dirs, weights, areas_len, labels_len, work_len)
+    return levy_after(labelled, rows, cols, dirs, weights, units_len, outlets_len, counts_len, total, dues_len)
 
 # The flow question and the outlet question.
 

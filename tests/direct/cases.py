@@ -8,6 +8,7 @@ before the call; the answer (0, or refusal number + 256 x place); areas, labels 
 weights must stay as they are.
 'I', the index: the same with three slices more, the labels, outlets and counts of units; accepted, the answer is
 256 x the number of units.
+'V', the levy: the total, then the same as for the index with one slice more, the dues of units.
 'P', a lookup: the leading digits, the length of the label slice, the slice, start and length before; the answer, start
 and length after.
 'F', the flow question: depth, p, q, the answer.
@@ -31,6 +32,7 @@ sys.dont_write_bytecode = True
 sys.path.insert(0, os.path.join(os.path.dirname(os.path.abspath(__file__)), '..'))
 import fuzz
 import lent_weights
+import levies
 import lookups
 import outlets
 import pairs
@@ -41,6 +43,7 @@ import words
 PLACE = 256  # an answer is number + 256 x place
 LABEL_WIDTHS = [4, 8, 4]  # bytes of a place of areas, labels, work places
 INDEX_WIDTHS = [8, 4, 4]  # of labels, outlets, counts of units
+DUES_WIDTH = 8
 SAMPLE_A = [0, 4, 16, 8, 16, 16, 16, 16, 64, 64, 32, 64]
 
 # The kinds of cases of each call, and how many of each were made.
@@ -51,6 +54,7 @@ REFUSED_FLOWS = [REFUSED % number for number in (2, 11, 12)]
 tally = {
     'pf_label': dict.fromkeys(LABEL_KINDS, 0),
     'pf_index': dict.fromkeys(INDEX_KINDS, 0),
+    'pf_levy': dict.fromkeys(levies.KINDS, 0),
     'weights': dict.fromkeys(lent_weights.KINDS, 0),
     'pf_lookup': dict.fromkeys(lookups.KINDS, 0),
     'pf_flow': dict.fromkeys([*reference.ANSWERS] + REFUSED_FLOWS, 0),
@@ -255,6 +259,30 @@ def large_sheets(out, rng):
     return indexes
 
 
+# Levies.
+
+def levy_case(out, rng, call):
+    sheet, dirs, lent, lengths, labelled = call.sheet[:5]
+    rows, cols, depth = sheet
+    *rooms, dues_room = call.rooms
+    number, place, areas, labels, units, dues = reference.levy_after(labelled, rows, cols, dirs, lent, *rooms,
+                                                                     call.total, dues_room)
+    before = rubbish(rng, LABEL_WIDTHS + INDEX_WIDTHS + [DUES_WIDTH], [*lengths, *call.rooms])
+    after = before if number == 18 else labelled_places(sheet, labelled, *before[:3]) + before[3:]
+    answer = number + PLACE * place
+    if number == 0:
+        answer = PLACE * len(units)
+        after[3:] = [written(places, values) for places, values in zip(before[3:], [*zip(*units), dues])]
+    write_case(out, b'V' + numbers([call.total]), sheet, dirs, lent, before, answer, after)
+    for kind in levies.kinds(call, number, dues):
+        tally['pf_levy'][kind] += 1
+
+
+def levy_cases(out, rng, count):
+    for call in levies.questions(rng, count):
+        levy_case(out, rng, call)
+
+
 # Questions about labels.
 
 def flow_cases(out, depth, p, q):
@@ -344,6 +372,8 @@ def main():
     parser.add_argument('--lookups', type=int, default=20000, help='random lookups')
     parser.add_argument('--words', type=int, default=20000, help='random words')
     parser.add_argument('--pairs', type=int, default=200000, help='random pairs of labels, of calls with many pairs')
+    parser.add_argument('--levies', type=int, default=2000,
+                        help='random sheets that labelling accepts, each with six totals and more, for pf_levy')
     parser.add_argument('--seed', type=int, default=1)
     options = parser.parse_args()
     rng = random.Random(options.seed)
@@ -359,6 +389,7 @@ def main():
     word_questions(out, rng, options.words)
     word_sheets(out, rng)
     pair_questions(out, rng, options.pairs, indexes)
+    levy_cases(out, rng, options.levies)
     out.flush()
     for call, kinds in tally.items():
         print('%s: %s' % (call, ', '.join('%s %d' % kind for kind in kinds.items())), file=sys.stderr)

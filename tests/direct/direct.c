@@ -1,7 +1,8 @@
-/* Calls pf_label, pf_index, pf_lookup, pf_flow, pf_flow_pairs, pf_outlet_flow and pf_first_bad on the cases that come
-   on standard input, and compares the answer and every place of every lent slice afterwards with what is expected; on
-   the labels of a sheet also the answers of pf_flow with those of pf_outlet_flow. The cases are made by
-   tests/direct/cases.py, which also says how they are laid out. */
+/* Calls pf_label, pf_index, pf_levy, pf_lookup, pf_flow, pf_flow_pairs, pf_outlet_flow and pf_first_bad on the cases
+   that come on standard input, and compares the answer and every place of every lent slice afterwards with what is
+   expected; on the labels of a sheet also the answers of pf_flow with those of pf_outlet_flow, and the dues of pf_levy
+   with the total and with the weights of the cells. The cases are made by tests/direct/cases.py, which also says how
+   they are laid out. */
 #include <inttypes.h>
 #include <stdint.h>
 #include <stdio.h>
@@ -58,35 +59,107 @@ static int as_expected(uint64_t which, struct lent *lent) {
     return good;
 }
 
-/* A call of pf_label, or of pf_index, which has three slices more. Directions and weights must stay as they are. */
-static int sheet_case(uint64_t which, int is_index) {
-    enum { DIRS, WEIGHTS, AREAS, LABELS, WORK, UNITS, OUTLETS, COUNTS, OF_INDEX, READ_ONLY = AREAS, OF_LABEL = UNITS };
-    struct lent lent[] = {{.name = "directions", .width = 1}, {.name = "weights", .width = 2},
-                          {.name = "areas", .width = 4}, {.name = "labels", .width = 8},
-                          {.name = "work places", .width = 4}, {.name = "labels of units", .width = 8},
-                          {.name = "outlets of units", .width = 4}, {.name = "counts of units", .width = 4}};
-    int count = is_index ? OF_INDEX : OF_LABEL, good;
-    uint64_t rows = number(), cols = number(), depth = number(), expected, answer;
-    for (int i = 0; i < count; i++) lent[i].length = number();
-    for (int i = 0; i < count; i++) lent[i].places = slice(lent[i].width * lent[i].length);
-    expected = number();
+/* The slices that are lent with a sheet: those of pf_label, then three of pf_index, then one of pf_levy. */
+enum { DIRS, WEIGHTS, AREAS, LABELS, WORK, UNITS, OUTLETS, COUNTS, DUES, OF_LEVY, READ_ONLY = AREAS, OF_LABEL = UNITS,
+       OF_INDEX = DUES };
+
+#define LENT(slice) lent[slice].places, lent[slice].length
+
+/* A sheet with its lent slices; the total is that of a levy. */
+struct sheet {
+    uint64_t rows, cols, depth, total;
+    struct lent lent[OF_LEVY];
+};
+
+/* A unit, the summed weight of its cells and its due. */
+struct share {
+    uint64_t label, weight, due;
+};
+
+static int by_label(const void *first, const void *second) {
+    uint64_t a = ((const struct share *)first)->label, b = ((const struct share *)second)->label;
+    return (a > b) - (a < b);
+}
+
+/* The units that a call wrote, so many of them, with their dues, and with their weights by the labels that it wrote; in
+   rising order of the labels as numbers. Also the weight of all inside cells. */
+static struct share *shares_of(const struct sheet *sheet, uint64_t count, uint64_t *whole) {
+    const uint8_t *dirs = sheet->lent[DIRS].expected;
+    const uint16_t *weights = sheet->lent[WEIGHTS].expected;
+    const uint64_t *labels = sheet->lent[LABELS].places, *units = sheet->lent[UNITS].places;
+    const uint64_t *dues = sheet->lent[DUES].places;
+    struct share *shares = malloc(count * sizeof *shares);
+    if (shares == NULL) exit(2);
+    for (uint64_t k = 0; k < count; k++) shares[k] = (struct share){.label = units[k], .due = dues[k]};
+    qsort(shares, count, sizeof *shares, by_label);
+    *whole = 0;
+    for (uint64_t cell = 0; cell < sheet->rows * sheet->cols; cell++) {
+        if (dirs[cell] == 0) continue;
+        struct share sought = {.label = labels[cell]};
+        struct share *found = bsearch(&sought, shares, count, sizeof *shares, by_label);
+        if (found != NULL) found->weight += weights[cell / sheet->cols];
+        *whole += weights[cell / sheet->cols];
+    }
+    return shares;
+}
+
+/* Do the dues of an accepted levy add up to its total, and does each lie less than one cent from its exact share? The
+   first few that do not are told. */
+static int shares_good(uint64_t which, const struct sheet *sheet, uint64_t count) {
+    uint64_t whole, differences = 0;
+    struct share *shares = shares_of(sheet, count, &whole);
+    unsigned __int128 sum = 0;
+    for (uint64_t k = 0; k < count; k++) {
+        unsigned __int128 due = (unsigned __int128)whole * shares[k].due;
+        unsigned __int128 exact = (unsigned __int128)sheet->total * shares[k].weight;
+        sum += shares[k].due;
+        if ((due > exact ? due - exact : exact - due) < whole || differences++ >= TOLD) continue;
+        printf("case %" PRIu64 ", pf_levy: label %" PRIu64 " of weight %" PRIu64 " in %" PRIu64 " owes %" PRIu64
+               " of %" PRIu64 "\n", which, shares[k].label, shares[k].weight, whole, shares[k].due, sheet->total);
+    }
+    if (sum != sheet->total) printf("case %" PRIu64 ", pf_levy: the dues do not add up to the total\n", which);
+    free(shares);
+    return differences == 0 && sum == sheet->total;
+}
+
+/* A call with so many slices. */
+static uint64_t call_with(struct sheet *sheet, int slices) {
+    struct lent *lent = sheet->lent;
+    uint64_t rows = sheet->rows, cols = sheet->cols, depth = sheet->depth;
+    if (slices == OF_LABEL)
+        return pf_label(rows, cols, depth, LENT(DIRS), LENT(WEIGHTS), LENT(AREAS), LENT(LABELS), LENT(WORK));
+    if (slices == OF_INDEX)
+        return pf_index(rows, cols, depth, LENT(DIRS), LENT(WEIGHTS), LENT(AREAS), LENT(LABELS), LENT(WORK),
+                        LENT(UNITS), LENT(OUTLETS), LENT(COUNTS));
+    return pf_levy(rows, cols, depth, LENT(DIRS), LENT(WEIGHTS), LENT(AREAS), LENT(LABELS), LENT(WORK), LENT(UNITS),
+                   LENT(OUTLETS), LENT(COUNTS), sheet->total, LENT(DUES));
+}
+
+/* A call of pf_label, pf_index or pf_levy, told by its number of slices. Directions and weights must stay as they
+   are. */
+static int sheet_case(uint64_t which, int slices) {
+    struct sheet sheet = {.lent = {{.name = "directions", .width = 1}, {.name = "weights", .width = 2},
+                                   {.name = "areas", .width = 4}, {.name = "labels", .width = 8},
+                                   {.name = "work places", .width = 4}, {.name = "labels of units", .width = 8},
+                                   {.name = "outlets of units", .width = 4}, {.name = "counts of units", .width = 4},
+                                   {.name = "dues of units", .width = 8}}};
+    struct lent *lent = sheet.lent;
+    if (slices == OF_LEVY) sheet.total = number();
+    sheet.rows = number(), sheet.cols = number(), sheet.depth = number();
+    for (int i = 0; i < slices; i++) lent[i].length = number();
+    for (int i = 0; i < slices; i++) lent[i].places = slice(lent[i].width * lent[i].length);
+    uint64_t expected = number();
     for (int i = 0; i < READ_ONLY; i++) lent[i].expected = copy(lent[i].places, lent[i].width * lent[i].length);
-    for (int i = READ_ONLY; i < count; i++) lent[i].expected = slice(lent[i].width * lent[i].length);
-    if (is_index)
-        answer = pf_index(rows, cols, depth, lent[DIRS].places, lent[DIRS].length, lent[WEIGHTS].places,
-                          lent[WEIGHTS].length, lent[AREAS].places, lent[AREAS].length, lent[LABELS].places,
-                          lent[LABELS].length, lent[WORK].places, lent[WORK].length, lent[UNITS].places,
-                          lent[UNITS].length, lent[OUTLETS].places, lent[OUTLETS].length, lent[COUNTS].places,
-                          lent[COUNTS].length);
-    else
-        answer = pf_label(rows, cols, depth, lent[DIRS].places, lent[DIRS].length, lent[WEIGHTS].places,
-                          lent[WEIGHTS].length, lent[AREAS].places, lent[AREAS].length, lent[LABELS].places,
-                          lent[LABELS].length, lent[WORK].places, lent[WORK].length);
-    good = answer == expected;
+    for (int i = READ_ONLY; i < slices; i++) lent[i].expected = slice(lent[i].width * lent[i].length);
+    uint64_t answer = call_with(&sheet, slices);
+    int good = answer == expected;
+    if (good && slices == OF_LEVY && answer % 256 == 0) good = shares_good(which, &sheet, answer / 256);
+    for (int i = 0; i < slices; i++) good &= as_expected(which, &lent[i]);
     if (!good)
-        printf("case %" PRIu64 ", %s: %" PRIu64 " x %" PRIu64 ", depth %" PRIu64 ": answer %" PRIu64 ", expected %" PRIu64 "\n", which,
-               is_index ? "pf_index" : "pf_label", rows, cols, depth, answer, expected);
-    for (int i = 0; i < count; i++) good &= as_expected(which, &lent[i]);
+        printf("case %" PRIu64 ", %s: %" PRIu64 " x %" PRIu64 ", depth %" PRIu64 ", total %" PRIu64 ": answer %" PRIu64
+               ", expected %" PRIu64 "\n", which,
+               slices == OF_LABEL ? "pf_label" : slices == OF_INDEX ? "pf_index" : "pf_levy", sheet.rows, sheet.cols,
+               sheet.depth, sheet.total, answer, expected);
     return good;
 }
 
@@ -200,8 +273,9 @@ static int pairs_case(uint64_t which) {
 /* 1 if all is as expected, 0 if not, -1 if there is no such kind of case. */
 static int run_case(int kind, uint64_t which) {
     switch (kind) {
-    case 'L': return sheet_case(which, 0);
-    case 'I': return sheet_case(which, 1);
+    case 'L': return sheet_case(which, OF_LABEL);
+    case 'I': return sheet_case(which, OF_INDEX);
+    case 'V': return sheet_case(which, OF_LEVY);
     case 'P': return lookup_case(which);
     case 'F': return flow_case(which, 0);
     case 'O': return flow_case(which, 1);

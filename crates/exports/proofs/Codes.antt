@@ -1,13 +1,18 @@
--- The code of an answer of the index call fits 64 bits, and tells the answer.
+-- The code of an answer of the index call and of the levy's fits 64 bits, and tells the answer.
 use mathlib.Core.Path.{_≡_, ap}
-use Prim.Native.Nat.{_+_, _/_, _%_, _^_, _<_}
+use mathlib.Core.Bool.{Bool, true, false, cond}
+use mathlib.Core.List.{List}
+use Prim.Native.Nat.{ℕ, _+_, _/_, _%_, _^_, _<_, _≤_}
 use native.Mathlib.Omega.{arith}
+use lib.Dec.{leb}
+use lib.ListN.{length}
 use Rattle.sheet.specs.Sheet.{Sheet}
 use Rattle.sheet.specs.Refusal.{Lent}
 use Rattle.index.specs.declared.Indexed.{Indexed}
 use Rattle.index.specs.declared.Indexed.the-variants.{Units, Refused}
 use Rattle.index.specs.Index.{LentIndex, indexed, indexedValues}
 use Rattle.index.proofs.SmallAnswers.{SmallAnswer, answer-small}
+use Rattle.dues.specs.Levy.{totalFits, withDues, leviedOn, levied}
 use Rattle.exports.specs.Exports.{indexedCode, CodeTells}
 
 -- every answer of the call is one that its code tells
@@ -17,6 +22,21 @@ answer-told S L I = go (indexed S L I) (answer-small S L I)
     go : (a : Indexed) → SmallAnswer a → CodeTells a
     go (Units units) s = s
     go (Refused number place) s = (s .0, omega (arith, s .1), s .2)
+
+-- and of the levy's
+pub levy-told : (S : Sheet) (L : Lent) (I : LentIndex) (total : ℕ) (dues : List ℕ)
+    → CodeTells (levied S L I total dues)
+unfolding levied leviedOn withDues
+levy-told S L I total dues = go (totalFits total) (indexed S L I) (answer-told S L I)
+  where
+    fitted : (units : ℕ) → units ≤ 65536 → (b : Bool) → CodeTells (cond b (Units units) (Refused 3 0))
+    fitted units l true = l
+    fitted units l false = (omega arith, omega arith, omega arith)
+
+    go : (b : Bool) (a : Indexed) → CodeTells a → CodeTells (cond b (withDues a dues) (Refused 18 0))
+    go true (Units units) t = fitted units t (leb units (length dues))
+    go true (Refused number place) t = t
+    go false a t = (omega arith, omega arith, omega arith)
 
 pub code-fits : (a : Indexed) → CodeTells a → indexedCode a < 2 ^ 64
 code-fits (Units units) t = omega arith

@@ -1,5 +1,7 @@
 // The calls for hosts in C and in languages that call C; include/pfafstetter.h declares them. Each only calls proved
 // functions.
+pub mod basin_levy;
+
 use flow::pairs::PairsAnswer;
 use index::Indexed;
 use lookup::LookupAnswer;

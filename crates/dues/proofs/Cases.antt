@@ -1,0 +1,172 @@
+-- Worked levies, computed from the definitions.
+use mathlib.Core.Path.{_≡_, refl}
+use mathlib.Core.List.{List, [], _∷_}
+use Prim.Native.Nat.{ℕ}
+use Rattle.sheet.specs.Sheet.{Sheet, grid}
+use Rattle.intake.specs.declared.Stage.the-variants.{TakingCells, Ended}
+use Rattle.names.specs.Columns.{cellColumns}
+use Rattle.index.specs.declared.Indexed.the-variants.{Units, Refused}
+use Rattle.index.specs.Index.{lentIndex}
+use Rattle.index.proofs.Cases.{weightedSheet, sheet, lentFor, lentUnits, twoStreams}
+use Rattle.index.proofs.IntakeCases.{one, two, sizes, withWeight}
+use Rattle.dues.specs.Levy.{weightOfFirst, wholeWeight, duesOf, levied, lentAfterLevy, indexAfterLevy, duesAfter}
+use Rattle.dues.specs.FromIntake.{intakeLevied, intakeLentAfterLevy, intakeIndexAfterLevy, intakeDues}
+
+-- the units 1, 2 and 3 have the cell 2, the cells 0 and 1, and the cell 4: weights 1, 2 and 5
+abbrev streams : Sheet
+streams = weightedSheet twoStreams 1 (1 ∷ 1 ∷ 5 ∷ [])
+
+-- ---- S and A
+
+pub first-one : weightOfFirst streams 1 ≡ 1
+unfolding weightOfFirst
+first-one = refl
+
+pub first-two : weightOfFirst streams 2 ≡ 3
+unfolding weightOfFirst
+first-two = refl
+
+pub first-three : weightOfFirst streams 3 ≡ 8
+unfolding weightOfFirst
+first-three = refl
+
+pub whole : wholeWeight streams ≡ 8
+unfolding wholeWeight
+whole = refl
+
+-- ---- dues
+
+-- the whole parts of 7/8, 21/8 and 56/8 are 0, 2 and 7. Each share rounded by itself would be 0, 1 and 4; with the rest
+-- for the last unit 0, 1 and 6; by counts of cells 1, 4 and 2; with the units in the reading order of their outlets the
+-- first would owe 1
+pub seven : duesOf streams 7 ≡ 0 ∷ 2 ∷ 5 ∷ []
+unfolding duesOf
+seven = refl
+
+-- without weights the units 2 and 3 are the cell 4 and the cells 0 and 1
+pub without-weights : duesOf (sheet twoStreams 1) 7 ≡ 1 ∷ 2 ∷ 4 ∷ []
+unfolding duesOf
+without-weights = refl
+
+pub nothing : duesOf streams 0 ≡ 0 ∷ 0 ∷ 0 ∷ []
+unfolding duesOf
+nothing = refl
+
+pub one-cent : duesOf streams 1 ≡ 0 ∷ 0 ∷ 1 ∷ []
+unfolding duesOf
+one-cent = refl
+
+pub greatest : duesOf streams 100000000000 ≡ 12500000000 ∷ 25000000000 ∷ 62500000000 ∷ []
+unfolding duesOf
+greatest = refl
+
+-- one unit owes all
+pub one-unit : duesOf (sheet (grid 1 1 (1 ∷ [])) 1) 99999999977 ≡ 99999999977 ∷ []
+unfolding duesOf
+one-unit = refl
+
+-- ---- the call
+
+-- four places, each holding 9
+abbrev four : List ℕ
+four = 9 ∷ 9 ∷ 9 ∷ 9 ∷ []
+
+-- a sheet of two outlets, which labelling refuses
+abbrev twoOutlets : Sheet
+twoOutlets = sheet (grid 1 2 (16 ∷ 1 ∷ [])) 1
+
+pub accepted : levied streams (lentFor 6) (lentUnits 4) 7 four ≡ Units 3
+unfolding levied
+accepted = refl
+
+-- places beyond the units keep their values
+pub accepted-dues : duesAfter streams (lentFor 6) (lentUnits 4) 7 four ≡ 0 ∷ 2 ∷ 5 ∷ 9 ∷ []
+unfolding duesAfter
+accepted-dues = refl
+
+pub accepted-index : indexAfterLevy streams (lentFor 6) (lentUnits 4) 7 four
+    ≡ lentIndex (1 ∷ 2 ∷ 3 ∷ 7 ∷ []) (2 ∷ 0 ∷ 4 ∷ 7 ∷ []) (1 ∷ 2 ∷ 1 ∷ 7 ∷ [])
+unfolding indexAfterLevy
+accepted-index = refl
+
+-- the greatest total is accepted, and no larger one; then nothing is written, no work place either
+pub greatest-accepted : levied streams (lentFor 6) (lentUnits 3) 100000000000 four ≡ Units 3
+unfolding levied
+greatest-accepted = refl
+
+pub too-large : levied streams (lentFor 6) (lentUnits 3) 100000000001 four ≡ Refused 18 0
+unfolding levied
+too-large = refl
+
+pub too-large-lent : lentAfterLevy streams (lentFor 6) 100000000001 ≡ lentFor 6
+unfolding lentAfterLevy
+too-large-lent = refl
+
+pub too-large-index : indexAfterLevy streams (lentFor 6) (lentUnits 3) 100000000001 four ≡ lentUnits 3
+unfolding indexAfterLevy
+too-large-index = refl
+
+pub too-large-dues : duesAfter streams (lentFor 6) (lentUnits 3) 100000000001 four ≡ four
+unfolding duesAfter
+too-large-dues = refl
+
+-- 18 before a refusal of labelling, which comes before 3
+pub eighteen-first : levied twoOutlets (lentFor 2) (lentUnits 0) 18446744073709551615 [] ≡ Refused 18 0
+unfolding levied
+eighteen-first = refl
+
+pub labelling-next : levied twoOutlets (lentFor 2) (lentUnits 0) 7 [] ≡ Refused 7 1
+unfolding levied
+labelling-next = refl
+
+-- 3 for one of the four slices; then no place of them is written
+pub dues-short : levied streams (lentFor 6) (lentUnits 3) 7 (9 ∷ 9 ∷ []) ≡ Refused 3 0
+unfolding levied
+dues-short = refl
+
+pub dues-short-kept : duesAfter streams (lentFor 6) (lentUnits 3) 7 (9 ∷ 9 ∷ []) ≡ 9 ∷ 9 ∷ []
+unfolding duesAfter
+dues-short-kept = refl
+
+pub dues-short-index : indexAfterLevy streams (lentFor 6) (lentUnits 3) 7 (9 ∷ 9 ∷ []) ≡ lentUnits 3
+unfolding indexAfterLevy
+dues-short-index = refl
+
+pub index-short : levied streams (lentFor 6) (lentUnits 2) 7 four ≡ Refused 3 0
+unfolding levied
+index-short = refl
+
+pub index-short-dues : duesAfter streams (lentFor 6) (lentUnits 2) 7 four ≡ four
+unfolding duesAfter
+index-short-dues = refl
+
+-- ---- from an intake
+
+pub before-end : intakeLevied (record { stage = TakingCells sizes cellColumns }) (withWeight 1) one two 7 four
+    ≡ Refused 15 0
+unfolding intakeLevied
+before-end = refl
+
+-- 18 before 15
+pub too-large-before-end
+    : intakeLevied (record { stage = TakingCells sizes cellColumns }) (withWeight 1) one two 100000000001 four
+    ≡ Refused 18 0
+unfolding intakeLevied
+too-large-before-end = refl
+
+pub ended : intakeLevied (record { stage = Ended sizes }) (withWeight 1000) one two 7 four ≡ Units 1
+unfolding intakeLevied
+ended = refl
+
+pub ended-dues : intakeDues (record { stage = Ended sizes }) (withWeight 1000) one two 7 four ≡ 7 ∷ 9 ∷ 9 ∷ 9 ∷ []
+unfolding intakeDues
+ended-dues = refl
+
+pub ended-index : intakeIndexAfterLevy (record { stage = Ended sizes }) (withWeight 1000) one two 7 four
+    ≡ lentIndex (0 ∷ 7 ∷ []) (0 ∷ 7 ∷ []) (1 ∷ 7 ∷ [])
+unfolding intakeIndexAfterLevy
+ended-index = refl
+
+pub ended-too-large : intakeLentAfterLevy (record { stage = Ended sizes }) (withWeight 1000) one 100000000001 ≡ one
+unfolding intakeLentAfterLevy
+ended-too-large = refl

@@ -1,0 +1,4 @@
+pub mod Levy
+pub mod FromIntake
+pub mod Steps
+pub mod Meaning

@@ -1,0 +1,29 @@
+/* Shares a sum among the units of sample A by ground, with a weight for each row: a cell of row 0 counts for 3, one of
+   row 1 for 2, one of row 2 for 1. With these weights sample A has other labels than without. Its 11 inside cells weigh
+   3 x 3 + 4 x 2 + 4 x 1 = 21. The units 11, 12, 13, 2, 4, 6, 7, 8, 9 weigh 2, 1, 2, 1, 1, 6, 2, 3, 3; up to each of
+   them that makes 2, 3, 5, 6, 7, 13, 15, 18, 21. So the unit 13 owes the whole part of 1000 x 5 / 21, which is 238,
+   less that of 1000 x 3 / 21, which is 142. */
+#include <stdio.h>
+#include "pfafstetter.h"
+
+int main(void) {
+  enum { ROWS = 3, COLS = 4, N = ROWS * COLS, TOTAL = 1000 /* cents */ };
+  uint8_t dirs[N] = {0, 4, 16, 8, 16, 16, 16, 16, 64, 64, 32, 64};
+  uint16_t weights[ROWS] = {3, 2, 1};
+  uint32_t areas[N], work[8 * N], outlets[N], counts[N];
+  uint64_t labels[N], units[N], dues[N], sum = 0;
+  uint64_t answer = pf_levy(ROWS, COLS, 3, dirs, N, weights, ROWS, areas, N, labels, N, work, 8 * N,
+                            units, N, outlets, N, counts, N, TOTAL, dues, N);
+  if (answer % 256 != 0) {
+    printf("refused by %u, place %u\n", (unsigned)(answer % 256), (unsigned)(answer / 256));
+    return 1;
+  }
+  size_t count = answer / 256;
+  printf("label,cells,cents\n");
+  for (size_t k = 0; k < count; k++) {
+    printf("%llu,%u,%llu\n", (unsigned long long)units[k], (unsigned)counts[k], (unsigned long long)dues[k]);
+    sum += dues[k];
+  }
+  printf("sum of the dues %llu, total %d\n", (unsigned long long)sum, TOTAL);
+  return 0;
+}

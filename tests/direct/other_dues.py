@@ -1,0 +1,106 @@
+"""Ways to share a total among units that are not the one asked for. The calls of tests/direct/levies.py must tell each
+of them from the right one."""
+from itertools import accumulate
+
+import reference
+
+NAMES = ['shares rounded down', 'shares rounded up', 'shares rounded to the nearest',
+         'shares rounded down, the rest to the first unit', 'shares rounded down, the rest to the last unit',
+         'shares rounded to the nearest, the rest to the last unit',
+         'shares rounded down, a cent more from the first unit on',
+         'shares rounded down, a cent more for the largest parts of a cent',
+         'sums rounded up', 'sums rounded to the nearest', 'sums of double precision',
+         'sums in reading order of outlets', 'sums in order of labels as numbers', 'counts of cells as weights',
+         'areas of outlets as weights', 'all cells of a unit weighed as its outlet', 'the count of cells as the whole',
+         'outside cells in the whole', 'the due of the unit before']
+
+
+# Roundings of parts / whole.
+
+def down(parts, whole):
+    return parts // whole
+
+
+def up(parts, whole):
+    return -(-parts // whole)
+
+
+def nearest(parts, whole):
+    return (2 * parts + whole) // (2 * whole)
+
+
+def by_double(parts, whole):
+    return int(float(parts) / whole)
+
+
+# Dues. `summed` are the weights of the units in index order.
+
+def by_shares(total, summed, rounded):
+    """Each share rounded by itself."""
+    whole = sum(summed)
+    return [rounded(total * weight, whole) for weight in summed]
+
+
+def by_sums(total, summed, whole, rounded):
+    owed = [rounded(total * first, whole) for first in [0, *accumulate(summed)]]
+    return [after - before for before, after in zip(owed, owed[1:])]
+
+
+def in_order(total, summed, keys):
+    """With sums that run over the units by these keys."""
+    places = sorted(range(len(keys)), key=keys.__getitem__)
+    owed = dict(zip(places, reference.dues_of(total, [summed[place] for place in places])))
+    return [owed[place] for place in range(len(places))]
+
+
+def rest_to(total, dues, place):
+    """These dues, with the rest of the total for one place."""
+    rest = total - sum(dues)
+    return [due + rest if at == place else due for at, due in enumerate(dues)]
+
+
+def cents_to(total, dues, places):
+    """These dues, with a cent more for the first of these places, as many as the rest has cents."""
+    taken = set(places[:total - sum(dues)])
+    return [due + (at in taken) for at, due in enumerate(dues)]
+
+
+def of_shares(total, summed):
+    """Those in which each share is rounded by itself."""
+    floors, rounds = by_shares(total, summed, down), by_shares(total, summed, nearest)
+    last, places, whole = len(summed) - 1, range(len(summed)), sum(summed)
+    by_part = sorted(places, key=lambda place: -(total * summed[place] % whole))
+    return {'shares rounded down': floors,
+            'shares rounded up': by_shares(total, summed, up),
+            'shares rounded to the nearest': rounds,
+            'shares rounded down, the rest to the first unit': rest_to(total, floors, 0),
+            'shares rounded down, the rest to the last unit': rest_to(total, floors, last),
+            'shares rounded to the nearest, the rest to the last unit': rest_to(total, rounds, last),
+            'shares rounded down, a cent more from the first unit on': cents_to(total, floors, places),
+            'shares rounded down, a cent more for the largest parts of a cent': cents_to(total, floors, by_part)}
+
+
+def of_sums(total, summed, sheet):
+    """Those with sums of weights; the sheet is as in tests/direct/levies.py."""
+    (rows, cols, depth), lent, areas = sheet.sizes, sheet.lent, sheet.labelled[2]
+    labels, outlets, counts = zip(*sheet.units)
+    whole = sum(summed)
+    as_outlets = [count * lent[outlet // cols] for outlet, count in zip(outlets, counts)]
+    return {'sums rounded up': by_sums(total, summed, whole, up),
+            'sums rounded to the nearest': by_sums(total, summed, whole, nearest),
+            'sums of double precision': by_sums(total, summed, whole, by_double),
+            'sums in reading order of outlets': in_order(total, summed, outlets),
+            'sums in order of labels as numbers': in_order(total, summed, labels),
+            'counts of cells as weights': reference.dues_of(total, counts),
+            'areas of outlets as weights': reference.dues_of(total, [areas[outlet] for outlet in outlets]),
+            'all cells of a unit weighed as its outlet': reference.dues_of(total, as_outlets),
+            'the count of cells as the whole': by_sums(total, summed, sum(counts), down),
+            'outside cells in the whole': by_sums(total, summed, cols * sum(lent[:rows]), down),
+            'the due of the unit before': [0, *reference.dues_of(total, summed)[:-1]]}
+
+
+def names_unlike(call, dues):
+    """The names of those that differ from these dues of an accepted call."""
+    total, summed = call.total, call.sheet.summed
+    others = {**of_shares(total, summed), **of_sums(total, summed, call.sheet)}
+    return [name for name, other in others.items() if other != dues]

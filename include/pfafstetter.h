@@ -36,12 +36,13 @@ uint64_t pf_index(size_t rows, size_t cols, size_t depth, const uint8_t *dirs, s
                   size_t outlets_len, uint32_t *counts, size_t counts_len);
 
 /* Shares a total of whole cents among the units of a sheet's index by the weights of their cells. The call is
-   pf_index's with the total, 0 to 100,000,000,000 cents, and a fourth slice that needs one place for each unit, dues.
-   With S(k) the summed weight of the cells of the first k units and A that of all inside cells, dues[k - 1] is the
-   whole part of total x S(k) / A, less the whole part of total x S(k - 1) / A. The dues add up to the total, and each
-   lies less than one cent from its exact share, total x (weight of the unit's cells) / A. Returns as pf_index does; the
-   refusals are 18 (a larger total; nothing at all is written), then those of pf_label, then 3 if one of the four slices
-   is too short. Refused, no place of the four slices is written. */
+   pf_index's with the total, 0 to 100,000,000,000 cents, and a fourth slice, dues, that needs one place for each unit.
+   With S(k) the summed weight of the cells of the first k units in the index's order and A that of all inside cells,
+   dues[k - 1], the due of units[k - 1], is the whole part of total x S(k) / A, less the whole part of total x S(k - 1)
+   / A. The dues add up to the total, and each lies less than one cent from its exact share, total x (weight of the
+   unit's cells) / A. Returns as pf_index does; the refusals are 18 (a larger total; nothing at all is written), then
+   those of pf_label, then 3 if one of the four slices is too short. Refused, no place of the four slices is written;
+   with that last refusal areas, labels and work places are as after an accepted pf_label. */
 uint64_t pf_levy(size_t rows, size_t cols, size_t depth, const uint8_t *dirs, size_t dirs_len, const uint16_t *weights,
                  size_t weights_len, uint32_t *areas, size_t areas_len, uint64_t *labels, size_t labels_len,
                  uint32_t *work, size_t work_len, uint64_t *units, size_t units_len, uint32_t *outlets,

@@ -15,11 +15,12 @@ import pathlib
 import sys
 
 sys.dont_write_bytecode = True
-from reference import (Intake, first_bad, flow, flow_pairs, index, index_intake, label, label_intake, levy, lookup,
-                       outlet_flow, report, take_end, take_line)
+from reference import (Intake, first_bad, flow, flow_pairs, index, index_intake, label, label_intake, levy,
+                       levy_intake, lookup, outlet_flow, report, take_end, take_line)
 
 CASES = pathlib.Path(__file__).resolve().parent / 'cases'
 INDEX_EXAMPLE = CASES.parent.parent / 'examples' / 'index.out'
+LEVY_EXAMPLE = CASES.parent.parent / 'examples' / 'levy.out'
 
 ONES = [1] * 256
 SAMPLE_A = bytes([0, 4, 16, 8, 16, 16, 16, 16, 64, 64, 32, 64])
@@ -293,6 +294,9 @@ def levy_checks():
         if number == 0:
             yield 'levy, units: ' + name, got[4], index(*arguments[:-2])[4]
             yield 'levy, the sum: ' + name, sum(dues), total
+    units, dues = levy(3, 4, 3, SAMPLE_A, [3, 2, 1], 12, 12, 96, 12, 12, 12, 1000, 12)[4:]
+    lines = ['%d,%d,%d' % (label, count, due) for (label, outlet, count), due in zip(units, dues)]
+    yield 'levy: the example in C', LEVY_EXAMPLE.read_text().splitlines()[1:-1], lines
     yield 'levy: 18 writes nothing', levy(3, 4, 2, SAMPLE_A, ONES, 12, 12, 96, 9, 9, 9, MOST + 1, 9)[2:], (None,) * 4
 
 
@@ -344,6 +348,12 @@ def intake_checks():
            (15, 0, None, None, None))
     yield ('intake: an index after the end', index_intake(ended, bytes([1, 7]), [5], 1, 1, 8, 1, 1, 1),
            (0, 0, [5], [0], [(0, 0, 1)]))
+    yield ('intake: a levy before the end', levy_intake(cells, dirs, weights, 0, 0, 0, 0, 0, 0, MOST, 0),
+           (15, 0, None, None, None, None))
+    yield ('intake: a larger total before the end', levy_intake(cells, dirs, weights, 0, 0, 0, 0, 0, 0, MOST + 1, 0),
+           (18, 0, None, None, None, None))
+    yield ('intake: a levy after the end', levy_intake(ended, bytes([1, 7]), [5], 1, 1, 8, 1, 1, 1, 7, 1),
+           (0, 0, [5], [0], [(0, 0, 1)], [7]))
     yield 'intake: labelling with no weights lent', label_intake(ended, bytes([1]), [], 1, 1, 8), (3, 0, None, None)
     yield 'intake: labelling with a bad weight', label_intake(ended, bytes([1]), [0], 1, 1, 8), (17, 0, None, None)
     yield 'intake: byte 10 in a line', take_line(Intake(), b'rows,cols,depth\n', dirs, weights), (8, Intake())

@@ -377,6 +377,12 @@ def index_intake(state, dirs, weights, areas_len, labels_len, work_len, units_le
     labelled = label_intake(state, dirs, weights, areas_len, labels_len, work_len)
     return index_after(labelled, state.rows, state.cols, dirs, units_len, outlets_len, counts_len)
 
+def levy_intake(state, dirs, weights, areas_len, labels_len, work_len, units_len, outlets_len, counts_len, total,
+                dues_len):
+    labelled = label_intake(state, dirs, weights, areas_len, labels_len, work_len)
+    return levy_after(labelled, state.rows, state.cols, dirs, weights, units_len, outlets_len, counts_len, total,
+                      dues_len)
+
 # The program.
 
 def lines_of(data):

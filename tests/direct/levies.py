@@ -19,7 +19,7 @@ EDGES = [*range(13), 99, 100, 65535, 65536, 10 ** 6, 2 ** 31, 2 ** 32 - 1, 2 ** 
          MOST - 1, MOST]
 TOO_LARGE = [MOST + 1, MOST + 2, 2 ** 37, MOST + 2 ** 32, 10 ** 12, 2 ** 40, 2 ** 40 + 5, 2 ** 53, 2 ** 63 - 1, 2 ** 63,
              2 ** 63 + 5, LARGEST - MOST, LARGEST - 1, LARGEST]
-HARDLY = 65536  # parts of a cent; a sum that lies less than one of them from a whole cent hardly differs from it
+HARDLY = 65536  # a sum less than 1/65536 of a cent above or below a whole cent is hardly above or below it
 MANY = 60  # places more than are needed
 REFUSALS = [1, 2, 3, 17, 4, 5, 6, 7]  # of labelling
 SLICES = ['labels', 'outlets', 'counts', 'dues']  # of units

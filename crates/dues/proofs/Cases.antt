@@ -2,6 +2,7 @@
 use mathlib.Core.Path.{_≡_, refl}
 use mathlib.Core.List.{List, [], _∷_}
 use Prim.Native.Nat.{ℕ}
+use lib.ListN.{replicate}
 use Rattle.sheet.specs.Sheet.{Sheet, grid}
 use Rattle.intake.specs.declared.Stage.the-variants.{TakingCells, Ended}
 use Rattle.names.specs.Columns.{cellColumns}
@@ -10,7 +11,7 @@ use Rattle.index.specs.Index.{lentIndex}
 use Rattle.index.proofs.Cases.{weightedSheet, sheet, lentFor, lentUnits, twoStreams}
 use Rattle.index.proofs.IntakeCases.{one, two, sizes, withWeight}
 use Rattle.dues.specs.Levy.{weightOfFirst, wholeWeight, duesOf, levied, lentAfterLevy, indexAfterLevy, duesAfter}
-use Rattle.dues.specs.FromIntake.{intakeLevied, intakeLentAfterLevy, intakeIndexAfterLevy, intakeDues}
+use Rattle.dues.specs.FromIntake.{intakeLevied, intakeLentAfterLevy, intakeIndexAfterLevy, intakeDuesAfter}
 
 -- the units 1, 2 and 3 have the cell 2, the cells 0 and 1, and the cell 4: weights 1, 2 and 5
 abbrev streams : Sheet
@@ -89,6 +90,15 @@ pub accepted-index : indexAfterLevy streams (lentFor 6) (lentUnits 4) 7 four
 unfolding indexAfterLevy
 accepted-index = refl
 
+-- areas, labels and work places are as after labelling, also where 3 follows for the dues
+pub accepted-lent : lentAfterLevy streams (lentFor 6) 7 ≡ record {
+  areas = 2 ∷ 1 ∷ 8 ∷ 0 ∷ 5 ∷ 0 ∷ [];
+  labels = 2 ∷ 2 ∷ 1 ∷ 0 ∷ 3 ∷ 0 ∷ [];
+  work = replicate 48 0;
+}
+unfolding lentAfterLevy
+accepted-lent = refl
+
 -- the greatest total is accepted, and no larger one; then nothing is written, no work place either
 pub greatest-accepted : levied streams (lentFor 6) (lentUnits 3) 100000000000 four ≡ Units 3
 unfolding levied
@@ -158,8 +168,8 @@ pub ended : intakeLevied (record { stage = Ended sizes }) (withWeight 1000) one 
 unfolding intakeLevied
 ended = refl
 
-pub ended-dues : intakeDues (record { stage = Ended sizes }) (withWeight 1000) one two 7 four ≡ 7 ∷ 9 ∷ 9 ∷ 9 ∷ []
-unfolding intakeDues
+pub ended-dues : intakeDuesAfter (record { stage = Ended sizes }) (withWeight 1000) one two 7 four ≡ 7 ∷ 9 ∷ 9 ∷ 9 ∷ []
+unfolding intakeDuesAfter
 ended-dues = refl
 
 pub ended-index : intakeIndexAfterLevy (record { stage = Ended sizes }) (withWeight 1000) one two 7 four

@@ -2,14 +2,14 @@
 use mathlib.Core.Path.{_≡_, refl, sym, _∙_, ap}
 use mathlib.Core.Bool.{Bool, true, false, cond}
 use mathlib.Core.Option.{Option, none, some}
-use mathlib.Core.List.{List, [], _∷_}
-use Prim.Native.Nat.{ℕ, zero, suc, _+_, _-_, _≤_, _<_}
+use mathlib.Core.List.{List, []}
+use Prim.Native.Nat.{ℕ, suc, _+_, _-_, _≤_, _<_}
 use native.Mathlib.Nat.{zero-add, mul-div-cancel}
 use native.Mathlib.Omega.{arith}
 use lib.Dec.{leb}
 use lib.ListN.{length, length-map, getD, take, drop}
 use lib.Seq.{take-append-seam, take-length}
-use borrow.Author.Tests.{leb-true}
+use borrow.Author.Tests.{leb-true, le-leb}
 use Rattle.sheet.specs.declared.Outcome.the-variants.{Accepted}
 use Rattle.sheet.specs.Sheet.{Sheet, cells}
 use Rattle.sheet.specs.Area.{weight}
@@ -32,18 +32,12 @@ use Rattle.index.proofs.Partition.{of-one}
 use Rattle.index.proofs.Meaning.{means, same-test, index-filled}
 use Rattle.dues.specs.Levy.{greatestTotal, weightOfFirst, wholeWeight, dueOfFirst, due, duesOf, totalFits}
 use Rattle.dues.specs.Levy.{withDues, leviedOn, levied, lentAfterLevy, indexAfterLevy, duesAfter}
-use Rattle.dues.specs.FromIntake.{intakeLevied, intakeLentAfterLevy, intakeIndexAfterLevy, intakeDues}
+use Rattle.dues.specs.FromIntake.{intakeLevied, intakeLentAfterLevy, intakeIndexAfterLevy, intakeDuesAfter}
 use Rattle.dues.specs.FromIntake.{indexLeviedWith, duesWith}
 use Rattle.dues.specs.Meaning.{indexWeight, LevyMeaning, LeviedDirectly, LevyMeaningFrom, LevyMeaningWhole}
-use Rattle.dues.proofs.Shares.{product-most, upTo, owed, owed-none, dues-sum, Near, due-near}
+use Rattle.dues.proofs.Shares.{product-most, upTo, upto-more, owed, owed-none, dues-sum, Near, due-near}
 use Rattle.dues.proofs.UnitWeights.{unitWeight, unitWeights, first-is, first-none, first-all, dues-are}
 use Rattle.dues.proofs.UnitWeights.{whole-some, whole-most}
-
-upto-more : (ws : List ℕ) (k : ℕ) → k < length ws → upTo ws (suc k) ≡ upTo ws k + getD ws k 0
-unfolding sum
-upto-more [] k l = absurd (omega arith)
-upto-more (w ∷ ws) zero l = omega arith
-upto-more (w ∷ ws) (suc k) l = omega (arith, upto-more ws k (omega arith))
 
 -- ---- an accepted sheet, with the index of its units and their dues written over what I and D held
 
@@ -83,7 +77,7 @@ module _ (S : Sheet) (L : Lent) (accepted : outcome S L ≡ Accepted) (I : LentI
     unfolding duesOf due dueOfFirst
     owes = written-at (due S total) (length (distinctLabels S)) k D l
 
-    near : Near total whole (whole-some S L accepted) (getD dues k 0) (indexWeight S labels index k)
+    near : Near total whole (getD dues k 0) (indexWeight S labels index k)
     near =
         rw (owes, first-more)
         (due-near total whole (whole-some S L accepted) (weightOfFirst S k) (indexWeight S labels index k))
@@ -114,8 +108,8 @@ module _ (S : Sheet) (L : Lent) (accepted : outcome S L ≡ Accepted) (I : LentI
     dues-add =
         ap (λ (n : ℕ). sum (λ m. m) (take n dues)) (sym dues-length)
         ∙ ap (sum (λ m. m)) (take-append-seam (duesOf S total) (drop (length (duesOf S total)) D)) ∙ all-owed;
-    not-more = λ k l. near k (omega (arith, units-long S)) .0;
-    not-less = λ k l. near k (omega (arith, units-long S)) .1;
+    cent-above = λ k l. near k (omega (arith, units-long S)) .0;
+    cent-below = λ k l. near k (omega (arith, units-long S)) .1;
     total-most = most;
     products-fit = λ k.
         let m : weightOfFirst S k ≤ mostArea = omega (arith, first-most k, whole-most S L accepted) in
@@ -146,6 +140,12 @@ levied-units total answer D count e = go (totalFits total) refl e
     go true f h = (f, by-answer answer h)
     go false f h = absurd (clash h)
 
+-- and where it is accepted
+units-levied : (total : ℕ) (answer : Indexed) (D : List ℕ) (count : ℕ) → total ≤ greatestTotal → answer ≡ Units count
+    → count ≤ length D → leviedOn total answer D ≡ Units count
+unfolding leviedOn totalFits withDues
+units-levied total answer D count l e r = rw (le-leb total greatestTotal l, e, le-leb count (length D) r) refl
+
 within-bound : (total : ℕ) → totalFits total ≡ true → total ≤ greatestTotal
 unfolding totalFits
 within-bound total e = leb-true total greatestTotal e
@@ -175,10 +175,12 @@ from-sizes i (some z) T L I total D L′ I′ D′ count e a f g h = record {
 }
 
 pub levy-meaning-whole : LevyMeaningWhole
-unfolding intakeLevied intakeLentAfterLevy intakeIndexAfterLevy intakeDues intakeIndexed intakeLent
+unfolding levied intakeLevied intakeLentAfterLevy intakeIndexAfterLevy intakeDuesAfter intakeIndexed intakeLent
 levy-meaning-whole = record {
   directly = directly;
   from-intake = λ i T L I total D L′ I′ D′ count c.
       from-sizes i (endedSizes (i .stage)) T L I total D L′ I′ D′ count refl (c .answer) (c .lent) (c .index)
       (c .dues);
+  accepts = λ S L I total D count. units-levied total (indexed S L I) D count;
+  accepts-from = λ i T L I total D count. units-levied total (intakeIndexed i T L I) D count;
 }

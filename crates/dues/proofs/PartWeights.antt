@@ -4,7 +4,7 @@ use mathlib.Core.Path.{_≡_, refl, sym, _∙_, ap}
 use mathlib.Core.Bool.{Bool, true, false, cond, true≢false}
 use mathlib.Core.List.{List, [], _∷_, map, List·Memᴰ, List·Memᴰ·head, List·Memᴰ·tail, Memᴰ·map}
 use mathlib.Core.Logic.{_≢_}
-use Prim.Native.Nat.{ℕ, zero, suc, _+_}
+use Prim.Native.Nat.{ℕ, suc, _+_}
 use native.Mathlib.Omega.{arith}
 use lib.Dec.{eqb}
 use lib.ListN.{length, getD, take, drop}
@@ -14,26 +14,9 @@ use Rattle.claims.proofs.Dictionary.{before-irreflexive}
 use Rattle.index.specs.Units.{UnitEntry, unitEntry}
 use Rattle.index.specs.Groups.{withCell, grouped}
 use Rattle.index.proofs.LabelsRise.{LabelsRise, rise-before}
-use Rattle.index.proofs.Counting.{summed}
+use Rattle.index.proofs.Counting.{summed, summed-none}
 use Rattle.index.proofs.GroupsInOrder.{NeverFall, fall-on, entryDigits, GroupsOf, groups-of}
 use Rattle.dues.specs.Steps.{partWeights}
-
-pub sum-split : (f : ℕ → ℕ) (m : ℕ) (cs : List ℕ) → sum f cs ≡ sum f (take m cs) + sum f (drop m cs)
-unfolding sum
-sum-split f zero cs = omega arith
-sum-split f (suc m) [] = omega arith
-sum-split f (suc m) (c ∷ cs) = omega (arith, sum-split f m cs)
-
-pub summed-none : (t : ℕ → Bool) (f : ℕ → ℕ) (cs : List ℕ) → ((c : ℕ) → List·Memᴰ c cs → t c ≡ false)
-    → summed t f cs ≡ 0
-unfolding summed
-summed-none t f [] h = refl
-summed-none t f (c ∷ cs) h = rw (h c (List·Memᴰ·head refl)) (summed-none t f cs (λ d m. h d (List·Memᴰ·tail m)))
-
-pub summed-all : (f : ℕ → ℕ) (cs : List ℕ) → summed (λ c. true) f cs ≡ sum f cs
-unfolding summed sum
-summed-all f [] = refl
-summed-all f (c ∷ cs) = ap (λ (n : ℕ). f c + n) (summed-all f cs)
 
 -- an entry's count
 abbrev pub countOf : UnitEntry → ℕ

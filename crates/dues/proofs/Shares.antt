@@ -20,6 +20,12 @@ product-most l m = mul-le-mul l m
 abbrev pub upTo : List ℕ → ℕ → ℕ
 upTo ws k = sum (λ w. w) (take k ws)
 
+pub upto-more : (ws : List ℕ) (k : ℕ) → k < length ws → upTo ws (suc k) ≡ upTo ws k + getD ws k 0
+unfolding sum
+upto-more [] k l = absurd (omega arith)
+upto-more (w ∷ ws) zero l = omega arith
+upto-more (w ∷ ws) (suc k) l = omega (arith, upto-more ws k (omega arith))
+
 module _ (total whole : ℕ) where
   -- what units of this weight owe together
   abbrev pub owed : ℕ → ℕ
@@ -46,6 +52,10 @@ module _ (total whole : ℕ) where
       let b : before + w + upTo ws k ≡ before + (w + upTo ws k) = omega arith in
       rw (a, b) at (dues-at (before + w) ws k (omega arith))
 
+  -- less than one cent from the exact share, both times the whole
+  abbrev pub Near : ℕ → ℕ → Type 0
+  Near due weight = (due * whole < total * weight + whole) × (total * weight < due * whole + whole)
+
   module _ (some : 0 < whole) where
     pub owed-more : (a b : ℕ) → owed a ≤ owed (a + b)
     owed-more a b =
@@ -63,10 +73,6 @@ module _ (total whole : ℕ) where
         let a : before + w + sum (λ v. v) ws ≡ before + (w + sum (λ v. v) ws) = omega arith in
         let r = rw a at (dues-sum (before + w) ws) in
         omega (arith, r, owed-more before w)
-
-    -- less than one cent from the exact share, both times the whole
-    abbrev pub Near : ℕ → ℕ → Type 0
-    Near due weight = (due * whole < total * weight + whole) × (total * weight < due * whole + whole)
 
     pub due-near : (before weight : ℕ) → Near (owed (before + weight) - owed before) weight
     due-near before weight =

@@ -1,7 +1,7 @@
 -- The loops of the levy: cells weighed one by one, and dues written one after the other.
 use mathlib.Core.Path.{_≡_, refl, sym, ap, _∙_}
 use mathlib.Core.List.{List, [], _∷_}
-use Prim.Native.Nat.{ℕ, suc, _+_, _*_, _-_, _≤_, _<_}
+use Prim.Native.Nat.{ℕ, zero, suc, _+_, _*_, _-_, _≤_, _<_}
 use native.Mathlib.Nat.{zero-add}
 use native.Mathlib.Numerals.{add-one}
 use native.Mathlib.Omega.{arith}
@@ -13,7 +13,12 @@ use Rattle.sheet.proofs.Lists.{written-whole}
 use Rattle.claims.specs.Bounds.{sum, mostArea}
 use Rattle.dues.specs.Steps.{Weighed, Shared, partWeights, duesBy}
 use Rattle.dues.proofs.Shares.{owed, owed-none, owed-more, dues-length, product-most}
-use Rattle.dues.proofs.PartWeights.{sum-split}
+
+sum-split : (f : ℕ → ℕ) (m : ℕ) (cs : List ℕ) → sum f cs ≡ sum f (take m cs) + sum f (drop m cs)
+unfolding sum
+sum-split f zero cs = omega arith
+sum-split f (suc m) [] = omega arith
+sum-split f (suc m) (c ∷ cs) = omega (arith, sum-split f m cs)
 
 sum-from : (f : ℕ → ℕ) (cs : List ℕ) (j : ℕ) → j < length cs
     → sum f (drop j cs) ≡ f (getD cs j 0) + sum f (drop (j + 1) cs)

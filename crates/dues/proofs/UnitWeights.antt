@@ -1,10 +1,8 @@
 -- The weights of a sheet's units: S(k) sums those of the first k, the order along rivers gives each, and all together
 -- are the area of the outlet.
 use mathlib.Core.Path.{_≡_, refl, sym, _∙_, ap}
-use mathlib.Core.Bool.{Bool, true, false, cond}
-use mathlib.Core.List.{List, [], _∷_, map, List·Memᴰ, List·Memᴰ·head, List·Memᴰ·tail, List·Memᴰ·not-nil}
-use mathlib.Core.List.{List·Memᴰ·cases-cons}
-use mathlib.Core.Logic.{inl, inr}
+use mathlib.Core.Bool.{true}
+use mathlib.Core.List.{List, [], _∷_, map, List·Memᴰ}
 use Prim.Native.Nat.{ℕ, zero, suc, _-_, _≤_, _<_}
 use native.Mathlib.Nat.{zero-add}
 use native.Mathlib.Omega.{arith}
@@ -12,64 +10,39 @@ use lib.Dec.{eqb}
 use lib.ListN.{length, length-map, take}
 use lib.Seq.{take-length, ext-getD}
 use Rattle.sheet.specs.declared.Outcome.the-variants.{Accepted}
-use Rattle.sheet.specs.Sheet.{Sheet, cells, inside, next}
-use Rattle.sheet.specs.Water.{Passes, passes}
+use Rattle.sheet.specs.Sheet.{Sheet, cells, inside}
 use Rattle.sheet.specs.Area.{sumOver, drainsInto, weight, area}
-use Rattle.sheet.specs.River.{network}
+use Rattle.sheet.specs.River.{network, least, split}
 use Rattle.sheet.specs.Label.{labelAt, areasOf, outlet}
 use Rattle.sheet.specs.Refusal.{Lent, outcome, written, lentAfter}
 use Rattle.sheet.proofs.Cells.{inside-lt}
 use Rattle.sheet.proofs.Lists.{length-list, list-at}
-use Rattle.claims.specs.Demand.{Inside}
 use Rattle.claims.specs.Bounds.{sum, mostArea}
-use Rattle.claims.proofs.Basins.{drain}
-use Rattle.claims.proofs.GridLaws.{passes-is}
 use Rattle.claims.proofs.Sums.{sum-same}
 use Rattle.claims.proofs.Theorems.{area-bounds}
 use Rattle.claims.proofs.Written.{the-basin}
 use Rattle.order.specs.Places.{cellsIn, Arranged}
+use Rattle.order.proofs.Sizes.{drains-all}
 use Rattle.index.specs.Units.{isOfUnit, isOfOne, UnitEntry, distinctLabels, units}
 use Rattle.index.specs.Groups.{grouped}
-use Rattle.index.proofs.LabelsRise.{LabelsRise, rise-none, rise-on}
+use Rattle.index.proofs.LabelsRise.{take-rise}
 use Rattle.index.proofs.Distinct.{among-rise}
-use Rattle.index.proofs.Counting.{summed-cells}
+use Rattle.index.proofs.Counting.{summed-all, summed-cells}
 use Rattle.index.proofs.Partition.{sum-units, sum-all-units}
 use Rattle.index.proofs.GroupsInOrder.{entryDigits}
-use Rattle.index.proofs.UnitsInOrder.{listed-inside, inside-listed, listed-once, falls, same-digits, same-test}
-use Rattle.index.proofs.UnitsInOrder.{groups-are-units}
-use Rattle.index.proofs.Outlets.{unit-of}
+use Rattle.index.proofs.UnitsInOrder.{entries-map, listed-inside, inside-listed, listed-once, falls, same-digits}
+use Rattle.index.proofs.UnitsInOrder.{entry-tests, groups-are-units}
 use Rattle.dues.specs.Levy.{weightOfFirst, wholeWeight, dueOfFirst, due, duesOf}
 use Rattle.dues.specs.Steps.{partWeights, duesBy}
 use Rattle.dues.proofs.Shares.{upTo, dues-length, dues-at}
-use Rattle.dues.proofs.PartWeights.{summed-all, countOf, weightIn, part-weights}
+use Rattle.dues.proofs.PartWeights.{countOf, weightIn, part-weights}
 
 -- ---- lists
-
-take-mem : {A : Type 0} {y : A} (k : ℕ) (xs : List A) → List·Memᴰ y (take k xs) → List·Memᴰ y xs
-take-mem zero xs m = absurd (List·Memᴰ·not-nil m)
-take-mem (suc k) [] m = m
-take-mem (suc k) (x ∷ xs) m = elim (List·Memᴰ·cases-cons m) [
-  | inl e ↦ List·Memᴰ·head e
-  | inr j ↦ List·Memᴰ·tail (take-mem k xs j)
-]
-
-take-rise : (k : ℕ) {xs : List (List ℕ)} → LabelsRise xs → LabelsRise (take k xs)
-take-rise zero w = rise-none
-take-rise (suc k) rise-none = rise-none
-take-rise (suc k) (rise-on {xs = xs} b w) = rise-on (λ y m. b y (take-mem k xs m)) (take-rise k w)
 
 take-map : (f : List ℕ → ℕ) (k : ℕ) (xs : List (List ℕ)) → map f (take k xs) ≡ take k (map f xs)
 take-map f zero xs = refl
 take-map f (suc k) [] = refl
 take-map f (suc k) (x ∷ xs) = ap (λ (t : List ℕ). f x ∷ t) (take-map f k xs)
-
--- values of entries that are told by their digits
-entries-map : (f : UnitEntry → ℕ) (g : List ℕ → ℕ) (es : List UnitEntry)
-    → ((e : UnitEntry) → List·Memᴰ e es → f e ≡ g (entryDigits e)) → map f es ≡ map g (map entryDigits es)
-entries-map f g [] h = refl
-entries-map f g (e ∷ es) h =
-    let p = h e (List·Memᴰ·head refl) in
-    let q = entries-map f g es (λ d m. h d (List·Memᴰ·tail m)) in λ i. p i ∷ q i
 
 -- ---- any sheet
 
@@ -119,18 +92,9 @@ module _ (S : Sheet) (L : Lent) (accepted : outcome S L ≡ Accepted) where
   outlet-inside = the-basin S L accepted .outlet-inside
 
   -- all water passes the outlet
-  all-pass : (q : ℕ) → Inside S q → Passes (next (S .grid)) q (outlet (S .grid))
-  unfolding network
-  all-pass q i = drain (the-basin S L accepted) q i
-
   all-drain : (q : ℕ) → drainsInto (S .grid) (outlet (S .grid)) q ≡ inside (S .grid) q
-  unfolding drainsInto
-  all-drain q = go (inside (S .grid) q) refl
-    where
-      go : (b : Bool) → inside (S .grid) q ≡ b
-          → cond b (passes (next (S .grid)) (cells (S .grid)) q (outlet (S .grid))) false ≡ b
-      go true i = passes-is (S .grid) q (outlet (S .grid)) i .1 (all-pass q i)
-      go false i = refl
+  unfolding network
+  all-drain q = sym (drains-all (S .grid) (area S) (least S) (split S) (the-basin S L accepted) q)
 
   pub outlet-area : area S (outlet (S .grid)) ≡ wholeWeight S
   unfolding area wholeWeight
@@ -171,12 +135,7 @@ module _ (S : Sheet) (L : Lent) (accepted : outcome S L ≡ Accepted) where
         → weightIn label (weight S) cs e ≡ unitWeight S (entryDigits e)
     entry-weight e m =
         sym (summed-cells (cells (S .grid)) cs (isOfUnit S (entryDigits e)) (λ c. eqb (label c) (e .label)) (weight S)
-        (listed-once S L old accepted measured arranged) (record {
-          below = λ c k. inside-lt (S .grid) c (listed-inside S L old accepted measured arranged c k);
-          listed = λ q l h.
-              inside-listed S L old accepted measured arranged q (unit-of S q (entryDigits e) h .0);
-          same = same-test S L old accepted measured arranged e m;
-        }))
+        (listed-once S L old accepted measured arranged) (entry-tests S L old accepted measured arranged e m))
 
     pub listed-parts : partWeights (weight S) (map countOf (units S)) cs ≡ unitWeights S
     listed-parts =

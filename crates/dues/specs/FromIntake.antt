@@ -20,10 +20,12 @@ intakeLevied i T L I total dues = leviedOn total (intakeIndexed i T L I) dues
 
 -- ---- what the slices hold afterwards
 
+-- areas, labels and work places: untouched if refused by 18, else as after labelling from the intake
 unfoldable pub intakeLentAfterLevy : Intake → LentSheet → Lent → ℕ → Lent
 unfolding totalFits intakeLent
 intakeLentAfterLevy i T L total = let labelled : Lent = intakeLent i T L in cond (totalFits total) labelled L
 
+-- with the sizes of an intake that has ended, if it has
 unfoldable pub indexLeviedWith : Option Sizes → LentSheet → Lent → LentIndex → ℕ → List ℕ → LentIndex
 unfolding indexAfterLevy
 indexLeviedWith none T L I total dues = I
@@ -34,10 +36,12 @@ unfolding duesAfter
 duesWith none T L I total dues = dues
 duesWith (some z) T L I total dues = duesAfter (sheetOf z T) L I total dues
 
+-- the three slices of the index
 unfoldable pub intakeIndexAfterLevy : Intake → LentSheet → Lent → LentIndex → ℕ → List ℕ → LentIndex
 unfolding endedSizes indexLeviedWith
 intakeIndexAfterLevy i T L I total dues = indexLeviedWith (endedSizes (i .stage)) T L I total dues
 
-unfoldable pub intakeDues : Intake → LentSheet → Lent → LentIndex → ℕ → List ℕ → List ℕ
+-- the dues
+unfoldable pub intakeDuesAfter : Intake → LentSheet → Lent → LentIndex → ℕ → List ℕ → List ℕ
 unfolding endedSizes duesWith
-intakeDues i T L I total dues = duesWith (endedSizes (i .stage)) T L I total dues
+intakeDuesAfter i T L I total dues = duesWith (endedSizes (i .stage)) T L I total dues

@@ -3,7 +3,7 @@ use mathlib.Core.Path.{_≡_}
 use mathlib.Core.List.{List}
 use Prim.Native.Nat.{ℕ, suc, _+_, _*_, _-_, _/_, _^_, _≤_, _<_}
 use lib.Dec.{eqb}
-use lib.ListN.{getD, take}
+use lib.ListN.{length, getD, take}
 use Rattle.sheet.specs.Sheet.{Sheet, cells, inside}
 use Rattle.sheet.specs.Area.{sumOver, weight}
 use Rattle.sheet.specs.Label.{labelAt}
@@ -13,11 +13,12 @@ use Rattle.intake.specs.declared.Intake.{Intake}
 use Rattle.intake.specs.Intake.{LentSheet}
 use Rattle.labelling.specs.Demand.{OfIntake}
 use Rattle.index.specs.declared.Indexed.the-variants.{Units}
-use Rattle.index.specs.Index.{LentIndex}
+use Rattle.index.specs.Index.{LentIndex, indexed}
+use Rattle.index.specs.FromIntake.{intakeIndexed}
 use Rattle.index.specs.Meaning.{indexLabel, IndexMeaning}
 use Rattle.dues.specs.Levy.{greatestTotal, weightOfFirst, wholeWeight, levied, lentAfterLevy, indexAfterLevy}
 use Rattle.dues.specs.Levy.{duesAfter}
-use Rattle.dues.specs.FromIntake.{intakeLevied, intakeLentAfterLevy, intakeIndexAfterLevy, intakeDues}
+use Rattle.dues.specs.FromIntake.{intakeLevied, intakeLentAfterLevy, intakeIndexAfterLevy, intakeDuesAfter}
 
 -- the weight of the unit at a place of the index: the summed weight of the cells with its label
 abbrev pub indexWeight : Sheet → List ℕ → LentIndex → ℕ → ℕ
@@ -43,11 +44,11 @@ pub record LevyMeaning (S : Sheet) (labels : List ℕ) (total units : ℕ) (I : 
       ≡ total * weightOfFirst S (suc k) / wholeWeight S - total * weightOfFirst S k / wholeWeight S
   -- the dues add up to the total
   pub dues-add : sum (λ m. m) (take units dues) ≡ total
-  -- each lies less than one cent from the exact share, total × (the unit's weight) / A: both times A
-  pub not-more : (k : ℕ) → k < units → dueAt dues k * wholeWeight S < total * indexWeight S labels I k + wholeWeight S
-  pub not-less : (k : ℕ) → k < units → total * indexWeight S labels I k < dueAt dues k * wholeWeight S + wholeWeight S
-  -- no product overflows 64 bits
+  -- each lies less than one cent above and below the exact share, total × (the unit's weight) / A: both times A
+  pub cent-above : (k : ℕ) → k < units → dueAt dues k * wholeWeight S < total * indexWeight S labels I k + wholeWeight S
+  pub cent-below : (k : ℕ) → k < units → total * indexWeight S labels I k < dueAt dues k * wholeWeight S + wholeWeight S
   pub total-most : total ≤ greatestTotal
+  -- no product overflows 64 bits
   pub products-fit : (k : ℕ) → total * weightOfFirst S k < 2 ^ 63
 
 -- what the contract of `levy` promises where it is accepted: L, I and D were lent, and L′, I′ and D′ are what the
@@ -65,7 +66,7 @@ pub record LeviedFrom (i : Intake) (T : LentSheet) (L : Lent) (I : LentIndex) (t
   pub answer : intakeLevied i T L I total D ≡ Units units
   pub lent : L′ ≡ intakeLentAfterLevy i T L total
   pub index : I′ ≡ intakeIndexAfterLevy i T L I total D
-  pub dues : D′ ≡ intakeDues i T L I total D
+  pub dues : D′ ≡ intakeDuesAfter i T L I total D
 
 -- about the sheet of an intake that had ended
 abbrev pub LevyMeaningFrom : Intake → LentSheet → List ℕ → ℕ → ℕ → LentIndex → List ℕ → Type 0
@@ -80,3 +81,9 @@ pub record LevyMeaningWhole : Type 1 where
   pub from-intake : (i : Intake) (T : LentSheet) (L : Lent) (I : LentIndex) (total : ℕ) (D : List ℕ) (L′ : Lent)
       (I′ : LentIndex) (D′ : List ℕ) (units : ℕ) → LeviedFrom i T L I total D L′ I′ D′ units
       → LevyMeaningFrom i T (L′ .labels) total units I′ D′
+  -- every total up to the bound is accepted where the index call is accepted and the dues have a place for each unit
+  pub accepts : (S : Sheet) (L : Lent) (I : LentIndex) (total : ℕ) (D : List ℕ) (units : ℕ) → total ≤ greatestTotal
+      → indexed S L I ≡ Units units → units ≤ length D → levied S L I total D ≡ Units units
+  pub accepts-from : (i : Intake) (T : LentSheet) (L : Lent) (I : LentIndex) (total : ℕ) (D : List ℕ) (units : ℕ)
+      → total ≤ greatestTotal → intakeIndexed i T L I ≡ Units units → units ≤ length D
+      → intakeLevied i T L I total D ≡ Units units

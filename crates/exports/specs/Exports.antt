@@ -1,5 +1,5 @@
--- The numbers that a host gets for the outcome of labelling and for the answers of the index call and of the call for
--- many pairs.
+-- The numbers that a host gets for the outcome of labelling and for the answers of the index call, of the levy's and of
+-- the call for many pairs.
 use Prim.Native.Nat.{ℕ, _+_, _*_, _%_, _^_, _<_, _≤_}
 use Rattle.sheet.specs.declared.Outcome.{Outcome}
 use Rattle.sheet.specs.Refusal.{outcomeValues}

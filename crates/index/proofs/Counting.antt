@@ -8,22 +8,42 @@ use mathlib.Core.Logic.{_⊎_, inl, inr, _≢_}
 use Prim.Native.Nat.{ℕ, suc, _+_, _<_}
 use native.Mathlib.Omega.{arith}
 use lib.Dec.{eqb}
-use lib.ListN.{length}
 use borrow.Author.Tests.{eqb-false, eq-eqb, ne-eqb}
 use Rattle.sheet.specs.Area.{count, sumOver}
 use Rattle.lookup.specs.Lookup.{counted}
+use Rattle.claims.specs.Bounds.{sum}
 use Rattle.claims.proofs.Counts.{not-true}
 use Rattle.claims.proofs.Sums.{sum-zero, sum-more, count-sum}
 
-pub counted-none : (t : ℕ → Bool) (cs : List ℕ) → ((c : ℕ) → List·Memᴰ c cs → t c ≡ false) → counted t cs ≡ 0
-unfolding counted
-counted-none t [] h = refl
-counted-none t (c ∷ cs) h = rw (h c (List·Memᴰ·head refl)) (counted-none t cs (λ d m. h d (List·Memᴰ·tail m)))
+-- the sum of f over those cells of a list that pass a test
+unfoldable pub summed : (ℕ → Bool) → (ℕ → ℕ) → List ℕ → ℕ
+summed t f [] = 0
+summed t f (c ∷ cs) = let r = summed t f cs in cond (t c) (f c + r) r
 
-pub counted-all : (cs : List ℕ) → counted (λ c. true) cs ≡ length cs
-unfolding counted
-counted-all [] = refl
-counted-all (c ∷ cs) = rw (counted-all cs)
+pub summed-none : (t : ℕ → Bool) (f : ℕ → ℕ) (cs : List ℕ) → ((c : ℕ) → List·Memᴰ c cs → t c ≡ false)
+    → summed t f cs ≡ 0
+unfolding summed
+summed-none t f [] h = refl
+summed-none t f (c ∷ cs) h = rw (h c (List·Memᴰ·head refl)) (summed-none t f cs (λ d m. h d (List·Memᴰ·tail m)))
+
+pub summed-all : (f : ℕ → ℕ) (cs : List ℕ) → summed (λ c. true) f cs ≡ sum f cs
+unfolding summed sum
+summed-all f [] = refl
+summed-all f (c ∷ cs) = ap (λ (n : ℕ). f c + n) (summed-all f cs)
+
+-- a count is such a sum
+summed-ones : (t : ℕ → Bool) (cs : List ℕ) → summed t (λ c. 1) cs ≡ counted t cs
+unfolding summed counted
+summed-ones t [] = refl
+summed-ones t (c ∷ cs) = go (t c) (summed-ones t cs)
+  where
+    go : (b : Bool) → summed t (λ c. 1) cs ≡ counted t cs
+        → cond b (1 + summed t (λ c. 1) cs) (summed t (λ c. 1) cs) ≡ cond b (suc (counted t cs)) (counted t cs)
+    go true h = omega arith
+    go false h = h
+
+pub counted-none : (t : ℕ → Bool) (cs : List ℕ) → ((c : ℕ) → List·Memᴰ c cs → t c ≡ false) → counted t cs ≡ 0
+counted-none t cs h = sym (summed-ones t cs) ∙ summed-none t (λ c. 1) cs h
 
 -- each cell stands once
 pub data Once : List ℕ → Type 0 where
@@ -49,11 +69,6 @@ except-true c u q e = go (eqb q c) refl e
     go : (b : Bool) → eqb q c ≡ b → cond b false (u q) ≡ true → (q ≢ c) × (u q ≡ true)
     go true p h = absurd (true≢false (sym h))
     go false p h = (eqb-false q c p, h)
-
--- the sum of f over those cells of a list that pass a test
-unfoldable pub summed : (ℕ → Bool) → (ℕ → ℕ) → List ℕ → ℕ
-summed t f [] = 0
-summed t f (c ∷ cs) = let r = summed t f cs in cond (t c) (f c + r) r
 
 pub summed-cells : (n : ℕ) (cs : List ℕ) (u t : ℕ → Bool) (f : ℕ → ℕ) → Once cs → SameTests n cs u t
     → sumOver n u f ≡ summed t f cs
@@ -90,17 +105,6 @@ summed-cells n (c ∷ cs) u t f (once-on d o) r = go (t c) refl (λ v. summed-ce
               rest (List·Memᴰ·cases-cons (r .listed q k h)) (λ p. true≢false (sym h ∙ ap u p ∙ now));
           same = λ q m. r .same q (List·Memᴰ·tail m);
         })
-
--- a count is such a sum
-summed-ones : (t : ℕ → Bool) (cs : List ℕ) → summed t (λ c. 1) cs ≡ counted t cs
-unfolding summed counted
-summed-ones t [] = refl
-summed-ones t (c ∷ cs) = go (t c) (summed-ones t cs)
-  where
-    go : (b : Bool) → summed t (λ c. 1) cs ≡ counted t cs
-        → cond b (1 + summed t (λ c. 1) cs) (summed t (λ c. 1) cs) ≡ cond b (suc (counted t cs)) (counted t cs)
-    go true h = omega arith
-    go false h = h
 
 pub counted-cells : (n : ℕ) (cs : List ℕ) (u t : ℕ → Bool) → Once cs → SameTests n cs u t → count n u ≡ counted t cs
 counted-cells n cs u t o r = count-sum n u ∙ summed-cells n cs u t (λ c. 1) o r ∙ summed-ones t cs

@@ -6,7 +6,7 @@ use mathlib.Core.List.{List·Memᴰ·cases-cons}
 use mathlib.Core.Logic.{_⊎_, inl, inr}
 use Prim.Native.Nat.{ℕ, zero, suc, _<_}
 use native.Mathlib.Omega.{arith}
-use lib.ListN.{length, getD}
+use lib.ListN.{length, getD, take}
 use Rattle.claims.specs.Dictionary.{isBefore}
 use Rattle.claims.proofs.Dictionary.{before-irreflexive, before-transitive, Compared, before, same, after, compared}
 use Rattle.index.specs.Units.{withLabel}
@@ -32,6 +32,20 @@ rise-at rise-none i k l h = absurd (omega arith)
 rise-at (rise-on {xs = xs} b w) i zero l h = absurd (omega arith)
 rise-at (rise-on {xs = xs} b w) zero (suc k) l h = b (getD xs k []) (at-place [] xs k (omega arith))
 rise-at (rise-on {xs = xs} b w) (suc i) (suc k) l h = rise-at w i k (omega arith) (omega arith)
+
+-- the first k labels
+take-mem : {A : Type 0} {y : A} (k : ℕ) (xs : List A) → List·Memᴰ y (take k xs) → List·Memᴰ y xs
+take-mem zero xs m = absurd (List·Memᴰ·not-nil m)
+take-mem (suc k) [] m = m
+take-mem (suc k) (x ∷ xs) m = elim (List·Memᴰ·cases-cons m) [
+  | inl e ↦ List·Memᴰ·head e
+  | inr j ↦ List·Memᴰ·tail (take-mem k xs j)
+]
+
+pub take-rise : (k : ℕ) {xs : List (List ℕ)} → LabelsRise xs → LabelsRise (take k xs)
+take-rise zero w = rise-none
+take-rise (suc k) rise-none = rise-none
+take-rise (suc k) (rise-on {xs = xs} b w) = rise-on (λ y m. b y (take-mem k xs m)) (take-rise k w)
 
 pub not-both : (x y : List ℕ) → isBefore x y ≡ true → isBefore y x ≡ true → ⊥
 not-both x y e f = true≢false (sym (before-transitive x y x e f) ∙ before-irreflexive x)

@@ -1,6 +1,6 @@
 -- Sums over the cells of several units are those of the units' sums; the counts of the units add up to the number of
 -- inside cells.
-use mathlib.Core.Path.{_≡_, refl, sym, _∙_, ap}
+use mathlib.Core.Path.{_≡_, refl, sym, _∙_}
 use mathlib.Core.Bool.{Bool, true, false, cond, true≢false}
 use mathlib.Core.List.{List, [], _∷_, map, List·Memᴰ, List·Memᴰ·head, List·Memᴰ·tail, List·Memᴰ·not-nil}
 use mathlib.Core.List.{List·Memᴰ·cases-cons}
@@ -81,7 +81,7 @@ sum-units S f (x ∷ xs) (rise-on b w) =
     )
 
 -- every inside cell is of one of the units, and no other cell is
-pub all-of-one : (S : Sheet) (q : ℕ) → q < cells (S .grid) → isOfOne S (distinctLabels S) q ≡ inside (S .grid) q
+all-of-one : (S : Sheet) (q : ℕ) → q < cells (S .grid) → isOfOne S (distinctLabels S) q ≡ inside (S .grid) q
 unfolding distinctLabels
 all-of-one S q l = go (inside (S .grid) q) refl
   where
@@ -94,21 +94,16 @@ pub sum-all-units : (S : Sheet) (f : ℕ → ℕ)
     → sumOver (cells (S .grid)) (isOfOne S (distinctLabels S)) f ≡ sumOver (cells (S .grid)) (inside (S .grid)) f
 sum-all-units S f = sum-same (cells (S .grid)) _ _ f f (all-of-one S) (λ q l. refl)
 
--- counts of cells as such sums
+-- a count of cells as such a sum
 cells-sum : (S : Sheet) (x : List ℕ) → unitCells S x ≡ sumOver (cells (S .grid)) (isOfUnit S x) (λ q. 1)
 unfolding unitCells
 cells-sum S x = count-sum (cells (S .grid)) (isOfUnit S x)
-
-cells-sums : (S : Sheet) (xs : List (List ℕ))
-    → map (unitCells S) xs ≡ map (λ x. sumOver (cells (S .grid)) (isOfUnit S x) (λ q. 1)) xs
-cells-sums S [] = refl
-cells-sums S (x ∷ xs) = let e = cells-sum S x in let r = cells-sums S xs in λ i. e i ∷ r i
 
 pub counts-add : (S : Sheet)
     → sum (λ m. m) (map (unitCells S) (distinctLabels S)) ≡ count (cells (S .grid)) (inside (S .grid))
 unfolding distinctLabels
 counts-add S =
     let n = cells (S .grid) in
-    ap (sum (λ m. m)) (cells-sums S (distinctLabels S))
+    (λ i. sum (λ m. m) (map (λ x. cells-sum S x i) (distinctLabels S)))
     ∙ sum-units S (λ q. 1) (distinctLabels S) (among-rise S n) ∙ sum-all-units S (λ q. 1)
     ∙ sym (count-sum n (inside (S .grid)))

@@ -1,7 +1,7 @@
 -- The groups of an accepted sheet's order along rivers are the units of its definition.
 use mathlib.Core.Path.{_≡_, refl, sym, _∙_, ap}
 use mathlib.Core.Bool.{Bool, true, false}
-use mathlib.Core.List.{List, [], _∷_, map, List·Memᴰ, List·Memᴰ·head, List·Memᴰ·tail, Memᴰ·map, Memᴰ·of-map}
+use mathlib.Core.List.{List, [], _∷_, map, map-id, List·Memᴰ, List·Memᴰ·head, List·Memᴰ·tail, Memᴰ·map, Memᴰ·of-map}
 use Prim.Native.Nat.{ℕ, suc, _≤_, _<_}
 use native.Mathlib.Omega.{arith}
 use lib.Dec.{eqb}
@@ -26,7 +26,7 @@ use Rattle.index.specs.Groups.{grouped}
 use Rattle.index.proofs.LabelsRise.{same-labels}
 use Rattle.index.proofs.Distinct.{among-rise, among-has, among-from}
 use Rattle.index.proofs.ListPlaces.{at-place, place-of}
-use Rattle.index.proofs.Counting.{Once, once-none, once-on, counted-cells}
+use Rattle.index.proofs.Counting.{Once, once-none, once-on, SameTests, counted-cells}
 use Rattle.index.proofs.GroupsInOrder.{NeverFall, fall-none, fall-on, entryDigits, GroupsOf, groups-of}
 use Rattle.index.proofs.Outlets.{of-unit, unit-of, outlet-is}
 
@@ -56,12 +56,13 @@ stand-once (c ∷ cs) once =
     omega arith)
     (stand-once cs (λ i j l k e. let q = once (suc i) (suc j) (omega arith) (omega arith) e in omega arith))
 
-map-back : (f : List ℕ → UnitEntry) (es : List UnitEntry)
-    → ((e : UnitEntry) → List·Memᴰ e es → e ≡ f (entryDigits e)) → es ≡ map f (map entryDigits es)
-map-back f [] h = refl
-map-back f (e ∷ es) h =
+-- values of entries that are told by their digits
+pub entries-map : {A : Type 0} (f : UnitEntry → A) (g : List ℕ → A) (es : List UnitEntry)
+    → ((e : UnitEntry) → List·Memᴰ e es → f e ≡ g (entryDigits e)) → map f es ≡ map g (map entryDigits es)
+entries-map f g [] h = refl
+entries-map f g (e ∷ es) h =
     let p = h e (List·Memᴰ·head refl) in
-    let q = map-back f es (λ d m. h d (List·Memᴰ·tail m)) in λ i. p i ∷ q i
+    let q = entries-map f g es (λ d m. h d (List·Memᴰ·tail m)) in λ i. p i ∷ q i
 
 -- ---- an accepted sheet, with its order along rivers
 
@@ -150,7 +151,7 @@ module _ (S : Sheet) (L : Lent) (old : List ℕ) {areas work : List ℕ} {queued
   entry-told e m = rw (groups .each e m .named) at (told (e .outlet) (entry-inside e m))
 
   -- a listed cell is of an entry's unit exactly if it has its label
-  pub same-test : (e : UnitEntry) → List·Memᴰ e (grouped label cs) → (c : ℕ) → List·Memᴰ c cs
+  same-test : (e : UnitEntry) → List·Memᴰ e (grouped label cs) → (c : ℕ) → List·Memᴰ c cs
       → isOfUnit S (entryDigits e) c ≡ eqb (label c) (e .label)
   same-test e m c k = go (eqb (label c) (e .label)) refl
     where
@@ -166,15 +167,20 @@ module _ (S : Sheet) (L : Lent) (old : List ℕ) {areas work : List ℕ} {queued
           (λ u. eqb-false (label c) (e .label) q
           (label-written S L accepted c i ∙ ap number (unit-of S c (entryDigits e) u .1) ∙ entry-told e m))
 
+  -- so the listed cells with its label are the cells of its unit
+  pub entry-tests : (e : UnitEntry) → List·Memᴰ e (grouped label cs)
+      → SameTests (cells (S .grid)) cs (isOfUnit S (entryDigits e)) (λ c. eqb (label c) (e .label))
+  entry-tests e m = record {
+    below = λ c k. inside-lt (S .grid) c (listed-inside c k);
+    listed = λ q l h. inside-listed q (unit-of S q (entryDigits e) h .0);
+    same = same-test e m;
+  }
+
   entry-count : (e : UnitEntry) → List·Memᴰ e (grouped label cs) → unitCells S (entryDigits e) ≡ e .count
   unfolding unitCells
   entry-count e m =
       counted-cells (cells (S .grid)) cs (isOfUnit S (entryDigits e)) (λ c. eqb (label c) (e .label)) listed-once
-      (record {
-        below = λ c k. inside-lt (S .grid) c (listed-inside c k);
-        listed = λ q l h. inside-listed q (unit-of S q (entryDigits e) h .0);
-        same = same-test e m;
-      })
+      (entry-tests e m)
       ∙ sym (groups .each e m .has-count)
 
   entry-is : (e : UnitEntry) → List·Memᴰ e (grouped label cs) → e ≡ entryOfUnit S (entryDigits e)
@@ -186,4 +192,5 @@ module _ (S : Sheet) (L : Lent) (old : List ℕ) {areas work : List ℕ} {queued
   pub groups-are-units : grouped label cs ≡ units S
   unfolding units
   groups-are-units =
-      map-back (entryOfUnit S) (grouped label cs) entry-is ∙ ap (map (entryOfUnit S)) same-digits
+      sym (map-id (grouped label cs)) ∙ entries-map (λ e. e) (entryOfUnit S) (grouped label cs) entry-is
+      ∙ ap (map (entryOfUnit S)) same-digits

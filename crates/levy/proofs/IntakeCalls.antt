@@ -14,7 +14,7 @@ use Rattle.index.specs.declared.Indexed.the-variants.{Refused}
 use Rattle.index.specs.Index.{LentIndex, indexedValues}
 use Rattle.dues.specs.Levy.{greatestTotal, totalFits, leviedOn, levied, lentAfterLevy}
 use Rattle.dues.specs.FromIntake.{intakeLevied, intakeLentAfterLevy, indexLeviedWith, duesWith}
-use Rattle.dues.specs.FromIntake.{intakeIndexAfterLevy, intakeDues}
+use Rattle.dues.specs.FromIntake.{intakeIndexAfterLevy, intakeDuesAfter}
 use Rattle.levy.proofs.Calls.{Answered as DirectlyAnswered, too-large as directly-too-large}
 
 module _ (i : Intake) (T : LentSheet) (L : Lent) (I : LentIndex) (total : ℕ) (D : List ℕ) where
@@ -24,7 +24,7 @@ module _ (i : Intake) (T : LentSheet) (L : Lent) (I : LentIndex) (total : ℕ) (
       (r ≡ intakeLevied i T L I total D) ×
       ((indexedValues r ≡ indexedValues (intakeLevied i T L I total D)) ×
       ((L′ ≡ intakeLentAfterLevy i T L total) ×
-      ((I′ ≡ intakeIndexAfterLevy i T L I total D) × (D′ ≡ intakeDues i T L I total D))))
+      ((I′ ≡ intakeIndexAfterLevy i T L I total D) × (D′ ≡ intakeDuesAfter i T L I total D))))
 
   -- 18
   index-kept : greatestTotal < total → (sizes : Option Sizes) → I ≡ indexLeviedWith sizes T L I total D
@@ -38,7 +38,7 @@ module _ (i : Intake) (T : LentSheet) (L : Lent) (I : LentIndex) (total : ℕ) (
   dues-kept l (some z) = directly-too-large (sheetOf z T) L I total D l .1 .1 .1 .1
 
   pub too-large : greatestTotal < total → Answered (Refused 18 0) L I D
-  unfolding intakeLevied leviedOn totalFits intakeLentAfterLevy intakeIndexAfterLevy intakeDues
+  unfolding intakeLevied leviedOn totalFits intakeLentAfterLevy intakeIndexAfterLevy intakeDuesAfter
   too-large l =
       let e = lt-leb total greatestTotal l in (
         rw e refl,
@@ -47,11 +47,11 @@ module _ (i : Intake) (T : LentSheet) (L : Lent) (I : LentIndex) (total : ℕ) (
 
   -- 15
   pub not-ended : total ≤ greatestTotal → endedSizes (i .stage) ≡ none → Answered (Refused 15 0) L I D
-  unfolding intakeLevied totalFits intakeLentAfterLevy intakeIndexAfterLevy intakeDues
+  unfolding intakeLevied totalFits intakeLentAfterLevy intakeIndexAfterLevy intakeDuesAfter
   not-ended l n = let e = le-leb total greatestTotal l in rw (e, n) (refl, (refl, (refl, (refl, refl))))
 
   -- as a direct call
   pub ended : {z : Sizes} {r : Indexed} {L′ : Lent} {I′ : LentIndex} {D′ : List ℕ} → endedSizes (i .stage) ≡ some z
       → DirectlyAnswered (sheetOf z T) L I total D r L′ I′ D′ → Answered r L′ I′ D′
-  unfolding intakeLevied levied intakeLentAfterLevy lentAfterLevy intakeIndexAfterLevy intakeDues
+  unfolding intakeLevied levied intakeLentAfterLevy lentAfterLevy intakeIndexAfterLevy intakeDuesAfter
   ended e a = rw e a

@@ -51,8 +51,8 @@ module _ (S : Sheet) (L : Lent) (passed : firstChecks S L ≡ Accepted) (fit : F
   abbrev cs : List ℕ
   cs = cellsIn (cells (S .grid)) (L′ .work) (found .queued)
 
-  abbrev rowOf : ℕ → ℕ
-  rowOf = rowWeight (S .grid .cols) (S .weights)
+  abbrev rowWeightOf : ℕ → ℕ
+  rowWeightOf = rowWeight (S .grid .cols) (S .weights)
 
   module _ {count : ℕ} (e : r ≡ Units count) where
     filled : IndexFilled S L I count
@@ -82,12 +82,12 @@ module _ (S : Sheet) (L : Lent) (passed : firstChecks S L ≡ Accepted) (fit : F
         (sym (groups-are-units S L (L .areas) (filled .accepted) measured arranged))
         ∙ counts-length (labelAt (lentAfter S L .labels)) cs
 
-    row-weight : sum rowOf cs ≡ wholeWeight S
+    row-weight : sum rowWeightOf cs ≡ wholeWeight S
     unfolding weight
     row-weight = listed-weight S L (filled .accepted) (L .areas) measured arranged
 
-    first-is : getD (L′ .work) (cellsPart * cells (S .grid)) 0 ≡ outlet (S .grid)
-    first-is =
+    first-outlet : getD (L′ .work) (cellsPart * cells (S .grid)) 0 ≡ outlet (S .grid)
+    first-outlet =
         let p = cellsPart * cells (S .grid) in
         rw (add-zero p) at (sym (getD-drop p (L′ .work) 0 0))
         ∙ sym (getD-take (found .queued) (drop p (L′ .work)) 0 0 (arranged .some)) ∙ arranged .outlet-first
@@ -116,9 +116,9 @@ module _ (S : Sheet) (L : Lent) (passed : firstChecks S L ≡ Accepted) (fit : F
           small = small;
           some = arranged .some;
           room = in-order {labels = L′ .labels} small (l .work) (l .labels) arranged .room;
-          outlet-on = rw first-is (omega (arith, outlet-on, l .areas));
+          outlet-on = rw first-outlet (omega (arith, outlet-on, l .areas));
           outlet-area =
-              rw first-is (ap (λ (a : List ℕ). getD a (outlet (S .grid)) 0) measured
+              rw first-outlet (ap (λ (a : List ℕ). getD a (outlet (S .grid)) 0) measured
               ∙ written-at (area S) n (outlet (S .grid)) (L .areas) outlet-on
               ∙ outlet-area S L (filled .accepted) ∙ sym row-weight);
           counts-on = omega (arith, filled .all-units, places .counts, l .counts);
@@ -132,22 +132,22 @@ module _ (S : Sheet) (L : Lent) (passed : firstChecks S L ≡ Accepted) (fit : F
         }
 
     -- the dues by the order along rivers are those of the definition
-    dues-in-order : (total : ℕ) → duesBy total (sum rowOf cs) 0 (partWeights rowOf (take count (I′ .counts)) cs)
-        ≡ duesOf S total
+    dues-in-order : (total : ℕ)
+        → duesBy total (sum rowWeightOf cs) 0 (partWeights rowWeightOf (take count (I′ .counts)) cs) ≡ duesOf S total
     unfolding weight
     dues-in-order total =
         rw (row-weight, counts-written, listed-parts S L (filled .accepted) (L .areas) measured arranged)
         (dues-are S total)
 
   pub dues-written : (total : ℕ) (dues : List ℕ) {dues′ : List ℕ}
-      → dues′ ≡ ifLevied r (duesBy total (sum rowOf cs) 0
-      (partWeights rowOf (take (indexedValues r .units) (I′ .counts)) cs)) dues
+      → dues′ ≡ ifLevied r (duesBy total (sum rowWeightOf cs) 0
+      (partWeights rowWeightOf (take (indexedValues r .units) (I′ .counts)) cs)) dues
       → dues′ ≡ ifLevied r (duesOf S total) dues
   dues-written total dues {dues′} = go r refl
     where
       go : (x : Indexed) → r ≡ x
-          → dues′ ≡ ifLevied x (duesBy total (sum rowOf cs) 0
-          (partWeights rowOf (take (indexedValues x .units) (I′ .counts)) cs)) dues
+          → dues′ ≡ ifLevied x (duesBy total (sum rowWeightOf cs) 0
+          (partWeights rowWeightOf (take (indexedValues x .units) (I′ .counts)) cs)) dues
           → dues′ ≡ ifLevied x (duesOf S total) dues
       go (Units count) e h = h ∙ ap (λ (new : List ℕ). written new dues) (dues-in-order e total)
       go (Refused number place) e h = h

@@ -8,7 +8,7 @@ ghost use mathlib.Core.Path.{_≡_};
 ghost use Rattle.intake.specs.Intake.{lentSheet};
 ghost use Rattle.labelling.specs.Labelling.{lent};
 ghost use Rattle.index.specs.Index.{lentIndex, indexedValues};
-ghost use Rattle.dues.specs.FromIntake.{intakeLevied, intakeLentAfterLevy, intakeIndexAfterLevy, intakeDues};
+ghost use Rattle.dues.specs.FromIntake.{intakeLevied, intakeLentAfterLevy, intakeIndexAfterLevy, intakeDuesAfter};
 
 // Labels the sheet of an intake and fills the index of its units and their dues: refused by 18 if the total is too
 // large, by 15 if the intake has not ended, then as a direct call with its sizes.
@@ -40,7 +40,7 @@ pub fn levy_intake(
         (lent (now (areas .entry)) (now (labels .entry)) (now (work .entry)))
         (lentIndex (now (units .entry)) (now (outlets .entry)) (now (counts .entry))) total (now (dues .entry)) ⌝ }
     ensures dues { λ _. ⌜ now (dues .exit)
-        ≡ intakeDues intake (lentSheet (now (dirs .entry)) (now (weights .entry)))
+        ≡ intakeDuesAfter intake (lentSheet (now (dirs .entry)) (now (weights .entry)))
         (lent (now (areas .entry)) (now (labels .entry)) (now (work .entry)))
         (lentIndex (now (units .entry)) (now (outlets .entry)) (now (counts .entry))) total (now (dues .entry)) ⌝ }
 {

@@ -72,7 +72,7 @@ module _ (G : Grid) where
         size-inside c i ∙ count-sum (cells G) (drainsInto G c) ∙ s ∙ (rw d (omega arith))
 
     -- all inside cells drain into the outlet
-    drains-all : Basin (networkBy G area least split) (λ c. inside G c ≡ true) (outlet G) → (c : ℕ)
+    pub drains-all : Basin (networkBy G area least split) (λ c. inside G c ≡ true) (outlet G) → (c : ℕ)
         → inside G c ≡ drainsInto G (outlet G) c
     unfolding networkBy drainsInto
     drains-all B c = go (inside G c) refl

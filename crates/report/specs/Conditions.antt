@@ -35,7 +35,7 @@ endNumbers = 14 ∷ []
 abbrev pub sheetNumbers : List ℕ
 sheetNumbers = 3 ∷ 4 ∷ 5 ∷ 6 ∷ 7 ∷ []
 
--- those that a file can get: all but 11, 12, 13, 15 and 16
+-- those that a file can get: all but 11, 12, 13, 15, 16 and 18
 abbrev pub fileNumbers : List ℕ
 fileNumbers = 1 ∷ 2 ∷ 3 ∷ 4 ∷ 5 ∷ 6 ∷ 7 ∷ 8 ∷ 9 ∷ 10 ∷ 14 ∷ 17 ∷ []
 

@@ -25,23 +25,24 @@ unfoldable pub intakeLentAfterLevy : Intake → LentSheet → Lent → ℕ → L
 unfolding totalFits intakeLent
 intakeLentAfterLevy i T L total = let labelled : Lent = intakeLent i T L in cond (totalFits total) labelled L
 
--- with the sizes of an intake that has ended, if it has
+-- the three slices of the index, with the sizes of an intake that has ended, or none
 unfoldable pub indexLeviedWith : Option Sizes → LentSheet → Lent → LentIndex → ℕ → List ℕ → LentIndex
 unfolding indexAfterLevy
 indexLeviedWith none T L I total dues = I
 indexLeviedWith (some z) T L I total dues = indexAfterLevy (sheetOf z T) L I total dues
 
+-- the dues, in the same way
 unfoldable pub duesWith : Option Sizes → LentSheet → Lent → LentIndex → ℕ → List ℕ → List ℕ
 unfolding duesAfter
 duesWith none T L I total dues = dues
 duesWith (some z) T L I total dues = duesAfter (sheetOf z T) L I total dues
 
--- the three slices of the index
+-- the three slices of the index after the call from an intake
 unfoldable pub intakeIndexAfterLevy : Intake → LentSheet → Lent → LentIndex → ℕ → List ℕ → LentIndex
 unfolding endedSizes indexLeviedWith
 intakeIndexAfterLevy i T L I total dues = indexLeviedWith (endedSizes (i .stage)) T L I total dues
 
--- the dues
+-- and the dues
 unfoldable pub intakeDuesAfter : Intake → LentSheet → Lent → LentIndex → ℕ → List ℕ → List ℕ
 unfolding endedSizes duesWith
 intakeDuesAfter i T L I total dues = duesWith (endedSizes (i .stage)) T L I total dues

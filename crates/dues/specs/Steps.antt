@@ -36,7 +36,7 @@ pub record Shared (total whole cols : ℕ) (weights cells counts dues : List ℕ
   pub counted : sum (λ m. m) counts ≤ length cells
   pub room : length counts ≤ length dues
 
--- what the order along rivers and the index hand over: so many cells stand in their part of the work places, the first
+-- what the order along rivers and the index hand over: `queued` cells stand in their part of the work places, the first
 -- is the outlet, whose area is their weight, and the units' counts are written
 pub record DuesInOrder (total n queued cols units : ℕ) (weights areas work counts dues : List ℕ) : Type 0 where
   pub small : n ≤ mostCells

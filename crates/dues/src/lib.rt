@@ -12,7 +12,7 @@ ghost use Rattle.index.specs.Index.{indexedValues};
 ghost use Rattle.dues.specs.Levy.{ifLevied};
 ghost use Rattle.dues.specs.Steps.{Weighed, Shared, DuesInOrder, partWeights, duesBy};
 
-// The summed weight of cells: that of each cell's row.
+// The summed weight of cells; a cell weighs what the weight of its row says.
 fn weight_of(cols: usize, weights: &[u16], cells: &[u32]) -> u64
     requires { ⌜ Weighed cols (now weights) (now cells) ⌝ }
     ensures { λ r. ⌜ r ≡ sum (rowWeight cols (now (weights .entry))) (now (cells .entry)) ⌝ }
@@ -54,8 +54,8 @@ fn write_dues(
     }
 }
 
-// Writes the dues of the units that the index call found, from the order along rivers in the work places; refused,
-// none. The area of the outlet, the first cell in that order, is the weight of all cells.
+// Writes the dues of the units that the index call found, from the order along rivers in the work places, which has
+// `queued` cells; refused, none. The area of the outlet, the first cell in that order, is the weight of all cells.
 pub fn dues_in_order(
     answer: Indexed,
     n: usize,

@@ -94,7 +94,7 @@ module _ (S : Sheet) (L : Lent) (I : LentIndex) (total : ℕ) (D : List ℕ) whe
         let a = index-refused S L I e in
         answered (ap (λ (x : Indexed). withDues x D) (a .0) ∙ sym answer-then) (a .1 .1 .0 ∙ sym lent-then) refl refl
 
-    -- the slice of the units' labels, cut to as many places as the dues have
+    -- the slice of the units' labels, cut to no more places than the dues have
     module _ (most : ℕ) (shorter : most ≡ min (length (I .labels)) (length D)) where
       abbrev cut : LentIndex
       cut = lentIndex (take most (I .labels)) (I .outlets) (I .counts)

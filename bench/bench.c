@@ -1,6 +1,7 @@
-/* Times the proved labelling call against the plain C baseline, the index call against the labelling call, the levy
-   call against the index call, and check 4 by words against check 4 by bytes, on the same sheets in one run, then the
-   call for many pairs of labels, and prints the ratios. */
+/* Times the proved labelling call against the plain C baseline, the same call with a least above 1 against that with
+   least 1, the index call against the labelling call, the levy call against the index call, and check 4 by words
+   against check 4 by bytes, on the same sheets in one run, then the call for many pairs of labels, and prints the
+   ratios. Where nothing else is said, least is 1 and split 4, as in the baseline. */
 #include <stdint.h>
 #include <stdio.h>
 #include <stdlib.h>
@@ -10,25 +11,32 @@
 #include "sheets.h"
 #include "time_pairs.h"
 
+enum { LEAST = 16 }; /* of the call with a least above 1 */
+
 static uint32_t baseline_areas[CELLS], index_areas[CELLS];
 static uint64_t baseline_labels[CELLS], index_labels[CELLS], dues[CELLS];
 static const uint64_t total = 100000000000; /* cents, the largest total of the levy call */
 
 static uint64_t proved(int side, int depth) {
     size_t n = (size_t)side * side;
-    return pf_label(side, side, depth, dirs, n, weights, side, areas, n, labels, n, work, 8 * n);
+    return pf_label(side, side, depth, 1, 4, dirs, n, weights, side, areas, n, labels, n, work, 8 * n);
+}
+
+static uint64_t with_least(int side, int depth) {
+    size_t n = (size_t)side * side;
+    return pf_label(side, side, depth, LEAST, 4, dirs, n, weights, side, areas, n, labels, n, work, 8 * n);
 }
 
 static uint64_t indexed(int side, int depth) {
     size_t n = (size_t)side * side;
-    return pf_index(side, side, depth, dirs, n, weights, side, index_areas, n, index_labels, n, work, 8 * n, units, n,
-                    outlets, n, counts, n);
+    return pf_index(side, side, depth, 1, 4, dirs, n, weights, side, index_areas, n, index_labels, n, work, 8 * n,
+                    units, n, outlets, n, counts, n);
 }
 
 static uint64_t levied(int side, int depth) {
     size_t n = (size_t)side * side;
-    return pf_levy(side, side, depth, dirs, n, weights, side, index_areas, n, index_labels, n, work, 8 * n, units, n,
-                   outlets, n, counts, n, total, dues, n);
+    return pf_levy(side, side, depth, 1, 4, dirs, n, weights, side, index_areas, n, index_labels, n, work, 8 * n,
+                   units, n, outlets, n, counts, n, total, dues, n);
 }
 
 /* Of the crate benchmark: the first cell of a sheet whose byte is none of the nine codes, or its number of cells. */
@@ -84,6 +92,21 @@ static void weighted_against_baseline(void) {
         ratio_of_labellers(shapes[s].name, 18);
     }
     weights_of_1();
+}
+
+static void least_against_1(void) {
+    printf("\ntime of the proved call with least %d / with least 1, 256 x 256, depth 18, weights 1 (milliseconds of "
+           "each)\n", LEAST);
+    for (size_t s = 0; s < SHAPES; s++) {
+        double p, q;
+        shapes[s].make(SIDE);
+        if (with_least(SIDE, 18) != 0 || proved(SIDE, 18) != 0) {
+            printf("%s: refused\n", shapes[s].name);
+            exit(1);
+        }
+        least_times(with_least, proved, SIDE, 18, &p, &q);
+        printf("%-7s ratio %.2f  (%.2f / %.2f)\n", shapes[s].name, p / q, p * 1e3, q * 1e3);
+    }
 }
 
 static void index_against_label(const char *name) {
@@ -164,6 +187,7 @@ int main(void) {
     weights_of_1();
     label_against_baseline();
     weighted_against_baseline();
+    least_against_1();
     index_and_levy();
     words_against_bytes();
     time_a_cell();

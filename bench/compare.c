@@ -14,13 +14,13 @@ static uint64_t new_labels[CELLS];
 
 static uint64_t new_label(int side, int depth) {
     size_t n = (size_t)side * side;
-    return pf_label(side, side, depth, dirs, n, weights, side, areas, n, labels, n, work, 8 * n);
+    return pf_label(side, side, depth, 1, 4, dirs, n, weights, side, areas, n, labels, n, work, 8 * n);
 }
 
 static uint64_t new_index(int side, int depth) {
     size_t n = (size_t)side * side;
-    return pf_index(side, side, depth, dirs, n, weights, side, areas, n, labels, n, work, 8 * n, units, n, outlets, n,
-                    counts, n);
+    return pf_index(side, side, depth, 1, 4, dirs, n, weights, side, areas, n, labels, n, work, 8 * n, units, n,
+                    outlets, n, counts, n);
 }
 
 /* Do both calls give the same answer, areas and labels? */
@@ -50,7 +50,7 @@ static void sheets_old_and_new(void) {
     static const int sides[] = {64, 256}, depths[] = {1, 3, 18};
     double worst = 0, ratio;
     weights_of_1();
-    printf("milliseconds of a call, weights 1\n");
+    printf("milliseconds of a call, weights 1, least 1 and split 4\n");
     for (size_t s = 0; s < SHAPES; s++)
         for (size_t i = 0; i < 2; i++) {
             shapes[s].make(sides[i]);

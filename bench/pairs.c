@@ -80,7 +80,7 @@ const struct kind kinds[KINDS] = {{"one spill", 3, one_spill},       {"one spill
                                   {"some refused", 18, some_refused}};
 
 uint64_t flow_one_by_one(int depth) {
-    for (int k = 0; k < PAIRS; k++) answers[k] = (uint8_t)pf_flow(depth, p_labels[k], q_labels[k]);
+    for (int k = 0; k < PAIRS; k++) answers[k] = (uint8_t)pf_flow(depth, 1, p_labels[k], q_labels[k]);
     return 256 * (uint64_t)PAIRS;
 }
 

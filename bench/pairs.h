@@ -17,7 +17,7 @@ extern const struct kind { const char *name; int depth; void (*make)(int depth);
 /* A call that answers all pairs, and what it returns. */
 typedef uint64_t (*pairs_call)(int depth);
 
-/* Asks pf_flow about each pair; returns what the call for many pairs does. */
+/* Asks pf_flow about each pair, with least 1; returns what the call for many pairs does. */
 uint64_t flow_one_by_one(int depth);
 
 /* Do both calls return the same and write the same answers? */

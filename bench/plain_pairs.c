@@ -2,7 +2,7 @@
    answers and refusals. */
 #include "plain_pairs.h"
 
-enum { MAX_DEPTH = 18, NO_LABEL = -1 };
+enum { MAX_DEPTH = 18, MAX_LEAST = 65536000, NO_LABEL = -1 };
 enum { NO, YES, SAME, UNDECIDED, REFUSED = 128 };
 
 /* Writes the digits of a label to the last places and gives their count, or NO_LABEL. A digit comes from the quotient,
@@ -22,7 +22,7 @@ static int put_digits(int depth, uint64_t label, uint8_t digits[MAX_DEPTH]) {
     return count;
 }
 
-static uint8_t answer_of(int depth, uint64_t p, uint64_t q) {
+static uint8_t answer_of(int depth, size_t least, uint64_t p, uint64_t q) {
     uint8_t p_places[MAX_DEPTH], q_places[MAX_DEPTH];
     int i = 0, n = put_digits(depth, p, p_places);
     if (n == NO_LABEL) return REFUSED + 11;
@@ -36,14 +36,15 @@ static uint8_t answer_of(int depth, uint64_t p, uint64_t q) {
     if (x[i] > y[i]) return NO;
     for (; i < n; i++)
         if (x[i] % 2 == 0) return NO;
-    return n < depth ? YES : UNDECIDED;
+    return n < depth && least == 1 ? YES : UNDECIDED;
 }
 
-uint64_t plain_flow_pairs(size_t depth, const uint64_t *p, size_t p_len, const uint64_t *q, size_t q_len,
+uint64_t plain_flow_pairs(size_t depth, size_t least, const uint64_t *p, size_t p_len, const uint64_t *q, size_t q_len,
                           uint8_t *answers, size_t answers_len) {
     size_t count = p_len < q_len ? p_len : q_len;
     if (depth < 1 || depth > MAX_DEPTH) return 2;
+    if (least < 1 || least > MAX_LEAST) return 19;
     if (answers_len < count) return 3;
-    for (size_t k = 0; k < count; k++) answers[k] = answer_of((int)depth, p[k], q[k]);
+    for (size_t k = 0; k < count; k++) answers[k] = answer_of((int)depth, least, p[k], q[k]);
     return 256 * (uint64_t)count;
 }

@@ -1,5 +1,5 @@
-/* Times pf_flow_pairs, the plain C call, and pf_flow called once for each pair, on the same pairs by turns, and prints
-   the ratios. */
+/* Times pf_flow_pairs, the plain C call, and pf_flow called once for each pair, on the same pairs by turns, with least
+   1, and prints the ratios. */
 #include <stdint.h>
 #include <stdio.h>
 #include <stdlib.h>
@@ -11,11 +11,11 @@
 enum { ANSWERS = 5, REFUSED = 128 };
 
 static uint64_t proved(int depth) {
-    return pf_flow_pairs(depth, p_labels, PAIRS, q_labels, PAIRS, answers, PAIRS);
+    return pf_flow_pairs(depth, 1, p_labels, PAIRS, q_labels, PAIRS, answers, PAIRS);
 }
 
 static uint64_t plain(int depth) {
-    return plain_flow_pairs(depth, p_labels, PAIRS, q_labels, PAIRS, answers, PAIRS);
+    return plain_flow_pairs(depth, 1, p_labels, PAIRS, q_labels, PAIRS, answers, PAIRS);
 }
 
 /* Prints how many of a hundred pairs got each answer. */

@@ -4,13 +4,13 @@
 #include "pfafstetter.h"
 
 int main(void) {
-  enum { GAUGES = 7, SPILL = 92 };
+  enum { GAUGES = 7, SPILL = 92, LEAST = 1 /* as the labels were made */ };
   static const char *const told[] = {"no", "yes", "same label", "not known"};
   uint64_t gauges[GAUGES] = {1, 3, 30, 4, 91, 92, 93}, spill[GAUGES];
   uint8_t answers[GAUGES];
   for (size_t k = 0; k < GAUGES; k++)
     spill[k] = SPILL;
-  uint64_t answer = pf_flow_pairs(3, gauges, GAUGES, spill, GAUGES, answers, GAUGES);
+  uint64_t answer = pf_flow_pairs(3, LEAST, gauges, GAUGES, spill, GAUGES, answers, GAUGES);
   if (answer % 256 != 0) {
     printf("refused by %u\n", (unsigned)(answer % 256));
     return 1;

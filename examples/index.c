@@ -3,12 +3,12 @@
 #include "pfafstetter.h"
 
 int main(void) {
-  enum { ROWS = 3, COLS = 4, N = ROWS * COLS };
+  enum { ROWS = 3, COLS = 4, N = ROWS * COLS, LEAST = 1, SPLIT = 4 }; /* all mouths counted, four taken */
   uint8_t dirs[N] = {0, 4, 16, 8, 16, 16, 16, 16, 64, 64, 32, 64};
   uint16_t weights[ROWS] = {1, 1, 1}; /* 1 for each row: areas are counts of cells */
   uint32_t areas[N], work[8 * N], outlets[N], counts[N];
   uint64_t labels[N], units[N];
-  uint64_t answer = pf_index(ROWS, COLS, 3, dirs, N, weights, ROWS, areas, N, labels, N, work, 8 * N,
+  uint64_t answer = pf_index(ROWS, COLS, 3, LEAST, SPLIT, dirs, N, weights, ROWS, areas, N, labels, N, work, 8 * N,
                              units, N, outlets, N, counts, N);
   if (answer % 256 != 0) {
     printf("refused by %u, place %u\n", (unsigned)(answer % 256), (unsigned)(answer / 256));

@@ -13,14 +13,19 @@ extern "C" {
 
 /* Labels a sheet of rows x cols direction codes (1 to 256 each) to a depth of 1 to 18 digits. Each row has a weight, 1
    to 1000, from row 0. The area of a cell is the sum of the weights of the cells whose water passes it, at most
-   65,536,000; with the weight 1 for every row it is their count. The call needs n = rows x cols directions, areas and
-   labels, one weight for each row, and 8n work places; more may be lent, and what stands past these counts is neither
-   looked at nor changed. Returns 0, and has written the first n areas and labels, or refusal number + 256 x place, and
-   has written none. The refusals are tried in this order: 1, 2, 3, 17 (a weight outside 1 to 1000, in any row; place
-   0), 4, 5, 6, 7. The first 8n work places are 0 afterwards, unless the refusal was 1, 2 or 3. */
-uint64_t pf_label(size_t rows, size_t cols, size_t depth, const uint8_t *dirs, size_t dirs_len, const uint16_t *weights,
-                  size_t weights_len, uint32_t *areas, size_t areas_len, uint64_t *labels, size_t labels_len,
-                  uint32_t *work, size_t work_len);
+   65,536,000; with the weight 1 for every row it is their count. A mouth, the last cell of a tributary, is counted in a
+   split if its area is not below least, 1 to 65,536,000. Of the counted mouths the heaviest are taken, as many as split
+   says, 1 to 4, or all if fewer, and give their tributaries digits of their own. The others stay, with all that drains
+   through them, in the stretch of the river that they flow into; a stretch without counted mouths is split no further.
+   With least 1 every mouth is counted. The call needs n = rows x cols directions, areas and labels, one weight for each
+   row, and 8n work places; more may be lent, and what stands past these counts is neither looked at nor changed.
+   Returns 0, and has written the first n areas and labels, or refusal number + 256 x place, and has written none. The
+   refusals are tried in this order: 1, 2, 19 (least or split out of its bounds; place 0), 3, 17 (a weight outside 1 to
+   1000, in any row; place 0), 4, 5, 6, 7. The first 8n work places are 0 afterwards, unless the refusal was 1, 2, 19 or
+   3: then none is written. */
+uint64_t pf_label(size_t rows, size_t cols, size_t depth, size_t least, size_t split, const uint8_t *dirs,
+                  size_t dirs_len, const uint16_t *weights, size_t weights_len, uint32_t *areas, size_t areas_len,
+                  uint64_t *labels, size_t labels_len, uint32_t *work, size_t work_len);
 
 /* Labels a sheet as pf_label does and fills its index: the distinct labels of its inside cells in dictionary order of
    their digits (a label that begins another stands before it), each with its outlet, the cell to which the cells with
@@ -30,10 +35,10 @@ uint64_t pf_label(size_t rows, size_t cols, size_t depth, const uint8_t *dirs, s
    values. Otherwise it is refusal number + 256 x place, first those of pf_label, then 3 if one of the three slices is
    too short, and none of their places is written; with that last refusal areas, labels and work places are as after an
    accepted pf_label. */
-uint64_t pf_index(size_t rows, size_t cols, size_t depth, const uint8_t *dirs, size_t dirs_len, const uint16_t *weights,
-                  size_t weights_len, uint32_t *areas, size_t areas_len, uint64_t *labels, size_t labels_len,
-                  uint32_t *work, size_t work_len, uint64_t *units, size_t units_len, uint32_t *outlets,
-                  size_t outlets_len, uint32_t *counts, size_t counts_len);
+uint64_t pf_index(size_t rows, size_t cols, size_t depth, size_t least, size_t split, const uint8_t *dirs,
+                  size_t dirs_len, const uint16_t *weights, size_t weights_len, uint32_t *areas, size_t areas_len,
+                  uint64_t *labels, size_t labels_len, uint32_t *work, size_t work_len, uint64_t *units,
+                  size_t units_len, uint32_t *outlets, size_t outlets_len, uint32_t *counts, size_t counts_len);
 
 /* Shares a total of whole cents among the units of a sheet's index by the weights of their cells. The call is
    pf_index's with the total, 0 to 100,000,000,000 cents, and a fourth slice, dues, that needs one place for each unit.
@@ -43,11 +48,11 @@ uint64_t pf_index(size_t rows, size_t cols, size_t depth, const uint8_t *dirs, s
    unit's cells) / A. Returns as pf_index does; the refusals are 18 (a larger total; nothing at all is written), then
    those of pf_label, then 3 if one of the four slices is too short. Refused, no place of the four slices is written;
    with that last refusal areas, labels and work places are as after an accepted pf_label. */
-uint64_t pf_levy(size_t rows, size_t cols, size_t depth, const uint8_t *dirs, size_t dirs_len, const uint16_t *weights,
-                 size_t weights_len, uint32_t *areas, size_t areas_len, uint64_t *labels, size_t labels_len,
-                 uint32_t *work, size_t work_len, uint64_t *units, size_t units_len, uint32_t *outlets,
-                 size_t outlets_len, uint32_t *counts, size_t counts_len, uint64_t total, uint64_t *dues,
-                 size_t dues_len);
+uint64_t pf_levy(size_t rows, size_t cols, size_t depth, size_t least, size_t split, const uint8_t *dirs,
+                 size_t dirs_len, const uint16_t *weights, size_t weights_len, uint32_t *areas, size_t areas_len,
+                 uint64_t *labels, size_t labels_len, uint32_t *work, size_t work_len, uint64_t *units,
+                 size_t units_len, uint32_t *outlets, size_t outlets_len, uint32_t *counts, size_t counts_len,
+                 uint64_t total, uint64_t *dues, size_t dues_len);
 
 /* Finds the labels that begin with the leading digits (0 for none) in a slice that rises strictly in dictionary order,
    such as the labels of an index. Returns 0: they are the labels from start on, length of them; where there are none,
@@ -56,21 +61,25 @@ uint64_t pf_levy(size_t rows, size_t cols, size_t depth, const uint8_t *dirs, si
    length each point to one number; these must not overlap each other or the slice. */
 uint32_t pf_lookup(uint64_t leading, const uint64_t *labels, size_t labels_len, size_t *start, size_t *length);
 
-/* Does water from the label q pass the label p, at a depth? 0 No, 1 Yes, 2 Same, 3 Undecided, 128 + refusal number. */
-uint32_t pf_flow(size_t depth, uint64_t p, uint64_t q);
+/* Does water from the label q pass the label p? Depth and least are those that the labels were made with (1 for another
+   least can give a false Yes); split does not matter. 0 No, 1 Yes, 2 Same, 3 Undecided, 128 + refusal number. Where the
+   digit rule is met the answer is Yes if least is 1 and p has fewer digits than the depth, otherwise Undecided, since
+   some cells labelled p may lie in a tributary of the river that the water goes along. Tried in this order: 2, 19
+   (least outside 1 to 65,536,000), 11, Same, 12, and then the rule. */
+uint32_t pf_flow(size_t depth, size_t least, uint64_t p, uint64_t q);
 
 /* The flow question for many pairs: the labels p[i] and q[i], for each i below the smaller of p_len and q_len. The byte
    answers[i] becomes the number that pf_flow gives for that pair; a refused pair stops no other. Accepted, the lowest
    byte of the returned number is 0 and the rest (the number / 256) is the count of pairs; so many bytes are written,
-   the others keep their values. Otherwise it is the refusal's number, and nothing is written: 2 for the depth, then 3
-   if answers_len is smaller than the count of pairs. (A count of 2^56 or more would be told without its highest bits;
-   no memory holds so many labels.) */
-uint64_t pf_flow_pairs(size_t depth, const uint64_t *p, size_t p_len, const uint64_t *q, size_t q_len, uint8_t *answers,
-                       size_t answers_len);
+   the others keep their values. Otherwise it is the refusal's number, and nothing is written: 2 for the depth, then 19
+   for least, then 3 if answers_len is smaller than the count of pairs. (A count of 2^56 or more would be told without
+   its highest bits; no memory holds so many labels.) */
+uint64_t pf_flow_pairs(size_t depth, size_t least, const uint64_t *p, size_t p_len, const uint64_t *q, size_t q_len,
+                       uint8_t *answers, size_t answers_len);
 
 /* Does water from the label q pass the outlet of the unit that the label p names? That outlet is the cell to which the
-   cells labelled p drain, as pf_index lists it. 0 No, 1 Yes, 2 Same (the water passes the outlet then too), 128 +
-   refusal number; never 3. The refusals are those of pf_flow. */
+   cells labelled p drain, as pf_index lists it. The answer is the same for every least and split. 0 No, 1 Yes, 2 Same
+   (the water passes the outlet then too), 128 + refusal number; never 3. Tried in this order: 2, 11, Same, 12. */
 uint32_t pf_outlet_flow(size_t depth, uint64_t p, uint64_t q);
 
 /* Eight directions as one word, the first in its lowest byte: the place, 0 to 7, of the first that is none of the nine

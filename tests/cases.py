@@ -1,20 +1,21 @@
 # Recomputes the stored cases with reference.py, and checks sheets, labels and boundaries of documents 01 and 02 by
 # direct call.
 #
-# A file can get refusals 1 to 10, 14 and 17. It cannot get
+# A file can get refusals 1 to 10, 14, 17 and 19. It cannot get
 #   11, 12, 16 and 18: they belong to the flow question, the outlet question, the lookup and the levy, of which the
 #   program makes no use;
 #   13: the program hands over no line and no end after the end;
 #   15: the program labels only after the intake has accepted the end.
-# Nor can it get 1 to 4 or 17 from labelling, since the intake has refused such sizes, directions and weights before;
-# nor 9 for a state that waits for the weight of a row outside its sheet, which no line leads to.
-# No line of 80 bytes keeps the file's rules: three values with their blanks and commas have at most 41 bytes.
+# Nor can it get 1 to 4, 17 or 19 from labelling, since the intake has refused such sizes, directions and weights
+# before; nor 9 for a state that waits for the weight of a row outside its sheet, which no line leads to.
+# No line of 80 bytes keeps the file's rules: five sizes with their blanks and commas have at most 72 bytes.
 # So cell_80_bytes and cell_81_bytes both get 8.
 
 import pathlib
 import sys
 
 sys.dont_write_bytecode = True
+import split_checks
 from reference import (Intake, first_bad, flow, flow_pairs, index, index_intake, label, label_intake, levy,
                        levy_intake, lookup, outlet_flow, report, take_end, take_line)
 
@@ -24,6 +25,9 @@ LEVY_EXAMPLE = CASES.parent.parent / 'examples' / 'levy.out'
 
 ONES = [1] * 256
 SAMPLE_A = bytes([0, 4, 16, 8, 16, 16, 16, 16, 64, 64, 32, 64])
+
+# The calls of the lists below that take least and split are told 1 and 4; split_checks.py has those with others.
+NEITHER = [1, 4]
 
 # (name, depth, p, q, answer): does water from q pass p? The outlet question, whether it passes the outlet of p's unit,
 # has the same answer, but Yes where this one is Undecided.
@@ -259,27 +263,32 @@ def file_checks():
             yield expected.stem, None, expected.read_bytes()
 
 
+def told(arguments):
+    """The arguments of a call with least and split straight after the depth."""
+    return [*arguments[:3], *NEITHER, *arguments[3:]]
+
+
 def flow_checks():
     for name, depth, p, q, answer in FLOW:
-        yield 'flow: ' + name, flow(depth, p, q), answer
+        yield 'flow: ' + name, flow(depth, 1, p, q), answer
         yield 'outlet flow: ' + name, outlet_flow(depth, p, q), 'Yes' if answer == 'Undecided' else answer
 
 
 def pair_checks():
-    for name, *arguments, number, answers in PAIRS:
-        yield 'pairs: ' + name, flow_pairs(*arguments), (number, answers)
+    for name, depth, *arguments, number, answers in PAIRS:
+        yield 'pairs: ' + name, flow_pairs(depth, 1, *arguments), (number, answers)
 
 
 def sheet_checks():
     for name, *arguments, number, place in SHEETS:
-        yield 'label: ' + name, label(*arguments)[:2], (number, place)
+        yield 'label: ' + name, label(*told(arguments))[:2], (number, place)
 
 
 def index_checks():
     for name, *arguments, number, place, units in INDEXES:
-        got = index(*arguments)
+        got = index(*told(arguments))
         yield 'index: ' + name, (*got[:2], got[4]), (number, place, units)
-        labelled = label(*arguments[:-3])
+        labelled = label(*told(arguments[:-3]))
         yield 'index, areas and labels: ' + name, got[2:4], labelled[2:]
     lines = ['%d,%d,%d,%d' % (label, outlet // 4, outlet % 4, count) for label, outlet, count in SAMPLE_A_UNITS]
     yield 'index: the example in C', INDEX_EXAMPLE.read_text().splitlines()[1:-1], lines
@@ -287,17 +296,18 @@ def index_checks():
 
 def levy_checks():
     for name, *arguments, number, place, dues in LEVIES:
-        got, total = levy(*arguments), arguments[-2]
+        got, total = levy(*told(arguments)), arguments[-2]
         yield 'levy: ' + name, (*got[:2], got[5]), (number, place, dues)
         if number != 18:
-            yield 'levy, areas and labels: ' + name, got[2:4], label(*arguments[:-5])[2:]
+            yield 'levy, areas and labels: ' + name, got[2:4], label(*told(arguments[:-5]))[2:]
         if number == 0:
-            yield 'levy, units: ' + name, got[4], index(*arguments[:-2])[4]
+            yield 'levy, units: ' + name, got[4], index(*told(arguments[:-2]))[4]
             yield 'levy, the sum: ' + name, sum(dues), total
-    units, dues = levy(3, 4, 3, SAMPLE_A, [3, 2, 1], 12, 12, 96, 12, 12, 12, 1000, 12)[4:]
+    units, dues = levy(3, 4, 3, *NEITHER, SAMPLE_A, [3, 2, 1], 12, 12, 96, 12, 12, 12, 1000, 12)[4:]
     lines = ['%d,%d,%d' % (label, count, due) for (label, outlet, count), due in zip(units, dues)]
     yield 'levy: the example in C', LEVY_EXAMPLE.read_text().splitlines()[1:-1], lines
-    yield 'levy: 18 writes nothing', levy(3, 4, 2, SAMPLE_A, ONES, 12, 12, 96, 9, 9, 9, MOST + 1, 9)[2:], (None,) * 4
+    refused = levy(3, 4, 2, *NEITHER, SAMPLE_A, ONES, 12, 12, 96, 9, 9, 9, MOST + 1, 9)
+    yield 'levy: 18 writes nothing', refused[2:], (None,) * 4
 
 
 def lookup_checks():
@@ -314,15 +324,15 @@ def sample_checks():
     areas = [0, 2, 1, 1, 11, 9, 4, 2, 1, 1, 1, 1]
     # The tributaries of cell 5 stand as 9, 10, 1: they get 4, 6, 8.
     labels = [0, 8, 8, 92, 1, 3, 91, 93, 2, 4, 6, 93]
-    yield 'label: sample A', label(3, 4, 2, SAMPLE_A, ONES, 12, 12, 96), (0, 0, areas, labels)
+    yield 'label: sample A', label(3, 4, 2, *NEITHER, SAMPLE_A, ONES, 12, 12, 96), (0, 0, areas, labels)
     cut = [0, 8, 8, 9, 1, 3, 9, 9, 2, 4, 6, 9]
-    yield 'label: sample A at depth 1', label(3, 4, 1, SAMPLE_A, ONES, 12, 12, 96), (0, 0, areas, cut)
-    yield 'label: 1 by 1, code 1', label(1, 1, 1, bytes([1]), ONES, 1, 1, 8), (0, 0, [1], [0])
+    yield 'label: sample A at depth 1', label(3, 4, 1, *NEITHER, SAMPLE_A, ONES, 12, 12, 96), (0, 0, areas, cut)
+    yield 'label: 1 by 1, code 1', label(1, 1, 1, *NEITHER, bytes([1]), ONES, 1, 1, 8), (0, 0, [1], [0])
 
 
 def weight_checks():
     def labelled(weights):
-        return label(3, 4, 1, NORTH_AND_SOUTH, weights, 12, 12, 96)[2:]
+        return label(3, 4, 1, *NEITHER, NORTH_AND_SOUTH, weights, 12, 12, 96)[2:]
 
     north = [0, 3, 3, 3, 1, 0, 0, 0, 0, 2, 2, 0]  # the river comes from the north
     south = [0, 2, 2, 2, 1, 0, 0, 0, 0, 3, 3, 0]
@@ -330,7 +340,8 @@ def weight_checks():
     yield 'weights: fewer cells', labelled([1, 9, 2]), ([0, 3, 2, 1, 16, 0, 0, 0, 0, 4, 2, 0], south)
     yield 'weights: equal areas', labelled([2, 5, 3]), ([0, 6, 4, 2, 17, 0, 0, 0, 0, 6, 3, 0], south)
     yield 'weights: one more', labelled([201, 5, 300]), ([0, 603, 402, 201, 1208, 0, 0, 0, 0, 600, 300, 0], north)
-    areas = label(256, 256, 1, bytes([16] * 256 + [64] * 65280), [1000] * 256, 65536, 65536, 8 * 65536)[2]
+    comb = bytes([16] * 256 + [64] * 65280)
+    areas = label(256, 256, 1, *NEITHER, comb, [1000] * 256, 65536, 65536, 8 * 65536)[2]
     yield 'weights: the largest area', areas[0], 65536000
     stored = [(CASES / (name + '.out')).read_bytes() for name in ('sample_a', 'weights_all_1')]
     yield 'weights: all 1, the listing of none', *stored
@@ -416,7 +427,7 @@ def main():
     checks = files + [('there are stored cases', len(files) > 0, True)]
     checks += [*flow_checks(), *pair_checks(), *sheet_checks(), *word_checks(), *sample_checks(), *weight_checks()]
     checks += [*index_checks(), *levy_checks(), *lookup_checks(), *intake_checks(), *intake_weight_checks()]
-    checks += [*intake_withdrawal_checks()]
+    checks += [*intake_withdrawal_checks(), *split_checks.checks()]
     failures = [check for check in checks if check[1] != check[2]]
     for name, got, expected in failures:
         print(f'{name}: expected {expected!r:.200}, got {got!r:.200}')

@@ -1,6 +1,7 @@
 #!/usr/bin/env python3
-"""Tries the command ./pfafstetter as a user would: the examples, its status, bad arguments, input that cannot be read, output that cannot be
-written, and input that never ends. The stored answers of the examples are compared with the reference program too."""
+"""Tries the command ./pfafstetter as a user would: the examples, its status, bad arguments, input that cannot be read,
+output that cannot be written, and input that never ends. The stored answers of the examples are compared with the
+reference program too."""
 import os
 import signal
 import subprocess
@@ -86,6 +87,7 @@ def endless():
     with open('/dev/zero', 'rb') as zeros:
         expect('zero bytes without end', label(stdin=zeros) == Ended(b'refused,place\n8,1\n', b'', 1))
     beginnings = {b'rows,cols,depth\n3,4,2\nrow,col,dir\n0,0,16\nbad\n': b'8,5', b'rows,cols,depth\n0,4,2\n': b'1,2',
+                  b'rows,cols,depth,least,split\n3,4,2,2,5\n': b'19,2',
                   b'rows,cols,depth\n3,4,2\nweight\n1\n0\n': b'17,5', b'rows,cols,depth\n1,4,2\nweight\n1\n1\n': b'8,5',
                   b'rows,cols,depth\n3,4,2\nrow,col,dir\n' + b'7' * 81: b'8,4'}
     for beginning, answer in beginnings.items():

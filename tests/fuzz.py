@@ -1,8 +1,9 @@
 #!/usr/bin/env python3
 """Compares the program with tests/reference.py, byte for byte, on made sheets and damaged files.
 
-The input goes through a pipe in pieces cut at odd places. Seeded: the same --seed and --files make the same files.
-Prints each difference with the file that shows it, and at the end 'N passed, M failed'."""
+First two small files for each of the 120 orders of the names rows, cols, depth, least and split; then --files random
+ones. The input goes through a pipe in pieces cut at odd places. Seeded: the same --seed and --files make the same
+files. Prints each difference with the file that shows it, and at the end 'N passed, M failed'."""
 import argparse
 import collections
 import os
@@ -14,10 +15,11 @@ import time
 sys.dont_write_bytecode = True
 sys.path.insert(0, os.path.dirname(os.path.abspath(__file__)))
 import reference
+import size_lines
+import splits
 import weights
 
 CODES = list(reference.STEPS)
-SIZE_NAMES = [b'rows', b'cols', b'depth']
 CELL_NAMES = [b'row', b'col', b'dir']
 WEIGHT = b'weight'
 
@@ -95,6 +97,19 @@ def northwest(rng, rows, cols):
     return [16 if cell < cols else 64 if cell % cols == 0 else rng.choice([16, 32, 64]) for cell in range(rows * cols)]
 
 
+def flat(rng, rows, cols):
+    """A canal to the west along one row. From both sides water flows to it, along side canals in some columns; in the
+    others mostly along ditches to the west."""
+    canal, turns = rng.randrange(rows), rng.choice([0, 0.05, 0.3])
+    sides = {0, *rng.sample(range(cols), rng.randint(0, cols // 3))}
+    dirs = []
+    for cell in range(rows * cols):
+        row, col = divmod(cell, cols)
+        ahead = 4 if row < canal else 64
+        dirs.append(ahead if row != canal and (col in sides or rng.random() < turns) else 16)
+    return dirs
+
+
 def by_chance(rng, rows, cols):
     """Any codes: circles and many outlets."""
     share = rng.random()
@@ -109,7 +124,7 @@ def spoiled(rng, rows, cols):
     return dirs
 
 
-SHAPES = [grown, grown, grown, comb, snake, northwest, by_chance, spoiled, spoiled]
+SHAPES = [grown, grown, grown, comb, snake, northwest, flat, by_chance, spoiled, spoiled]
 
 
 # Files.
@@ -129,15 +144,22 @@ def line(values):
     return b','.join(value if isinstance(value, bytes) else b'%d' % value for value in values)
 
 
-def sheet_lines(rng):
+def sides(rng):
+    """Rows and columns."""
     rows, cols = rng.choice([(rng.randint(1, 6), rng.randint(1, 6)), (rng.randint(1, 12), rng.randint(1, 12)),
-                             (rng.randint(1, 45), rng.randint(1, 45)), (1, rng.randint(1, 256)), (rng.randint(1, 256), rng.randint(1, 8))])
+                             (rng.randint(1, 45), rng.randint(1, 45)), (1, rng.randint(1, 256)),
+                             (rng.randint(1, 256), rng.randint(1, 8))])
     if rows * cols > reference.LENT and rng.random() < 0.8:
         rows, cols = 32, 64
+    return rows, cols
+
+
+def sheet_lines(rng):
+    rows, cols = sides(rng)
     depth = rng.choice([1, 2, 3, 4, 6, 18, rng.randint(1, 18)])
     dirs = rng.choice(SHAPES)(rng, rows, cols)
-    sizes = dict(zip(SIZE_NAMES, (rows, cols, depth)))
-    size_names, cell_names = rng.sample(SIZE_NAMES, 3), rng.sample(CELL_NAMES, 3)
+    row_weights = weights.made(rng, rows, cols, dirs) if rng.random() < 0.45 else None
+    cell_names = rng.sample(CELL_NAMES, 3)
     cells = []
     for cell, code in enumerate(dirs):
         if code != 0 or rng.random() < 0.1:
@@ -146,11 +168,24 @@ def sheet_lines(rng):
         rng.shuffle(cells)
     if cells and rng.random() < 0.4:
         cells = with_withdrawals(rng, cells)
-    before = [line(size_names), line(sizes[name] for name in size_names)]
+    before = size_lines.made(rng, rows, cols, depth,
+                             lambda: splits.mouth_areas(rows, cols, dirs, row_weights or [1] * rows))
     after = [line(cell_names)] + [line(cell[name] for name in cell_names) for cell in cells]
-    if rng.random() < 0.55:
-        return before + after
-    return with_weights(rng, before, weights.made(rng, rows, cols, dirs), after)
+    return before + after if row_weights is None else with_weights(rng, before, row_weights, after)
+
+
+def files_by_order(rng):
+    """For each order of the five names a small file that is listed, and one with an odd value."""
+    for names in size_lines.ORDERS:
+        rows, cols, depth = rng.randint(2, 9), rng.randint(2, 9), rng.randint(1, 6)
+        dirs = rng.choice([flat, northwest])(rng, rows, cols)
+        row_weights = weights.made(rng, rows, cols, dirs)
+        least = splits.good_least(rng, splits.mouth_areas(rows, cols, dirs, row_weights))
+        values = size_lines.values_of(rows, cols, depth, least, splits.good_split(rng))
+        rest = [WEIGHT] + [b'%d' % weight for weight in row_weights] + [line(CELL_NAMES)]
+        rest += [line((cell // cols, cell % cols, code)) for cell, code in enumerate(dirs)]
+        for sizes in (values, size_lines.with_odd_value(rng, values)):
+            yield b'\n'.join(size_lines.lines(names, sizes) + rest) + b'\n'
 
 
 def with_withdrawals(rng, cells):
@@ -228,7 +263,8 @@ def with_blanks(rng, text):
     field = fields[at].lstrip(b' ')
     blanks = rng.choice([b' ' * rng.choice([1, 7, 8, 8, 9, 9, 9, 10, 80])] * 7 + [b'\t', b' \t', b'\t '])
     cut = rng.randint(0, len(field))
-    fields[at] = rng.choice([blanks + field, blanks + field, field + blanks, field[:cut] + blanks + field[cut:], blanks])
+    fields[at] = rng.choice([blanks + field, blanks + field, field + blanks, field[:cut] + blanks + field[cut:],
+                             blanks])
     return b','.join(fields)
 
 
@@ -247,14 +283,15 @@ def damaged(rng, lines):
         lines[at] = lines[rng.randrange(len(lines))]
     elif kind == 1:
         lines.insert(at, rng.choice([b'', b',', b'1', b'0,0,0', b'0,0,1', b'row,col,dir', b'rows,cols,depth', WEIGHT,
-                                     b'1' * 80, b'1' * 81, b' ']))
+                                     b'least,split', b'rows,cols,depth,least,split', b'1' * 80, b'1' * 81, b' ']))
     elif kind == 2:
         del lines[at]
     elif kind == 3:
         text = bytearray(lines[at])
         for _ in range(rng.randint(1, 3)):
             place = rng.randrange(len(text) + 1)
-            text[place:place + rng.randint(0, 1)] = bytes([rng.choice([32, 13, 44, 45, 46, 48, 49, 57, 0, 9, 47, 58, 255, rng.randrange(256)])])
+            byte = rng.choice([32, 13, 44, 45, 46, 48, 49, 57, 0, 9, 47, 58, 255, rng.randrange(256)])
+            text[place:place + rng.randint(0, 1)] = bytes([byte])
         lines[at] = bytes(text)
     elif kind == 4:
         fields = lines[at].split(b',')
@@ -312,7 +349,8 @@ def run(program, rng, data):
 
 
 LISTING_KINDS = ['listings', 'with blanks', 'with weights', 'equal areas by weights',
-                 'another heaviest donor by weights', 'with a withdrawn cell', 'with one listed again']
+                 'another heaviest donor by weights', 'with a withdrawn cell', 'with one listed again',
+                 'with least and split', 'other labels by least', 'other labels by split', 'by least with weights']
 REFUSED_AGAIN = '10 for a withdrawn cell'
 
 
@@ -337,8 +375,8 @@ def withdrawals(data):
 
 
 def kinds_of(data, answer):
-    """What is counted of a file: its answer; of a listing also blanks, weights and what these change, withdrawals; of
-    10 also whether it was for a cell that had been withdrawn."""
+    """What is counted of a file: its answer; of a listing also blanks, withdrawals, weights, least and split, and what
+    these change; of 10 also whether it was for a cell that had been withdrawn."""
     if answer.startswith(b'refused'):
         number = answer.split(b'\n')[1].split(b',')[0].decode()
         return [number] + [REFUSED_AGAIN] * (number == '10' and withdrawals(data)[2])
@@ -347,40 +385,60 @@ def kinds_of(data, answer):
     kinds += ['with a withdrawn cell'] * some + ['with one listed again'] * again
     if b' ' in data:
         kinds.append('with blanks')
-    if b'\n' + WEIGHT + b'\n' in data:
+    weighted, named = b'\n' + WEIGHT + b'\n' in data, b'least' in data
+    if weighted or named:
         number, place, state, dirs, row_weights = reference.read_file(data)
-        areas = reference.label_intake(state, dirs, row_weights, *3 * [reference.WORK * reference.LENT])[2]
+        areas, labels = reference.label_intake(state, dirs, row_weights, *3 * [reference.WORK * reference.LENT])[2:]
+    if weighted:
         equal, other_heaviest = weights.effects(state.rows, state.cols, dirs, areas)
         kinds.append('with weights')
         kinds += ['equal areas by weights'] * equal + ['another heaviest donor by weights'] * other_heaviest
+    if named:
+        by_least, by_split = splits.changes(state.sizes(), dirs, row_weights, labels)
+        kinds += ['with least and split'] + ['other labels by least'] * by_least + ['other labels by split'] * by_split
+        kinds += ['by least with weights'] * (by_least and weighted)
     return kinds
+
+
+def files(count, seed):
+    """All files, each with a source of chance for the rest: those by order, and so many random ones."""
+    rng = random.Random(seed)
+    for data in files_by_order(rng):
+        yield rng, data
+    for number in range(count):
+        rng = random.Random(seed * 1000003 + number)
+        yield rng, a_file(rng)
 
 
 def main():
     parser = argparse.ArgumentParser(description=__doc__, formatter_class=argparse.RawDescriptionHelpFormatter)
     parser.add_argument('--files', type=int, default=1000)
     parser.add_argument('--seed', type=int, default=1)
-    parser.add_argument('--program', default=os.path.join(os.path.dirname(os.path.abspath(__file__)), '..', 'target', 'bin', 'pfafstetter'))
+    here = os.path.dirname(os.path.abspath(__file__))
+    parser.add_argument('--program', default=os.path.join(here, '..', 'target', 'bin', 'pfafstetter'))
     options = parser.parse_args()
     passed = failed = 0
-    counts = collections.Counter()
-    for number in range(options.files):
-        rng = random.Random(options.seed * 1000003 + number)
-        data = a_file(rng)
+    counts, orders = collections.Counter(), set()
+    for number, (rng, data) in enumerate(files(options.files, options.seed)):
         expected = reference.report(data)
         out, err = run(options.program, rng, data)
-        counts.update(kinds_of(data, expected))
+        kinds = kinds_of(data, expected)
+        counts.update(kinds)
+        if 'with least and split' in kinds:
+            orders.add(data.split(b'\n')[0])
         if out == expected and err == b'':
             passed += 1
             continue
         failed += 1
         if failed <= 5:
-            print('file %d differs:\n input %r\n expected %r\n printed %r\n error %r' % (number, data[:2000], expected[:500], out[:500], err[:200]))
+            print('file %d differs:\n input %r\n expected %r\n printed %r\n error %r'
+                  % (number, data[:2000], expected[:500], out[:500], err[:200]))
     refusals = sorted(int(kind) for kind in counts if kind.isdigit())
     print('refusals: ' + ', '.join('%d: %d' % (number, counts[str(number)]) for number in refusals))
     print(', '.join('%s: %d' % (kind, counts[kind]) for kind in [REFUSED_AGAIN] + LISTING_KINDS))
+    print('orders of the five names in listed files: %d' % len(orders))
     print('%d passed, %d failed' % (passed, failed))
-    return 0 if failed == 0 and passed > 0 else 1
+    return 0 if failed == 0 and passed > 0 and len(orders) == len(size_lines.ORDERS) else 1
 
 
 if __name__ == '__main__':

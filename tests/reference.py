@@ -10,7 +10,9 @@ STEPS = {1: (0, 1), 2: (1, 1), 4: (1, 0), 8: (1, -1), 16: (0, -1), 32: (-1, -1),
 OUTSIDE = 0
 MAX_SIDE = 256
 MAX_DEPTH = 18
-MAX_TAKEN = 4  # mouths taken from a unit
+MAX_LEAST = 65_536_000  # the largest area
+MAX_SPLIT = 4  # mouths taken from a unit
+LEAST, SPLIT = 1, 4  # where a file names neither
 MAX_WEIGHT = 1000
 MAX_TOTAL = 100_000_000_000  # cents of a levy
 LENT = 2048  # direction bytes that the program lends
@@ -19,17 +21,26 @@ WORK = 8  # work places for each cell
 MAX_BLANKS = 8  # blanks in front of a value
 
 SIZE_NAMES = [b'rows', b'cols', b'depth']
+SPLIT_NAMES = [b'least', b'split']
 WEIGHT_NAMES = [b'weight']
 CELL_NAMES = [b'row', b'col', b'dir']
 
 # The sheet.
 
-def size_refusal(rows, cols, depth, dirs_len, weights_len):
-    """The refusal of sizes by 1, 2, 3, with the counts of lent direction bytes and weights."""
+def is_depth(value):
+    return 1 <= value <= MAX_DEPTH
+
+def is_least(value):
+    return 1 <= value <= MAX_LEAST
+
+def size_refusal(rows, cols, depth, least, split, dirs_len, weights_len):
+    """The refusal of sizes by 1, 2, 19, 3, with the counts of lent direction bytes and weights."""
     if not (1 <= rows <= MAX_SIDE and 1 <= cols <= MAX_SIDE):
         return 1
-    if not 1 <= depth <= MAX_DEPTH:
+    if not is_depth(depth):
         return 2
+    if not (is_least(least) and 1 <= split <= MAX_SPLIT):
+        return 19
     return 3 if dirs_len < rows * cols or weights_len < rows else 0
 
 def is_weight(value):
@@ -90,7 +101,7 @@ def river_list(donors, mouth):
         stem = heaviest
     return river
 
-def split(unit, taken):
+def runs_between(unit, taken):
     """The runs of a unit before, between and after its taken mouths, and these mouths in list order."""
     runs, mouths = [[]], []
     for cell, is_mouth in unit:
@@ -106,8 +117,9 @@ def unit_cells(donors, unit):
     stem = [cell for cell, is_mouth in unit if not is_mouth]
     return stem + upstream(donors, [cell for cell, is_mouth in unit if is_mouth])
 
-def labels_of(donors, areas, depth, outlet):
-    """The label of each cell; 0 for outside cells."""
+def labels_of(donors, areas, depth, least, split, outlet):
+    """The label of each cell; 0 for outside cells. Of the mouths of a unit whose area is at least `least` the heaviest
+    are taken, `split` of them, or all if fewer."""
     def order(cell):  # heavier: the larger area, then the larger cell number
         return areas[cell], cell
     donors = [sorted(cells, key=order) for cells in donors]
@@ -115,21 +127,21 @@ def labels_of(donors, areas, depth, outlet):
     units = [(river_list(donors, outlet), 0, 0)]  # (unit, its digits as one number, count of digits)
     while units:
         unit, digits, count = units.pop()
-        mouths = [cell for cell, is_mouth in unit if is_mouth]
-        if not mouths or count == depth:
+        counted = [cell for cell, is_mouth in unit if is_mouth and areas[cell] >= least]
+        if not counted or count == depth:
             for cell in unit_cells(donors, unit):
                 labels[cell] = digits
             continue
-        runs, mouths = split(unit, set(sorted(mouths, key=order)[-MAX_TAKEN:]))
+        runs, mouths = runs_between(unit, set(sorted(counted, key=order)[-split:]))
         for place, run in enumerate(runs):
             units.append((run, 10 * digits + 2 * place + 1, count + 1))
         for place, mouth in enumerate(mouths):
             units.append((river_list(donors, mouth), 10 * digits + 2 * place + 2, count + 1))
     return labels
 
-def label(rows, cols, depth, dirs, weights, areas_len, labels_len, work_len):
+def label(rows, cols, depth, least, split, dirs, weights, areas_len, labels_len, work_len):
     """Direct labelling: (number, place, areas, labels). Refused, areas and labels are None."""
-    number = size_refusal(rows, cols, depth, len(dirs), len(weights))
+    number = size_refusal(rows, cols, depth, least, split, len(dirs), len(weights))
     n = rows * cols
     if number == 0 and (areas_len < n or labels_len < n or work_len < WORK * n):
         number = 3
@@ -150,7 +162,7 @@ def label(rows, cols, depth, dirs, weights, areas_len, labels_len, work_len):
     if len(outlets) > 1:
         return 7, outlets[1], None, None
     areas = areas_of(cols, weights, donors, drained)
-    return 0, 0, areas, labels_of(donors, areas, depth, outlets[0])
+    return 0, 0, areas, labels_of(donors, areas, depth, least, split, outlets[0])
 
 # The index of units, and the lookup in it.
 
@@ -163,13 +175,13 @@ def units_of(rows, cols, dirs, labels):
     cells_with = {}
     for cell in range(rows * cols):
         if dirs[cell] != OUTSIDE:
-            cells_with.setdefault(digits_of(labels[cell]), set()).add(cell)
+            cells_with.setdefault(labels[cell], set()).add(cell)
     units = []
-    for digits in sorted(cells_with):
-        cells = cells_with[digits]
+    for label in sorted(cells_with, key=digits_of):
+        cells = cells_with[label]
         # The one of these cells whose water goes to none of them.
         outlet, = [cell for cell in cells if step_end(rows, cols, dirs, cell) not in cells]
-        units.append((labels[outlet], outlet, len(cells)))
+        units.append((label, outlet, len(cells)))
     return units
 
 def index_after(labelled, rows, cols, dirs, units_len, outlets_len, counts_len):
@@ -182,9 +194,11 @@ def index_after(labelled, rows, cols, dirs, units_len, outlets_len, counts_len):
         return 3, 0, areas, labels, None
     return 0, 0, areas, labels, units
 
-def index(rows, cols, depth, dirs, weights, areas_len, labels_len, work_len, units_len, outlets_len, counts_len):
-    """Labels and indexes: (number, place, areas, labels, units). Refused, units are None; by labelling, the others too."""
-    labelled = label(rows, cols, depth, dirs, weights, areas_len, labels_len, work_len)
+def index(rows, cols, depth, least, split, dirs, weights, areas_len, labels_len, work_len, units_len, outlets_len,
+          counts_len):
+    """Labels and indexes: (number, place, areas, labels, units). Refused, units are None; by labelling, the others
+    too."""
+    labelled = label(rows, cols, depth, least, split, dirs, weights, areas_len, labels_len, work_len)
     return index_after(labelled, rows, cols, dirs, units_len, outlets_len, counts_len)
 
 def lookup(leading, labels):
@@ -206,9 +220,8 @@ def unit_weights(rows, cols, dirs, weights, labels):
     sums = {}
     for cell in range(rows * cols):
         if dirs[cell] != OUTSIDE:
-            digits = digits_of(labels[cell])
-            sums[digits] = sums.get(digits, 0) + weights[cell // cols]
-    return [sums[digits] for digits in sorted(sums)]
+            sums[labels[cell]] = sums.get(labels[cell], 0) + weights[cell // cols]
+    return [sums[label] for label in sorted(sums, key=digits_of)]
 
 def dues_of(total, summed):
     """What each unit owes of the total; `summed` are the weights of the units."""
@@ -226,11 +239,11 @@ def levy_after(labelled, rows, cols, dirs, weights, units_len, outlets_len, coun
     dues = dues_of(total, unit_weights(rows, cols, dirs, weights, labels)) if number == 0 else None
     return number, place, areas, labels, units, dues
 
-def levy(rows, cols, depth, dirs, weights, areas_len, labels_len, work_len, units_len, outlets_len, counts_len, total,
-         dues_len):
+def levy(rows, cols, depth, least, split, dirs, weights, areas_len, labels_len, work_len, units_len, outlets_len,
+         counts_len, total, dues_len):
     """Indexes and shares a total: (number, place, areas, labels, units, dues). Refused, units and dues are None; by 18
     or by labelling, the others too."""
-    labelled = label(rows, cols, depth, dirs, weights, areas_len, labels_len, work_len)
+    labelled = label(rows, cols, depth, least, split, dirs, weights, areas_len, labels_len, work_len)
     return levy_after(labelled, rows, cols, dirs, weights, units_len, outlets_len, counts_len, total, dues_len)
 
 # The flow question and the outlet question.
@@ -239,7 +252,7 @@ ANSWERS = {'No': 0, 'Yes': 1, 'Same': 2, 'Undecided': 3}
 
 def outlet_flow(depth, p, q):
     """Does water from label q pass the outlet of label p's unit: 'Same', 'Yes', 'No' or ('Refused', number)."""
-    if not 1 <= depth <= MAX_DEPTH:
+    if not is_depth(depth):
         return 'Refused', 2
     p, q = digits_of(p), digits_of(q)
     if '0' in p + q or max(len(p), len(q)) > depth:
@@ -254,24 +267,30 @@ def outlet_flow(depth, p, q):
         return 'No'
     return 'Yes'
 
-def flow(depth, p, q):
-    """Does water from label q pass label p: as `outlet_flow`, but 'Undecided' for 'Yes' where p has as many digits as
-    the depth."""
+def flow(depth, least, p, q):
+    """Does water from label q pass label p: as `outlet_flow`, but 19 straight after 2, and 'Undecided' for 'Yes' where
+    p has as many digits as the depth or least is above 1."""
+    if not is_depth(depth):
+        return 'Refused', 2
+    if not is_least(least):
+        return 'Refused', 19
     answer = outlet_flow(depth, p, q)
-    return 'Undecided' if answer == 'Yes' and len(digits_of(p)) == depth else answer
+    return 'Undecided' if answer == 'Yes' and (len(digits_of(p)) == depth or least > 1) else answer
 
 def answer_number(answer):
     """The number of an answer; that of a refusal is 128 + its own."""
     return 128 + answer[1] if isinstance(answer, tuple) else ANSWERS[answer]
 
-def flow_pairs(depth, ps, qs, room):
+def flow_pairs(depth, least, ps, qs, room):
     """The flow question about each label of P and the label of Q at the same place, with room for so many answers:
     (number, answers). Refused, answers are None."""
-    if not 1 <= depth <= MAX_DEPTH:
+    if not is_depth(depth):
         return 2, None
+    if not is_least(least):
+        return 19, None
     if room < min(len(ps), len(qs)):
         return 3, None
-    return 0, [answer_number(flow(depth, p, q)) for p, q in zip(ps, qs)]
+    return 0, [answer_number(flow(depth, least, p, q)) for p, q in zip(ps, qs)]
 
 # The intake.
 
@@ -282,20 +301,26 @@ class Intake(NamedTuple):
     depth: int = 0
     names: tuple = ()  # the names last accepted, in their order
     row: int = 0  # in the stage 'weights' the row whose weight comes next
+    least: int = LEAST
+    split: int = SPLIT
+
+    def sizes(self):
+        return self.rows, self.cols, self.depth, self.least, self.split
 
 # The names lines that a stage takes, each with the stage after it.
 NAMES_LINES = {
-    'size names': [(SIZE_NAMES, 'sizes')],
+    'size names': [(SIZE_NAMES, 'sizes'), (SIZE_NAMES + SPLIT_NAMES, 'sizes')],
     'weight or cell names': [(WEIGHT_NAMES, 'weights'), (CELL_NAMES, 'cells')],
     'cell names': [(CELL_NAMES, 'cells')],
 }
 
-def is_value(text):
-    """Is a field a value, with no more than the allowed blanks in front of it?"""
+def is_value(name, text):
+    """Is a field of the column of this name a value, with no more than the allowed blanks in front of it?"""
     digits = text.lstrip(b' ')
     if len(text) > len(digits) + MAX_BLANKS:
         return False
-    return digits == b'0' or (digits.isdigit() and len(digits) <= 5 and digits[0] != ord('0'))
+    most = 8 if name == b'least' else 5
+    return digits == b'0' or (digits.isdigit() and len(digits) <= most and digits[0] != ord('0'))
 
 def take_names(state, fields):
     for names, stage in NAMES_LINES[state.stage]:
@@ -305,12 +330,13 @@ def take_names(state, fields):
 
 def take_sizes(state, values, dirs, weights):
     rows, cols, depth = (values[name] for name in SIZE_NAMES)
-    number = size_refusal(rows, cols, depth, len(dirs), len(weights))
+    least, split = values.get(b'least', LEAST), values.get(b'split', SPLIT)
+    number = size_refusal(rows, cols, depth, least, split, len(dirs), len(weights))
     if number != 0:
         return number, state
     dirs[:rows * cols] = bytes(rows * cols)
     weights[:rows] = [1] * rows
-    return 0, state._replace(stage='weight or cell names', rows=rows, cols=cols, depth=depth)
+    return 0, state._replace(stage='weight or cell names', rows=rows, cols=cols, depth=depth, least=least, split=split)
 
 def take_weight(state, values, weights):
     weight, = (values[name] for name in WEIGHT_NAMES)
@@ -334,12 +360,13 @@ def take_cell(state, values, dirs):
     return 0, state
 
 def state_refusal(state, dirs, weights):
-    """The refusal of any line because of the state: 13; 1, 2, 3 for its sizes; 9 if it waits for a row outside them."""
+    """The refusal of any line because of the state: 13; 1, 2, 19, 3 for its sizes; 9 if it waits for a row outside
+    them."""
     if state.stage == 'ended':
         return 13
     if state.stage in ('size names', 'sizes'):
         return 0
-    number = size_refusal(state.rows, state.cols, state.depth, len(dirs), len(weights))
+    number = size_refusal(*state.sizes(), len(dirs), len(weights))
     if number == 0 and state.stage == 'weights' and state.row >= state.rows:
         return 9
     return number
@@ -354,7 +381,7 @@ def take_line(state, line, dirs, weights):
     fields = line.split(b',')
     if state.stage in NAMES_LINES:
         return take_names(state, fields)
-    if len(fields) != len(state.names) or not all(is_value(field) for field in fields):
+    if len(fields) != len(state.names) or not all(map(is_value, state.names, fields)):
         return 8, state
     values = dict(zip(state.names, map(int, fields)))
     if state.stage == 'sizes':
@@ -371,7 +398,7 @@ def take_end(state):
 def label_intake(state, dirs, weights, areas_len, labels_len, work_len):
     if state.stage != 'ended':
         return 15, 0, None, None
-    return label(state.rows, state.cols, state.depth, dirs, weights, areas_len, labels_len, work_len)
+    return label(*state.sizes(), dirs, weights, areas_len, labels_len, work_len)
 
 def index_intake(state, dirs, weights, areas_len, labels_len, work_len, units_len, outlets_len, counts_len):
     labelled = label_intake(state, dirs, weights, areas_len, labels_len, work_len)

@@ -1,24 +1,25 @@
 #!/usr/bin/env python3
 """Writes cases for tests/direct/direct.c to standard output: calls with what tests/reference.py expects of
-them, and the outlet question with what the water does.
+them, and both questions about the labels of a sheet with what the water does.
 
 A case is a byte that names its call, then numbers of 8 bytes, lowest byte first, and slices.
-'L', labelling: rows, cols, depth and the lengths of directions, weights, areas, labels and work places; these slices
-before the call; the answer (0, or refusal number + 256 x place); areas, labels and work places after it. Directions and
-weights must stay as they are.
+'L', labelling: rows, cols, depth, least, split and the lengths of directions, weights, areas, labels and work places;
+these slices before the call; the answer (0, or refusal number + 256 x place); areas, labels and work places after it.
+Directions and weights must stay as they are.
 'I', the index: the same with three slices more, the labels, outlets and counts of units; accepted, the answer is
 256 x the number of units.
 'V', the levy: the total, then the same as for the index with one slice more, the dues of units.
 'P', a lookup: the leading digits, the length of the label slice, the slice, start and length before; the answer, start
 and length after.
-'F', the flow question: depth, p, q, the answer.
-'O', the outlet question: the same.
-'S', that question about every two labels of a sheet: depth, the number of labels, the labels; the answers, a byte each,
-a row of them for each label as p, with one for each label as q.
+'F', the flow question: depth, least, p, q, the answer.
+'O', the outlet question: depth, p, q, the answer.
+'S', both questions about every two labels of a sheet: depth, least, the number of labels, the labels; the answers to
+the outlet question, then those to the flow question, a byte each, a row of them for each label as p, with one for each
+label as q.
 'W', the word test: the number of words, the words; the answers, a byte each.
-'M', the flow question about many pairs: depth and the lengths of P's labels, Q's labels and answers; these slices
-before the call; the answer (256 x the number of pairs, or refusal number); the answers, a byte each, after it. The
-labels must stay as they are.
+'M', the flow question about many pairs: depth, least and the lengths of P's labels, Q's labels and answers; these
+slices before the call; the answer (256 x the number of pairs, or refusal number); the answers, a byte each, after it.
+The labels must stay as they are.
 
 At the end a tally of the kinds of cases goes to standard error; if one of them did not occur, the status is 1. The same
 --seed makes the same cases."""
@@ -30,13 +31,16 @@ from array import array
 
 sys.dont_write_bytecode = True
 sys.path.insert(0, os.path.join(os.path.dirname(os.path.abspath(__file__)), '..'))
+import flows
 import fuzz
+import lent_splits
 import lent_weights
 import levies
 import lookups
 import outlets
 import pairs
 import reference
+import splits
 import weights
 import words
 
@@ -48,17 +52,18 @@ SAMPLE_A = [0, 4, 16, 8, 16, 16, 16, 16, 64, 64, 32, 64]
 
 # The kinds of cases of each call, and how many of each were made.
 ACCEPTED, REFUSED = 'accepted', 'refused by %d'
-LABEL_KINDS = [ACCEPTED] + [REFUSED % number for number in (1, 2, 3, 17, 4, 5, 6, 7)]
-INDEX_KINDS = LABEL_KINDS + ['short ' + name for name in ('labels', 'outlets', 'counts', 'slices')] + ['longer slices', 'short slices unseen']
-REFUSED_FLOWS = [REFUSED % number for number in (2, 11, 12)]
+LABEL_KINDS = [ACCEPTED] + [REFUSED % number for number in (1, 2, 19, 3, 17, 4, 5, 6, 7)]
+INDEX_KINDS = (LABEL_KINDS + ['short ' + name for name in ('labels', 'outlets', 'counts', 'slices')]
+               + ['longer slices', 'short slices unseen'])
 tally = {
     'pf_label': dict.fromkeys(LABEL_KINDS, 0),
     'pf_index': dict.fromkeys(INDEX_KINDS, 0),
     'pf_levy': dict.fromkeys(levies.KINDS, 0),
     'weights': dict.fromkeys(lent_weights.KINDS, 0),
+    'least and split': dict.fromkeys(lent_splits.KINDS, 0),
     'pf_lookup': dict.fromkeys(lookups.KINDS, 0),
-    'pf_flow': dict.fromkeys([*reference.ANSWERS] + REFUSED_FLOWS, 0),
-    'pf_outlet_flow': dict.fromkeys(['No', 'Yes', 'Same'] + REFUSED_FLOWS, 0),
+    'pf_flow': dict.fromkeys(flows.KINDS, 0),
+    'pf_outlet_flow': dict.fromkeys(flows.OUTLET_KINDS, 0),
     'outlets': dict.fromkeys(outlets.KINDS, 0),
     'pf_first_bad': dict.fromkeys(words.KINDS, 0),
     'directions': dict.fromkeys(words.SHEET_KINDS, 0),
@@ -84,14 +89,15 @@ def written(places, values):
     return array_of(places.itemsize, values) + places[len(values):]
 
 
-# Sheets. A sheet is (rows, cols, depth); `lent` are its weights; `lengths` are those of areas, labels and work places.
+# Sheets. A sheet is (rows, cols, depth, least, split); `lent` are its weights; `lengths` are those of areas, labels and
+# work places.
 
 def labelled_places(sheet, labelled, areas, labels, work):
     """The slices of labelling after a call in which it gave `labelled`."""
     number, place, new_areas, new_labels = labelled
     if number == 0:
         areas, labels = written(areas, new_areas), written(labels, new_labels)
-    if number not in (1, 2, 3):
+    if number not in (1, 2, 19, 3):
         work = written(work, [0] * (reference.WORK * sheet[0] * sheet[1]))
     return [areas, labels, work]
 
@@ -111,7 +117,7 @@ def label_case(out, rng, sheet, dirs, lent, lengths, labelled):
 
 
 def index_case(out, rng, sheet, dirs, lent, lengths, index_lengths, labelled):
-    rows, cols, depth = sheet
+    rows, cols = sheet[:2]
     number, place, areas, labels, units = reference.index_after(labelled, rows, cols, dirs, *index_lengths)
     before = rubbish(rng, LABEL_WIDTHS + INDEX_WIDTHS, [*lengths, *index_lengths])
     after = labelled_places(sheet, labelled, *before[:3]) + before[3:]
@@ -121,7 +127,7 @@ def index_case(out, rng, sheet, dirs, lent, lengths, index_lengths, labelled):
     write_case(out, b'I', sheet, dirs, lent, before, answer, after)
     kinds = tally['pf_index']
     if labelled[0] == 0 and number == 3:
-        count = len(reference.units_of(rows, cols, dirs, labels))
+        count = len({label for label, code in zip(labels, dirs) if code != 0})
         short = [length < count for length in index_lengths]
         kinds['short ' + ('slices' if sum(short) > 1 else ('labels', 'outlets', 'counts')[short.index(True)])] += 1
     else:
@@ -130,12 +136,17 @@ def index_case(out, rng, sheet, dirs, lent, lengths, index_lengths, labelled):
         kinds['short slices unseen'] += number != 0 and max(index_lengths) == 0
 
 
-def sheet_cases(out, rng, rows, cols, depth, dirs, lent, lengths=None, index_lengths=None):
-    """A labelling case and an index case of one sheet. Without lengths the slices of labelling are exact; without index lengths those of
-    the index are chosen. Returns the labels of the inside cells and those of the units, none if labelling refused."""
+def sheet_cases(out, rng, sheet, dirs, lent, lengths=None, index_lengths=None):
+    """A labelling case and an index case of one sheet; it may lack least and split, which are then 1 and 4. Without
+    lengths the slices of labelling are exact; without index lengths those of the index are chosen. Returns the labels
+    of the inside cells and those of the units, none if labelling refused."""
+    rows, cols = sheet[:2]
     n = rows * cols
-    sheet, dirs, lengths = (rows, cols, depth), bytes(dirs), lengths or [n, n, reference.WORK * n]
-    labelled = reference.label(rows, cols, depth, dirs, lent, *lengths)
+    sheet = sheet if len(sheet) == 5 else (*sheet, *splits.NEITHER)
+    dirs, lengths = bytes(dirs), lengths or [n, n, reference.WORK * n]
+    labelled = reference.label(*sheet, dirs, lent, *lengths)
+    for kind in lent_splits.kinds(sheet, dirs, lent, lengths, labelled):
+        tally['least and split'][kind] += 1
     for kind in lent_weights.kinds(sheet, dirs, lent, labelled):
         tally['weights'][kind] += 1
     for kind in words.sheet_kinds(sheet, dirs, labelled):
@@ -144,13 +155,14 @@ def sheet_cases(out, rng, rows, cols, depth, dirs, lent, lengths=None, index_len
     inside, units = [], []
     if labelled[0] == 0:
         inside = [label for label, code in zip(labelled[3], dirs) if code != 0]
-        units = [label for label, outlet, count in reference.units_of(rows, cols, dirs, labelled[3])]
+        units = sorted(set(inside), key=reference.digits_of)
     index_case(out, rng, sheet, dirs, lent, lengths, index_lengths or chosen_lengths(rng, len(units)), labelled)
     return inside, units
 
 
 def chosen_lengths(rng, count):
-    """Lengths of the index's slices for so many units: enough, or one or more of them short; some rubbish if there are none."""
+    """Lengths of the index's slices for so many units: enough, or one or more of them short; some rubbish if there are
+    none."""
     if count == 0:
         return rng.choice([[0, 0, 0], [rng.randint(0, 9) for _ in range(3)]])
     lengths = [count + rng.choice([0, 0, 0, 1, rng.randint(0, 60)]) for _ in range(3)]
@@ -179,38 +191,39 @@ def random_sheets(out, rng, count):
         if rng.random() < 0.4:
             lengths = [length(rng, n), length(rng, n), length(rng, 8 * n)]
             dirs = dirs[:length(rng, n)] + [rng.randrange(256) for _ in range(max(0, length(rng, n) - n))]
-        inside, units = sheet_cases(out, rng, rows, cols, depth, dirs, lent, lengths)
+        inside, units = sheet_cases(out, rng, (rows, cols, depth), dirs, lent, lengths)
         for _ in range(3 if inside else 0):
-            flow_cases(out, depth, rng.choice(inside), rng.choice(inside))
+            flow_cases(out, depth, [rng.choice(flows.LEASTS)], rng.choice(inside), rng.choice(inside))
         if units:
             indexes.append(units)
     return indexes
 
 
 def size_boundaries(out, rng):
-    for rows, cols, depth in [(0, 1, 1), (1, 0, 1), (257, 1, 1), (1, 257, 1), (256, 1, 1), (1, 256, 18), (1, 1, 0), (1, 1, 19), (1, 1, 1),
-                              (2 ** 64 - 1, 1, 1), (1, 2 ** 64 - 1, 1), (2 ** 32, 2 ** 32, 1), (1, 1, 2 ** 64 - 1), (257, 1, 19), (0, 0, 0)]:
+    for rows, cols, depth in [(0, 1, 1), (1, 0, 1), (257, 1, 1), (1, 257, 1), (256, 1, 1), (1, 256, 18), (1, 1, 0),
+                              (1, 1, 19), (1, 1, 1), (2 ** 64 - 1, 1, 1), (1, 2 ** 64 - 1, 1), (2 ** 32, 2 ** 32, 1),
+                              (1, 1, 2 ** 64 - 1), (257, 1, 19), (0, 0, 0)]:
         n = rows * cols if rows <= 256 and cols <= 256 else 300
         dirs = [16 if cols and cell < cols else 64 for cell in range(n)]
         for weight in (1, 0):
-            sheet_cases(out, rng, rows, cols, depth, dirs, [weight] * min(rows, 300), [n, n, 8 * n])
+            sheet_cases(out, rng, (rows, cols, depth), dirs, [weight] * min(rows, 300), [n, n, 8 * n])
     for missing in range(5):
         lengths = [12, 3, 12, 12, 96]
         lengths[missing] -= 1
         for weight in (500, 1001):
             for index_lengths in ([0, 0, 0], [9, 9, 9], [12, 12, 12]):
                 dirs, lent = SAMPLE_A[:lengths[0]], [weight] * lengths[1]
-                sheet_cases(out, rng, 3, 4, 2, dirs, lent, lengths[2:], index_lengths)
+                sheet_cases(out, rng, (3, 4, 2), dirs, lent, lengths[2:], index_lengths)
 
 
 def weight_boundaries(out, rng):
     for rows in (1, 2, 3, 6):
         dirs = fuzz.comb(rng, rows, 4)
         for lent in lent_weights.edges(rng, rows, 4, dirs):
-            sheet_cases(out, rng, rows, 4, 18, dirs, lent)
+            sheet_cases(out, rng, (rows, 4, 18), dirs, lent)
         dirs[-4:] = [0] * 4  # the last row has no inside cell
         for lent in lent_weights.edges(rng, rows, 4, dirs):
-            sheet_cases(out, rng, rows, 4, 18, dirs, lent)
+            sheet_cases(out, rng, (rows, 4, 18), dirs, lent)
 
 
 def confluences(out, rng, count):
@@ -219,7 +232,7 @@ def confluences(out, rng, count):
         rows, cols = rng.randint(3, 20), rng.randint(3, 20)
         dirs = rng.choice([fuzz.grown, fuzz.northwest])(rng, rows, cols)
         lent = weights.equal_areas(rng, rows, cols, dirs)
-        sheet_cases(out, rng, rows, cols, rng.choice([1, 2, 3, 18]), dirs, lent)
+        sheet_cases(out, rng, (rows, cols, rng.choice([1, 2, 3, 18])), dirs, lent)
 
 
 def refused_sheets(out, rng):
@@ -227,23 +240,23 @@ def refused_sheets(out, rng):
     for index_lengths in ([0, 0, 0], [1, 1, 1], [5, 5, 5]):
         for weight in (1, 1000, 0, 1001, 65535):
             for dirs in ([1], [0], [3], [255]):
-                sheet_cases(out, rng, 1, 1, 1, dirs, [weight], None, index_lengths)
+                sheet_cases(out, rng, (1, 1, 1), dirs, [weight], None, index_lengths)
             for dirs in ([1, 16], [16, 1], [0, 0], [5, 0], [0, 5]):
-                sheet_cases(out, rng, 1, 2, 1, dirs, [weight], None, index_lengths)
-            sheet_cases(out, rng, 257, 1, 1, [4] * 257, [weight] * 257, None, index_lengths)
-            sheet_cases(out, rng, 1, 1, 19, [4], [weight], None, index_lengths)
+                sheet_cases(out, rng, (1, 2, 1), dirs, [weight], None, index_lengths)
+            sheet_cases(out, rng, (257, 1, 1), [4] * 257, [weight] * 257, None, index_lengths)
+            sheet_cases(out, rng, (1, 1, 19), [4], [weight], None, index_lengths)
 
 
 def index_boundaries(out, rng):
     for depth, count in [(1, 7), (2, 9), (18, 9)]:  # sample A, whose rows weigh the same, and its number of units
         lent = [rng.choice([1, 7, 1000])] * 3
         for index_lengths in ([count] * 3, [count + 1] * 3, [count - 1] * 3, [0] * 3):
-            sheet_cases(out, rng, 3, 4, depth, SAMPLE_A, lent, None, index_lengths)
+            sheet_cases(out, rng, (3, 4, depth), SAMPLE_A, lent, None, index_lengths)
         for place in range(3):
             for other in (0, 1, count - 1, count + 1, 5 * count):
                 index_lengths = [count] * 3
                 index_lengths[place] = other
-                sheet_cases(out, rng, 3, 4, depth, SAMPLE_A, lent, None, index_lengths)
+                sheet_cases(out, rng, (3, 4, depth), SAMPLE_A, lent, None, index_lengths)
 
 
 def large_sheets(out, rng):
@@ -254,16 +267,22 @@ def large_sheets(out, rng):
         for turn, depth in enumerate((1, 3, 18)):
             dirs = shape(rng, 256, 256)
             lent = kinds[(at + turn) % len(kinds)](rng, 256, 256, dirs)
-            inside, units = sheet_cases(out, rng, 256, 256, depth, dirs, lent, None, [256 * 256] * 3)
+            inside, units = sheet_cases(out, rng, (256, 256, depth), dirs, lent, None, [256 * 256] * 3)
             indexes += [units] if len(units) > lookups.LARGE else []
     return indexes
+
+
+def split_sheets(out, rng, count):
+    """Sheets with least and split."""
+    for sheet, dirs, lent, lengths in lent_splits.sheets(rng, count):
+        sheet_cases(out, rng, sheet, dirs, lent, lengths)
 
 
 # Levies.
 
 def levy_case(out, rng, call):
     sheet, dirs, lent, lengths, labelled = call.sheet[:5]
-    rows, cols, depth = sheet
+    rows, cols = sheet[:2]
     *rooms, dues_room = call.rooms
     number, place, areas, labels, units, dues = reference.levy_after(labelled, rows, cols, dirs, lent, *rooms,
                                                                      call.total, dues_room)
@@ -285,43 +304,31 @@ def levy_cases(out, rng, count):
 
 # Questions about labels.
 
-def flow_cases(out, depth, p, q):
-    """The flow question and the outlet question."""
-    for case, call, question in [(b'F', 'pf_flow', reference.flow), (b'O', 'pf_outlet_flow', reference.outlet_flow)]:
-        answer = question(depth, p, q)
-        out.write(case + numbers([depth, p, q, reference.answer_number(answer)]))
-        tally[call][REFUSED % answer[1] if isinstance(answer, tuple) else answer] += 1
-
-
-# Depth, p and q of questions that are always asked.
-FLOWS = [(3, 91, 92), (3, 92, 91), (3, 21, 3), (3, 131, 14), (3, 9, 91), (3, 105, 9), (3, 0, 0), (3, 0, 5), (0, 1, 2),
-         (19, 1, 2), (18, 10 ** 18 - 1, 1), (18, 111111111111111111, 2), (18, 1111111111111111111, 2),
-         (2 ** 64 - 1, 1, 1), (18, 2 ** 64 - 1, 2 ** 64 - 1), (1, 1, 3), (2, 1, 3), (2, 91, 92), (2, 93, 91),
-         (2, 21, 22), (4, 2485, 2486), (3, 12, 3), (3, 121, 3), (3, 311, 199), (4, 1313, 1428),
-         (18, 111111111111111112, 2), (18, 888888888888888887, 888888888888888889)]
-# Numbers that are equal, or of which one begins the other, or that are no labels, at good and bad depths.
-FLOWS += [(depth, p, q) for depth in (0, 2, 19) for p, q in [(0, 0), (91, 91), (9, 91), (91, 0), (105, 105), (1, 105),
-                                                             (0, 10), (1111, 1111), (111, 1111)]]
+def flow_cases(out, depth, leasts, p, q):
+    """The flow question, told each of these numbers as least, and the outlet question."""
+    for least in leasts:
+        answer = reference.flow(depth, least, p, q)
+        out.write(b'F' + numbers([depth, least, p, q, reference.answer_number(answer)]))
+        for kind in flows.kinds(depth, least, p, q, answer):
+            tally['pf_flow'][kind] += 1
+    answer = reference.outlet_flow(depth, p, q)
+    out.write(b'O' + numbers([depth, p, q, reference.answer_number(answer)]))
+    tally['pf_outlet_flow'][flows.name_of(answer)] += 1
 
 
 def flow_questions(out, rng, count):
-    for depth, p, q in FLOWS:
-        flow_cases(out, depth, p, q)
-    for _ in range(count):
-        digits = rng.choice(['123456789', '13579', '1234567890', '12'])
-        p, q = (int(''.join(rng.choice(digits) for _ in range(rng.randint(1, rng.choice([2, 4, 19]))))) for _ in range(2))
-        if rng.random() < 0.3:
-            q = int(str(p)[:rng.randint(1, 19)] + str(q)) % 2 ** 64
-        flow_cases(out, rng.choice([1, 2, 3, 4, 18, rng.randint(0, 20)]), p, q)
+    for question in flows.questions(rng, count):
+        flow_cases(out, *question)
 
 
 def outlet_questions(out, rng, count):
-    """The outlet question about every two labels of sheets, answered by the water, with a labelling case of each."""
+    """Both questions about every two labels of sheets, answered by the water, with a labelling case of each."""
     for asked in outlets.questions(rng, count):
-        rows, cols, depth = asked.sheet
+        rows, cols, depth, least, split = asked.sheet
         lengths = [rows * cols, rows * cols, reference.WORK * rows * cols]
         label_case(out, rng, asked.sheet, asked.dirs, asked.lent, lengths, asked.labelled)
-        out.write(b'S' + numbers([depth, len(asked.labels), *asked.labels]) + bytes(asked.answers))
+        out.write(b'S' + numbers([depth, least, len(asked.labels), *asked.labels]))
+        out.write(bytes(asked.outlet_answers) + bytes(asked.flow_answers))
         for kind, number in asked.counts.items():
             tally['outlets'][kind] += number
 
@@ -342,7 +349,8 @@ def pair_questions(out, rng, count, indexes):
         answer, after = number, before
         if number == 0:
             answer, after = PLACE * len(answers), bytes(answers) + before[len(answers):]
-        out.write(b'M' + numbers([call.depth, len(call.p), len(call.q), call.room, *call.p, *call.q]) + before)
+        lengths = len(call.p), len(call.q), call.room
+        out.write(b'M' + numbers([call.depth, call.least, *lengths, *call.p, *call.q]) + before)
         out.write(numbers([answer]) + after)
         for kind, times in pairs.counts(call, number, answers).items():
             tally['pf_flow_pairs'][kind] += times
@@ -361,14 +369,14 @@ def word_questions(out, rng, count):
 
 def word_sheets(out, rng):
     for rows, cols, dirs in words.sheets(rng):
-        sheet_cases(out, rng, rows, cols, rng.choice([1, 2, 18]), dirs, [1] * rows)
+        sheet_cases(out, rng, (rows, cols, rng.choice([1, 2, 18])), dirs, [1] * rows)
 
 
 def main():
     parser = argparse.ArgumentParser(description=__doc__, formatter_class=argparse.RawDescriptionHelpFormatter)
     parser.add_argument('--sheets', type=int, default=2000,
-                        help='random sheets, each for pf_label and for pf_index; twice as many, at four depths each, for '
-                             'pf_outlet_flow')
+                        help='random sheets, each for pf_label and for pf_index; as many with least and split; twice '
+                             'as many, at four depths each, for both questions about every two labels')
     parser.add_argument('--lookups', type=int, default=20000, help='random lookups')
     parser.add_argument('--words', type=int, default=20000, help='random words')
     parser.add_argument('--pairs', type=int, default=200000, help='random pairs of labels, of calls with many pairs')
@@ -383,6 +391,7 @@ def main():
     large_indexes = large_sheets(out, rng)
     indexes = random_sheets(out, rng, options.sheets)
     confluences(out, rng, options.sheets // 4)
+    split_sheets(out, rng, options.sheets)
     flow_questions(out, rng, options.sheets)
     lookup_questions(out, rng, options.lookups, indexes, large_indexes)
     outlet_questions(out, rng, 2 * options.sheets)

@@ -1,8 +1,7 @@
 /* Calls pf_label, pf_index, pf_levy, pf_lookup, pf_flow, pf_flow_pairs, pf_outlet_flow and pf_first_bad on the cases
    that come on standard input, and compares the answer and every place of every lent slice afterwards with what is
-   expected; on the labels of a sheet also the answers of pf_flow with those of pf_outlet_flow, and the dues of pf_levy
-   with the total and with the weights of the cells. The cases are made by tests/direct/cases.py, which also says how
-   they are laid out. */
+   expected; also the dues of pf_levy with the total and with the weights of the cells. The cases are made by
+   tests/direct/cases.py, which also says how they are laid out. */
 #include <inttypes.h>
 #include <stdint.h>
 #include <stdio.h>
@@ -67,7 +66,7 @@ enum { DIRS, WEIGHTS, AREAS, LABELS, WORK, UNITS, OUTLETS, COUNTS, DUES, OF_LEVY
 
 /* A sheet with its lent slices; the total is that of a levy. */
 struct sheet {
-    uint64_t rows, cols, depth, total;
+    uint64_t rows, cols, depth, least, split, total;
     struct lent lent[OF_LEVY];
 };
 
@@ -125,14 +124,15 @@ static int shares_good(uint64_t which, const struct sheet *sheet, uint64_t count
 /* A call with so many slices. */
 static uint64_t call_with(struct sheet *sheet, int slices) {
     struct lent *lent = sheet->lent;
-    uint64_t rows = sheet->rows, cols = sheet->cols, depth = sheet->depth;
+    uint64_t rows = sheet->rows, cols = sheet->cols, depth = sheet->depth, least = sheet->least, split = sheet->split;
     if (slices == OF_LABEL)
-        return pf_label(rows, cols, depth, LENT(DIRS), LENT(WEIGHTS), LENT(AREAS), LENT(LABELS), LENT(WORK));
+        return pf_label(rows, cols, depth, least, split, LENT(DIRS), LENT(WEIGHTS), LENT(AREAS), LENT(LABELS),
+                        LENT(WORK));
     if (slices == OF_INDEX)
-        return pf_index(rows, cols, depth, LENT(DIRS), LENT(WEIGHTS), LENT(AREAS), LENT(LABELS), LENT(WORK),
-                        LENT(UNITS), LENT(OUTLETS), LENT(COUNTS));
-    return pf_levy(rows, cols, depth, LENT(DIRS), LENT(WEIGHTS), LENT(AREAS), LENT(LABELS), LENT(WORK), LENT(UNITS),
-                   LENT(OUTLETS), LENT(COUNTS), sheet->total, LENT(DUES));
+        return pf_index(rows, cols, depth, least, split, LENT(DIRS), LENT(WEIGHTS), LENT(AREAS), LENT(LABELS),
+                        LENT(WORK), LENT(UNITS), LENT(OUTLETS), LENT(COUNTS));
+    return pf_levy(rows, cols, depth, least, split, LENT(DIRS), LENT(WEIGHTS), LENT(AREAS), LENT(LABELS), LENT(WORK),
+                   LENT(UNITS), LENT(OUTLETS), LENT(COUNTS), sheet->total, LENT(DUES));
 }
 
 /* A call of pf_label, pf_index or pf_levy, told by its number of slices. Directions and weights must stay as they
@@ -145,7 +145,8 @@ static int sheet_case(uint64_t which, int slices) {
                                    {.name = "dues of units", .width = 8}}};
     struct lent *lent = sheet.lent;
     if (slices == OF_LEVY) sheet.total = number();
-    sheet.rows = number(), sheet.cols = number(), sheet.depth = number();
+    sheet.rows = number(), sheet.cols = number(), sheet.depth = number(), sheet.least = number();
+    sheet.split = number();
     for (int i = 0; i < slices; i++) lent[i].length = number();
     for (int i = 0; i < slices; i++) lent[i].places = slice(lent[i].width * lent[i].length);
     uint64_t expected = number();
@@ -157,8 +158,9 @@ static int sheet_case(uint64_t which, int slices) {
     for (int i = 0; i < slices; i++) good &= as_expected(which, &lent[i]);
     if (good) return 1;
     const char *call = slices == OF_LABEL ? "pf_label" : slices == OF_INDEX ? "pf_index" : "pf_levy";
-    printf("case %" PRIu64 ", %s: %" PRIu64 " x %" PRIu64 ", depth %" PRIu64 ": answer %" PRIu64 ", expected %" PRIu64
-           "\n", which, call, sheet.rows, sheet.cols, sheet.depth, answer, expected);
+    printf("case %" PRIu64 ", %s: %" PRIu64 " x %" PRIu64 ", depth %" PRIu64 ", least %" PRIu64 ", split %" PRIu64
+           ": answer %" PRIu64 ", expected %" PRIu64 "\n", which, call, sheet.rows, sheet.cols, sheet.depth,
+           sheet.least, sheet.split, answer, expected);
     if (slices == OF_LEVY) printf("case %" PRIu64 ": the total is %" PRIu64 "\n", which, sheet.total);
     return 0;
 }
@@ -173,40 +175,40 @@ static int lookup_case(uint64_t which) {
     uint32_t answer = pf_lookup(leading, labels.places, labels.length, &start, &length);
     int good = answer == expected && start == expected_start && length == expected_length;
     if (!good)
-        printf("case %" PRIu64 ", pf_lookup: %" PRIu64 " in %" PRIu64 " labels: answer %" PRIu32 ", start %zu, length %zu, expected %" PRIu64
-               ", %" PRIu64 ", %" PRIu64 "\n", which, leading, labels.length, answer, start, length, expected, expected_start, expected_length);
+        printf("case %" PRIu64 ", pf_lookup: %" PRIu64 " in %" PRIu64 " labels: answer %" PRIu32 ", start %zu, length "
+               "%zu, expected %" PRIu64 ", %" PRIu64 ", %" PRIu64 "\n", which, leading, labels.length, answer, start,
+               length, expected, expected_start, expected_length);
     return good & as_expected(which, &labels);
 }
 
 /* A call of pf_flow, or of pf_outlet_flow. */
 static int flow_case(uint64_t which, int to_outlet) {
-    uint64_t depth = number(), p = number(), q = number(), expected = number();
-    uint32_t answer = to_outlet ? pf_outlet_flow(depth, p, q) : pf_flow(depth, p, q);
+    uint64_t depth = number(), least = to_outlet ? 0 : number(), p = number(), q = number(), expected = number();
+    uint32_t answer = to_outlet ? pf_outlet_flow(depth, p, q) : pf_flow(depth, least, p, q);
     if (answer == expected) return 1;
-    printf("case %" PRIu64 ", %s: depth %" PRIu64 ", from %" PRIu64 " past %" PRIu64 ": answer %" PRIu32
-           ", expected %" PRIu64 "\n", which, to_outlet ? "pf_outlet_flow" : "pf_flow", depth, q, p, answer, expected);
+    printf("case %" PRIu64 ", %s: depth %" PRIu64 ", ", which, to_outlet ? "pf_outlet_flow" : "pf_flow", depth);
+    if (!to_outlet) printf("least %" PRIu64 ", ", least);
+    printf("from %" PRIu64 " past %" PRIu64 ": answer %" PRIu32 ", expected %" PRIu64 "\n", q, p, answer, expected);
     return 0;
 }
 
-/* Every two labels of a sheet: pf_outlet_flow must answer as expected, and pf_flow the same, or Undecided for Yes. The
-   first few differences are told. */
+/* Every two labels of a sheet, by pf_outlet_flow and by pf_flow. The first few differences are told. */
 static int labels_case(uint64_t which) {
-    enum { YES = 1, UNDECIDED = 3 };
-    uint64_t depth = number(), count = number(), differences = 0;
+    uint64_t depth = number(), least = number(), count = number(), differences = 0;
     uint64_t *labels = slice(8 * count);
-    uint8_t *expected = slice(count * count);
+    uint8_t *to_outlet = slice(count * count), *to_cells = slice(count * count);
     for (uint64_t i = 0; i < count * count; i++) {
         uint64_t p = labels[i / count], q = labels[i % count];
-        uint32_t answer = pf_outlet_flow(depth, p, q), flow = pf_flow(depth, p, q);
-        if (answer == expected[i] && answer == (flow == UNDECIDED ? YES : flow)) continue;
+        uint32_t answer = pf_outlet_flow(depth, p, q), flow = pf_flow(depth, least, p, q);
+        if (answer == to_outlet[i] && flow == to_cells[i]) continue;
         if (differences++ < TOLD)
-            printf("case %" PRIu64 ", labels of a sheet: depth %" PRIu64 ", from %" PRIu64 " past %" PRIu64
-                   ": pf_outlet_flow %" PRIu32 ", pf_flow %" PRIu32 ", expected %d\n", which, depth, q, p, answer, flow,
-                   expected[i]);
+            printf("case %" PRIu64 ", labels of a sheet: depth %" PRIu64 ", least %" PRIu64 ", from %" PRIu64 " past %"
+                   PRIu64 ": pf_outlet_flow %" PRIu32 ", expected %d; pf_flow %" PRIu32 ", expected %d\n", which, depth,
+                   least, q, p, answer, to_outlet[i], flow, to_cells[i]);
     }
     if (differences > TOLD)
         printf("case %" PRIu64 ": %" PRIu64 " of %" PRIu64 " pairs differ\n", which, differences, count * count);
-    free(labels), free(expected);
+    free(labels), free(to_outlet), free(to_cells);
     return differences == 0;
 }
 
@@ -229,14 +231,15 @@ static int words_case(uint64_t which) {
 }
 
 /* Tells the first few answers that differ, with the labels at their place. */
-static void tell_answers(uint64_t which, uint64_t depth, const struct lent *p, const struct lent *q,
+static void tell_answers(uint64_t which, uint64_t depth, uint64_t least, const struct lent *p, const struct lent *q,
                          const struct lent *answers) {
     const uint64_t *ps = p->expected, *qs = q->expected;
     const uint8_t *given = answers->places, *expected = answers->expected;
     uint64_t differences = 0;
     for (uint64_t i = 0; i < answers->length; i++) {
         if (given[i] == expected[i] || differences++ >= TOLD) continue;
-        printf("case %" PRIu64 ", pf_flow_pairs: depth %" PRIu64 ", place %" PRIu64 ", ", which, depth, i);
+        printf("case %" PRIu64 ", pf_flow_pairs: depth %" PRIu64 ", least %" PRIu64 ", place %" PRIu64 ", ", which,
+               depth, least, i);
         if (i < p->length && i < q->length)
             printf("from %" PRIu64 " past %" PRIu64 ": ", qs[i], ps[i]);
         else
@@ -252,20 +255,20 @@ static int pairs_case(uint64_t which) {
     enum { P, Q, ANSWERS, SLICES };
     struct lent lent[] = {{.name = "labels of P", .width = 8}, {.name = "labels of Q", .width = 8},
                           {.name = "answers", .width = 1}};
-    uint64_t depth = number(), expected, answer;
+    uint64_t depth = number(), least = number(), expected, answer;
     for (int i = 0; i < SLICES; i++) lent[i].length = number();
     for (int i = 0; i < SLICES; i++) lent[i].places = slice(lent[i].width * lent[i].length);
     expected = number();
     for (int i = P; i < ANSWERS; i++) lent[i].expected = copy(lent[i].places, lent[i].width * lent[i].length);
     lent[ANSWERS].expected = slice(lent[ANSWERS].length);
-    answer = pf_flow_pairs(depth, lent[P].places, lent[P].length, lent[Q].places, lent[Q].length, lent[ANSWERS].places,
-                           lent[ANSWERS].length);
+    answer = pf_flow_pairs(depth, least, lent[P].places, lent[P].length, lent[Q].places, lent[Q].length,
+                           lent[ANSWERS].places, lent[ANSWERS].length);
     int good = answer == expected;
     if (!good)
-        printf("case %" PRIu64 ", pf_flow_pairs: depth %" PRIu64 ", %" PRIu64 " and %" PRIu64 " labels, %" PRIu64
-               " places: answer %" PRIu64 ", expected %" PRIu64 "\n", which, depth, lent[P].length, lent[Q].length,
-               lent[ANSWERS].length, answer, expected);
-    tell_answers(which, depth, &lent[P], &lent[Q], &lent[ANSWERS]);
+        printf("case %" PRIu64 ", pf_flow_pairs: depth %" PRIu64 ", least %" PRIu64 ", %" PRIu64 " and %" PRIu64
+               " labels, %" PRIu64 " places: answer %" PRIu64 ", expected %" PRIu64 "\n", which, depth, least,
+               lent[P].length, lent[Q].length, lent[ANSWERS].length, answer, expected);
+    tell_answers(which, depth, least, &lent[P], &lent[Q], &lent[ANSWERS]);
     for (int i = 0; i < SLICES; i++) good &= as_expected(which, &lent[i]);
     return good;
 }

@@ -16,7 +16,7 @@ KINDS = (['equal areas of unequal counts', 'another heaviest donor than by count
 
 def kinds(sheet, dirs, lent, labelled):
     """The kinds that the weights of a sheet belong to, once labelling has given `labelled`."""
-    rows, cols, depth = sheet
+    rows, cols = sheet[:2]
     number = labelled[0]
     bad = [row for row, weight in enumerate(lent[:rows]) if not reference.is_weight(weight)]
     if number == 0:
@@ -31,7 +31,8 @@ def kinds(sheet, dirs, lent, labelled):
 
 
 def kinds_of_accepted(rows, cols, dirs, lent, areas):
-    equal, other_heaviest = weights.effects(rows, cols, dirs, areas)
+    unequal = len(set(lent[:rows])) > 1
+    equal, other_heaviest = weights.effects(rows, cols, dirs, areas) if unequal else (False, False)
     found = {'equal areas of unequal counts': equal, 'another heaviest donor than by counts': other_heaviest,
              'area over 65536': max(areas) > 65536, 'area 65536000': max(areas) == LARGEST_AREA,
              'accepted with 1': 1 in lent[:rows], 'accepted with 1000': 1000 in lent[:rows],
@@ -40,7 +41,7 @@ def kinds_of_accepted(rows, cols, dirs, lent, areas):
 
 
 def kinds_of_refused(sheet, dirs, lent, bad):
-    rows, cols, depth = sheet
+    rows, cols = sheet[:2]
     for row in bad:
         if lent[row] in BAD:
             yield '17 at %d' % lent[row]
@@ -49,7 +50,7 @@ def kinds_of_refused(sheet, dirs, lent, bad):
     if len(bad) == 1 and rows > 2:
         yield '17 in the %s row' % ('first' if bad == [0] else 'last' if bad == [rows - 1] else 'middle')
     n = rows * cols
-    number = reference.label(rows, cols, depth, dirs, [1] * rows, n, n, reference.WORK * n)[0]
+    number = reference.label(*sheet, dirs, [1] * rows, n, n, reference.WORK * n)[0]
     if number != 0:
         yield '17 before %d' % number
 

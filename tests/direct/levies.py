@@ -5,9 +5,11 @@ from itertools import accumulate
 from typing import NamedTuple
 
 import fuzz
+import lent_splits
 import lent_weights
 import other_dues
 import reference
+import splits
 import weights
 
 MOST = reference.MAX_TOTAL
@@ -21,7 +23,7 @@ TOO_LARGE = [MOST + 1, MOST + 2, 2 ** 37, MOST + 2 ** 32, 10 ** 12, 2 ** 40, 2 *
              2 ** 63 + 5, LARGEST - MOST, LARGEST - 1, LARGEST]
 HARDLY = 65536  # a sum less than 1/65536 of a cent above or below a whole cent is hardly above or below it
 MANY = 60  # places more than are needed
-REFUSALS = [1, 2, 3, 17, 4, 5, 6, 7]  # of labelling
+REFUSALS = [1, 2, 19, 3, 17, 4, 5, 6, 7]  # of labelling
 SLICES = ['labels', 'outlets', 'counts', 'dues']  # of units
 
 # What is counted of a call: how it ends,
@@ -45,7 +47,8 @@ ROOM_KINDS = ([kind % name for name in SLICES for kind in ALONE]
 SHEET_KINDS = ['one cell', 'one unit of several cells', 'three units', 'more than 256 units', 'more than 10000 units',
                'outside cells', 'all weights 1', 'equal weights over 1', 'unequal weights',
                'a unit of unequal weights', 'a weight of a unit over 65535', 'more lent for labelling',
-               '256 x 256', 'whole weight 65536000 with the total 10^11']
+               '256 x 256', 'whole weight 65536000 with the total 10^11', 'least above 1', 'split below 4',
+               'other units than with least 1 and split 4']
 
 # and its dues.
 UNLIKE = 'unlike %s'
@@ -58,13 +61,14 @@ KINDS = TOTAL_KINDS + REFUSED_KINDS + ROOM_KINDS + SHEET_KINDS + DUE_KINDS
 
 class Sheet(NamedTuple):
     """A sheet as it is lent, what labelling gives, and the units of an accepted one with their weights."""
-    sizes: tuple  # rows, cols, depth
+    sizes: tuple  # rows, cols, depth, least, split
     dirs: bytes
     lent: list  # weights
     lengths: list  # of areas, labels and work places
     labelled: tuple
     units: list
     summed: list
+    other_units: bool  # than with least 1 and split 4
 
 
 class Call(NamedTuple):
@@ -111,7 +115,7 @@ def short_kinds(call):
 
 def room_kinds(call):
     """Of an accepted call."""
-    rows, cols, depth = call.sheet.sizes
+    rows, cols = call.sheet.sizes[:2]
     count = len(call.sheet.units)
     longer = [room > count for room in call.rooms]
     found = {'exact slices': not any(longer), 'longer slices': all(longer),
@@ -127,7 +131,7 @@ def room_kinds(call):
 def sheet_kinds(call):
     """Of an accepted call."""
     sheet = call.sheet
-    rows, cols, depth = sheet.sizes
+    rows, cols, depth, least, split = sheet.sizes
     n, count, lent, whole = rows * cols, len(sheet.units), sheet.lent[:rows], sum(sheet.summed)
     inside = sum(code != reference.OUTSIDE for code in sheet.dirs[:n])
     equal = len(set(lent)) == 1
@@ -140,7 +144,9 @@ def sheet_kinds(call):
             'a weight of a unit over 65535': max(sheet.summed) > 65535,
             'more lent for labelling': len(sheet.dirs) > n and len(sheet.lent) > rows and sheet.lengths[2] > 8 * n,
             '256 x 256': rows == cols == reference.MAX_SIDE,
-            'whole weight 65536000 with the total 10^11': (whole, call.total) == (65536000, MOST)}
+            'whole weight 65536000 with the total 10^11': (whole, call.total) == (65536000, MOST),
+            'least above 1': least > 1, 'split below 4': split < 4,
+            'other units than with least 1 and split 4': sheet.other_units}
 
 
 def due_kinds(call, dues):
@@ -236,16 +242,19 @@ def edge_rooms(count):
 
 # Sheets.
 
-def sheet_of(rows, cols, depth, dirs, lent, lengths=None):
-    """Without lengths the slices of labelling are exact."""
+def sheet_of(rows, cols, depth, dirs, lent, lengths=None, named=splits.NEITHER):
+    """Without lengths the slices of labelling are exact; `named` are least and split."""
     n, dirs = rows * cols, bytes(dirs)
     lengths = lengths or [n, n, reference.WORK * n]
-    labelled = reference.label(rows, cols, depth, dirs, lent, *lengths)
-    units, summed = [], []
+    labelled = reference.label(rows, cols, depth, *named, dirs, lent, *lengths)
+    units, summed, other_units = [], [], False
     if labelled[0] == 0:
         units = reference.units_of(rows, cols, dirs, labelled[3])
         summed = reference.unit_weights(rows, cols, dirs, lent, labelled[3])
-    return Sheet((rows, cols, depth), dirs, lent, lengths, labelled, units, summed)
+    if labelled[0] == 0 and named != splits.NEITHER:
+        labels = reference.label(rows, cols, depth, *splits.NEITHER, dirs, lent, *lengths)[3]
+        other_units = reference.units_of(rows, cols, dirs, labels) != units
+    return Sheet((rows, cols, depth, *named), dirs, lent, lengths, labelled, units, summed, other_units)
 
 
 SAMPLE_A = [0, 4, 16, 8, 16, 16, 16, 16, 64, 64, 32, 64]
@@ -264,6 +273,8 @@ def small_sheets(rng):
     for lent in ([1, 1, 1], [2, 5, 3], [1, 9, 2], [201, 5, 300], [1000, 1000, 1000]):
         yield sheet_of(3, 4, 1, NORTH_AND_SOUTH, lent)
         yield sheet_of(3, 4, 2, SAMPLE_A, lent)
+    for named in [(2, 4), (1, 1), (2, 1), (3, 2), (splits.MOST, 4)]:
+        yield sheet_of(3, 4, 2, SAMPLE_A, [1, 1, 1], None, named)
 
 
 def bad_sizes():
@@ -274,10 +285,22 @@ def bad_sizes():
         yield sheet_of(rows, cols, depth, [16] * n, [1] * min(rows, 300), [n, n, reference.WORK * n])
 
 
+def bad_splits(rng):
+    """Refused by 19, and by what comes before it; some would be refused by what comes after it."""
+    for least in lent_splits.BAD_LEASTS:
+        yield sheet_of(3, 4, 2, SAMPLE_A, [1, 1, 1], None, (least, splits.good_split(rng)))
+    for split in lent_splits.BAD_SPLITS:
+        yield sheet_of(3, 4, 2, SAMPLE_A, [1, 1, 1], None, (rng.choice([1, 2]), split))
+    for (rows, cols, depth), dirs, lent, lengths in lent_splits.refusable():
+        for named in [(0, 4), (1, 5), (rng.choice(lent_splits.BAD_LEASTS), rng.choice(lent_splits.BAD_SPLITS))]:
+            yield sheet_of(rows, cols, depth, dirs, lent, lengths, named)
+
+
 def refused_sheets(rng):
-    """Refused by each number of labelling: sizes; a slice too short; weights, good and bad, with directions that are
-    refused too, and with sample A."""
+    """Refused by each number of labelling: sizes; least and split; a slice too short; weights, good and bad, with
+    directions that are refused too, and with sample A."""
     yield from bad_sizes()
+    yield from bad_splits(rng)
     for missing in range(5):
         lengths = [12, 3, 12, 12, 96]
         for fewer in (1, lengths[missing]):
@@ -294,7 +317,8 @@ def refused_sheets(rng):
 
 
 def random_sheet(rng):
-    """Often accepted; of any shape, with any weights, and sometimes with more or too few places for labelling."""
+    """Often accepted; of any shape, with any weights, mostly with least 1 and split 4, and sometimes with more or too
+    few places for labelling."""
     side = rng.choice([3, 6, 12, 24, 40])
     rows, cols = rng.choice(4 * [(rng.randint(1, side), rng.randint(1, side))] + [(rng.randint(1, 256), 3)])
     n, dirs = rows * cols, rng.choice(fuzz.SHAPES)(rng, rows, cols)
@@ -307,7 +331,10 @@ def random_sheet(rng):
         if rng.random() < 0.2:
             lengths[rng.randrange(3)] = rng.randrange(n)
     depth = rng.choice([1, 2, 3, 18, rng.randint(1, 18)])
-    return sheet_of(rows, cols, depth, dirs, lent_weights.chosen(rng, rows, cols, dirs), lengths)
+    lent, named = lent_weights.chosen(rng, rows, cols, dirs), splits.NEITHER
+    if rng.random() < 0.4:
+        named = splits.chosen(rng, splits.mouth_areas(rows, cols, dirs, lent))
+    return sheet_of(rows, cols, depth, dirs, lent, lengths, named)
 
 
 def large_sheets(rng):
@@ -365,7 +392,7 @@ def by_chance(rng, count):
     ones with more totals, and with too few places."""
     while count > 0:
         sheet = random_sheet(rng)
-        rows, cols, depth = sheet.sizes
+        rows, cols = sheet.sizes[:2]
         units = len(sheet.units)
         for total in six_totals(rng):
             yield Call(sheet, enough(rng, units) if units else any_rooms(rng, rows * cols), total)

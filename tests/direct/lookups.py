@@ -10,8 +10,8 @@ LARGE = 400  # a slice with more labels is large
 
 # What is counted of a lookup: its answer, and what is at fault.
 KINDS = ['all', 'a part', 'a part of a large slice', 'none: at the start', 'none: between', 'none: at the end',
-         'nothing lent', 'no leading digits', 'a whole label', 'refused by 11', 'leading digits at fault', 'entry at fault',
-         '11 and 16 at fault', 'refused by 16', 'equal neighbours', 'a label after one it begins']
+         'nothing lent', 'no leading digits', 'a whole label', 'refused by 11', 'leading digits at fault',
+         'entry at fault', '11 and 16 at fault', 'refused by 16', 'equal neighbours', 'a label after one it begins']
 
 
 def kinds(leading, labels, answer):

@@ -82,7 +82,7 @@ def of_shares(total, summed):
 
 def of_sums(total, summed, sheet):
     """Those with sums of weights; the sheet is as in tests/direct/levies.py."""
-    (rows, cols, depth), lent, areas = sheet.sizes, sheet.lent, sheet.labelled[2]
+    (rows, cols), lent, areas = sheet.sizes[:2], sheet.lent, sheet.labelled[2]
     labels, outlets, counts = zip(*sheet.units)
     whole = sum(summed)
     as_outlets = [count * lent[outlet // cols] for outlet, count in zip(outlets, counts)]

@@ -1,20 +1,26 @@
-"""Makes small sheets for tests/direct/cases.py, and answers for every two labels of each whether water from the one
-passes the outlet of the other's unit. The answers come from the water itself: they look at no digit of a label."""
+"""Makes small sheets for tests/direct/cases.py, and answers for every two labels of each both questions: whether water
+from the one passes the outlet of the other's unit, and whether it passes the other's cells. The answers come from the
+water itself: of the digits of a label they look at no more than how many there are. Also checks that the cells that
+share leading digits drain to one of them."""
 from typing import NamedTuple
 
 import fuzz
 import reference
+import splits
 import weights
 
 DEPTHS = [1, 2, 3, 18]
-NO, YES, SAME = 0, 1, 2
+NO, YES, SAME, UNDECIDED = 0, 1, 2, 3
 
 # What is counted of a sheet at a depth.
 AT_DEPTH, OUTLET_ALONE = 'depth %d', 'outlet alone passed at depth %d'
-KINDS = ([AT_DEPTH % depth for depth in DEPTHS]
-         + ['weighted', 'equal areas of unequal counts', 'one unit', 'units of several cells']
-         + [OUTLET_ALONE % depth for depth in (1, 2, 3)]
-         + ['pairs No', 'pairs Yes', 'pairs Same', 'pairs Yes for Undecided'])
+WHOLE_YES, WHOLE_ALL = 'pairs Yes with a whole label', 'pairs Undecided with a whole label, all cells passed'
+WHOLE_SOME = 'pairs Undecided with a whole label, some cells not passed'
+EQUAL, SHARED = 'equal areas of unequal counts', 'leading digits of several labels'
+KINDS = ([AT_DEPTH % depth for depth in DEPTHS] + [OUTLET_ALONE % depth for depth in DEPTHS]
+         + ['weighted', EQUAL, 'one unit', 'units of several cells', 'least above 1',
+            'split below 4', 'other labels than with least 1', 'other labels than with split 4', 'pairs No',
+            'pairs Yes', 'pairs Same', 'pairs Yes for Undecided', WHOLE_YES, WHOLE_ALL, WHOLE_SOME, SHARED])
 
 
 class Unit(NamedTuple):
@@ -26,12 +32,13 @@ class Unit(NamedTuple):
 class Questions(NamedTuple):
     """A sheet at a depth, its weights and what labelling gives; the labels of its units; the answers for the first
     label as p and every label as q, then for the second as p, and so on; and how many there are of each kind."""
-    sheet: tuple  # rows, cols, depth
+    sheet: tuple  # rows, cols, depth, least, split
     dirs: bytes
     lent: list
     labelled: tuple
     labels: list
-    answers: list
+    outlet_answers: list
+    flow_answers: list
     counts: dict
 
 
@@ -82,45 +89,112 @@ def units_of(rows, cols, dirs, labels):
             for label, outlet, count in reference.units_of(rows, cols, dirs, labels)]
 
 
-def answer_of(passing, p, q):
-    """Does water from the unit q pass the outlet of the unit p? None if that of some cells of q does and that of others
-    does not, or if p and q are one unit and its own water does not."""
+class Pair(NamedTuple):
+    """The answers for a unit p and a unit q; has p's label fewer digits than the depth, and does all water of q pass
+    every cell of p? An answer is None where the water does what none of the answers says."""
+    outlet: int
+    flow: int
+    whole: bool
+    all_passed: bool
+
+
+def outlet_answer(passing, p, q):
+    """Does water from the unit q pass the outlet of the unit p?"""
     if q.cells <= passing[p.outlet]:
         return SAME if p.label == q.label else YES
     return NO if q.cells.isdisjoint(passing[p.outlet]) and p.label != q.label else None
 
 
+def flow_answer(p, q, some_pass, all_passed, surely):
+    """Does water from the unit q pass the unit p? `some_pass` are the cells whose water passes some cell of p. With
+    `surely` it must then pass every cell of p; else Undecided stands for Yes."""
+    if p.label == q.label:
+        return SAME
+    if q.cells.isdisjoint(some_pass):
+        return NO
+    return UNDECIDED if not surely else YES if all_passed else None
+
+
+def pairs_with(passing, depth, least, p, units):
+    """The pairs of the unit p and each of the units."""
+    whole = len(reference.digits_of(p.label)) < depth
+    all_pass = set.intersection(*(passing[cell] for cell in p.cells))
+    some_pass = set.union(*(passing[cell] for cell in p.cells))
+    for q in units:
+        all_passed = q.cells <= all_pass
+        flow = flow_answer(p, q, some_pass, all_passed, whole and least == 1)
+        yield Pair(outlet_answer(passing, p, q), flow, whole, all_passed)
+
+
+def groups_of(dirs, labels):
+    """The inside cells that share leading digits, for each of those that occur."""
+    groups = {}
+    for cell, code in enumerate(dirs):
+        digits = reference.digits_of(labels[cell])
+        for count in range(len(digits) + 1 if code != reference.OUTSIDE else 0):
+            groups.setdefault(digits[:count], set()).add(cell)
+    return list(groups.values())
+
+
+def drain_to_one(rows, cols, dirs, cells):
+    """Is there exactly one of these cells whose step does not end on another of them? Then the way of each comes to it
+    through these cells, since an accepted sheet has no circle."""
+    return sum(reference.step_end(rows, cols, dirs, cell) not in cells for cell in cells) == 1
+
+
+def chosen_splits(rng, found):
+    """Neither, and another least and split, mostly with least above 1; `found` are the areas of the mouths."""
+    least = rng.choice([1, max(2, splits.good_least(rng, found)), max(2, splits.good_least(rng, found))])
+    return splits.NEITHER, (least, splits.good_split(rng))
+
+
+def asked_of(sheet, dirs, lent, passing, equal):
+    """The questions about one sheet at a depth; `equal` says that it has equal areas of unequal counts."""
+    rows, cols, depth, least, split = sheet
+    n = rows * cols
+    labelled = reference.label(*sheet, dirs, lent, n, n, reference.WORK * n)
+    units, groups = units_of(rows, cols, dirs, labelled[3]), groups_of(dirs, labelled[3])
+    pairs = [pair for p in units for pair in pairs_with(passing, depth, least, p, units)]
+    outlet_answers, flow_answers = [pair.outlet for pair in pairs], [pair.flow for pair in pairs]
+    drained = all(drain_to_one(rows, cols, dirs, cells) for cells in groups)
+    if not drained or None in outlet_answers or None in flow_answers:
+        raise AssertionError('the water does otherwise: %s' % [sheet, list(dirs), lent, labelled[3]])
+    counts = {**sheet_counts(sheet, dirs, lent, labelled, units), EQUAL: equal, **pair_counts(depth, pairs),
+              SHARED: sum(len({labelled[3][cell] for cell in cells}) > 1 for cells in groups)}
+    labels = [unit.label for unit in units]
+    return Questions(sheet, dirs, lent, labelled, labels, outlet_answers, flow_answers, counts)
+
+
 def questions(rng, count):
-    """Questions about so many sheets, at each of the depths."""
+    """Questions about so many sheets, at each of the depths, with least 1 and split 4 and with others."""
     for rows, cols, dirs, lent in sheets(rng, count):
-        n = rows * cols
-        passing = passing_cells(rows, cols, dirs)
+        n, passing = rows * cols, passing_cells(rows, cols, dirs)
+        areas = reference.label(rows, cols, 1, *splits.NEITHER, dirs, lent, n, n, reference.WORK * n)[2]
+        equal, found = weights.effects(rows, cols, dirs, areas)[0], splits.mouth_areas_by(rows, cols, dirs, areas)
         for depth in DEPTHS:
-            sheet = rows, cols, depth
-            labelled = reference.label(*sheet, dirs, lent, n, n, reference.WORK * n)
-            units = units_of(rows, cols, dirs, labelled[3])
-            pairs = [(p, q) for p in units for q in units]
-            answers = [answer_of(passing, p, q) for p, q in pairs]
-            assert None not in answers, 'cells of one unit pass an outlet and others do not: %s' % [sheet, list(dirs), lent, labelled[3]]
-            counts = {**sheet_counts(sheet, dirs, lent, labelled[2], units),
-                      **pair_counts(depth, passing, pairs, answers)}
-            yield Questions(sheet, dirs, lent, labelled, [unit.label for unit in units], answers, counts)
+            for least, split in chosen_splits(rng, found):
+                yield asked_of((rows, cols, depth, least, split), dirs, lent, passing, equal)
 
 
 # What is counted.
 
-def sheet_counts(sheet, dirs, lent, areas, units):
-    rows, cols, depth = sheet
-    equal = weights.effects(rows, cols, dirs, areas)[0]
-    return {AT_DEPTH % depth: 1, 'weighted': len(set(lent)) > 1, 'equal areas of unequal counts': equal,
-            'one unit': len(units) == 1, 'units of several cells': sum(len(unit.cells) > 1 for unit in units)}
+def sheet_counts(sheet, dirs, lent, labelled, units):
+    rows, cols, depth, least, split = sheet
+    by_least, by_split = splits.changes(sheet, dirs, lent, labelled[3])
+    return {AT_DEPTH % depth: 1, 'weighted': len(set(lent)) > 1, 'one unit': len(units) == 1,
+            'units of several cells': sum(len(unit.cells) > 1 for unit in units),
+            'least above 1': least > 1, 'split below 4': split < 4, 'other labels than with least 1': by_least,
+            'other labels than with split 4': by_split}
 
 
-def pair_counts(depth, passing, pairs, answers):
-    passed = [pair for pair, answer in zip(pairs, answers) if answer == YES]
-    counts = {'pairs No': answers.count(NO), 'pairs Yes': len(passed), 'pairs Same': answers.count(SAME)}
-    undecided = [reference.flow(depth, p.label, q.label) == 'Undecided' for p, q in passed]
-    counts['pairs Yes for Undecided'] = sum(undecided)
-    if any(not q.cells <= passing[cell] for p, q in passed for cell in p.cells):
+def pair_counts(depth, pairs):
+    undecided = [pair for pair in pairs if pair.flow == UNDECIDED]
+    outlet_answers = [pair.outlet for pair in pairs]
+    counts = {'pairs No': outlet_answers.count(NO), 'pairs Yes': outlet_answers.count(YES),
+              'pairs Same': outlet_answers.count(SAME), 'pairs Yes for Undecided': len(undecided),
+              WHOLE_YES: sum(pair.flow == YES for pair in pairs),
+              WHOLE_ALL: sum(pair.whole and pair.all_passed for pair in undecided),
+              WHOLE_SOME: sum(pair.whole and not pair.all_passed for pair in undecided)}
+    if not all(pair.all_passed for pair in undecided):
         counts[OUTLET_ALONE % depth] = 1
     return counts

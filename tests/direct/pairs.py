@@ -1,8 +1,9 @@
-"""Makes the calls of tests/direct/cases.py that ask the flow question about many pairs: a depth, the labels of P and of
-Q and a number of places for the answers, good and bad; tells of which kinds they are."""
+"""Makes the calls of tests/direct/cases.py that ask the flow question about many pairs: a depth, least, the labels of P
+and of Q and a number of places for the answers, good and bad; tells of which kinds they are."""
 from collections import Counter
 from typing import NamedTuple
 
+import flows
 import lookups
 import reference
 
@@ -24,21 +25,25 @@ EDGES = [0, 1, 2, 3, 9, 10, 11, 12, 13, 19, 20, 21, 22, 91, 92, 93, 99, 100, 101
 REFUSED_PAIRS = ['pairs refused by 11 for ' + name for name in ('p', 'q', 'both')]
 BEGUN = ['pairs refused by 12 where p begins q', 'pairs refused by 12 where q begins p']
 PAIR_KINDS = ['pairs ' + answer for answer in reference.ANSWERS] + REFUSED_PAIRS + BEGUN
-AT_DEPTH = 'depth %d'
+AT_DEPTH, AT_LEAST = 'depth %d', 'least %d'
 ROOM_KINDS = ['as many places as pairs', 'one place more', 'many places more', 'as many places as the longer slice',
               'fewer places than the longer slice', 'one place too few', 'several places too few', 'no place']
 LENGTH_KINDS = ['nothing lent', 'P alone empty', 'Q alone empty', 'as many of P as of Q', 'one more of P',
                 'many more of P', 'one more of Q', 'many more of Q', 'numbers past the last pair that are no labels']
 PLACE_KINDS = ['first pair refused', 'pair between refused', 'last pair refused', 'only the first pair refused',
                'only the last pair refused', 'all pairs refused', 'no pair refused']
-KINDS = (['accepted', 'refused by 2', 'refused by 3', '2 before 3', 'refused by 2 with nothing lent']
-         + [AT_DEPTH % depth for depth in DEPTHS + BAD_DEPTHS] + ROOM_KINDS + LENGTH_KINDS + PLACE_KINDS
+REFUSED_KINDS = ['refused by 2', 'refused by 19', 'refused by 3', '2 before 19', '2 before 3', '19 before 3',
+                 'refused by 2 with nothing lent', 'refused by 19 with nothing lent', '3 with least above 1']
+LEAST_KINDS = ['another answer with least 1', 'refused pairs with least above 1', 'Same or No with least above 1']
+KINDS = (['accepted'] + REFUSED_KINDS + LEAST_KINDS + [AT_DEPTH % depth for depth in DEPTHS + BAD_DEPTHS]
+         + [AT_LEAST % least for least in flows.LEASTS] + ROOM_KINDS + LENGTH_KINDS + PLACE_KINDS
          + ['one label as Q', 'more than 65535 pairs with one label as Q', 'one label as P',
             'another answer with P and Q exchanged'] + PAIR_KINDS)
 
 
 class Call(NamedTuple):
     depth: int
+    least: int
     p: list
     q: list
     room: int  # places for answers
@@ -54,7 +59,7 @@ def pair_kind(depth, p, q, answer):
     """The kind of a refused pair."""
     if answer == 128 + 12:
         return BEGUN[reference.digits_of(p).startswith(reference.digits_of(q))]
-    bad = [reference.flow(depth, label, label) == ('Refused', 11) for label in (p, q)]
+    bad = [reference.flow(depth, 1, label, label) == ('Refused', 11) for label in (p, q)]
     return REFUSED_PAIRS[2 if all(bad) else bad.index(True)]
 
 
@@ -80,10 +85,18 @@ def label_kinds(call, answers):
     """Of an accepted call with pairs."""
     count = len(answers)
     one_p, one_q = (count > 1 and len(set(labels[:count])) == 1 for labels in (call.p, call.q))
-    exchanged = any(reference.answer_number(reference.flow(call.depth, q, p)) != answer
+    exchanged = any(reference.answer_number(reference.flow(call.depth, call.least, q, p)) != answer
                     for p, q, answer in zip(call.p, call.q, answers))
     return {'one label as Q': one_q, 'more than 65535 pairs with one label as Q': one_q and count > 65535,
             'one label as P': one_p, 'another answer with P and Q exchanged': exchanged}
+
+
+def least_kinds(call, answers):
+    """Of an accepted call with least above 1."""
+    without = reference.flow_pairs(call.depth, 1, *call[2:])[1]
+    return {'another answer with least 1': without != answers,
+            'refused pairs with least above 1': any(map(is_refused, answers)),
+            'Same or No with least above 1': any(answer in (0, 2) for answer in answers)}
 
 
 def length_kinds(call):
@@ -97,7 +110,7 @@ def length_kinds(call):
 
 
 def room_kinds(call, number):
-    """Of a call at a good depth."""
+    """Of a call at a good depth with a good least."""
     count, longer = sorted([len(call.p), len(call.q)])
     more = call.room - count
     if number == 3:
@@ -113,13 +126,19 @@ def counts(call, number, answers):
     found = {'refused by %d' % number if number else 'accepted': True}
     if call.depth in DEPTHS + BAD_DEPTHS:
         found[AT_DEPTH % call.depth] = True
-    if number == 2:
-        found['2 before 3'] = call.room < count
-        found['refused by 2 with nothing lent'] = len(call.p) == len(call.q) == call.room == 0
+    if call.least in flows.LEASTS and number != 2:
+        found[AT_LEAST % call.least] = True
+    if number in (2, 19):
+        found['%d before 3' % number] = call.room < count
+        found['refused by %d with nothing lent' % number] = len(call.p) == len(call.q) == call.room == 0
+        found['2 before 19'] = number == 2 and not reference.is_least(call.least)
     else:
         found.update(room_kinds(call, number))
+        found['3 with least above 1'] = number == 3 and call.least > 1
     if number == 0:
         found.update(length_kinds(call))
+    if number == 0 and call.least > 1:
+        found.update(least_kinds(call, answers))
     if number == 0 and count > 0:
         found.update(**place_kinds(answers), **label_kinds(call, answers), **pair_counts(call, answers))
     return found
@@ -186,7 +205,7 @@ def pair_with(rng, depth, wanted):
     """A pair whose answer is as wanted: `wanted` is a test of the answer and the pair."""
     while True:
         p, q = pair(rng, depth, 0.5)
-        if wanted(reference.flow(depth, p, q), p, q):
+        if wanted(reference.flow(depth, 1, p, q), p, q):
             return p, q
 
 
@@ -231,14 +250,21 @@ def rooms(rng, count, longer):
     return sorted(room for room in wanted if room >= 0)
 
 
+def any_least(rng):
+    """Mostly 1, and mostly good."""
+    return rng.choice(3 * [1] + 2 * flows.GOOD_LEASTS + [rng.choice(flows.BAD_LEASTS)])
+
+
 def small(rng):
-    """Every number of up to three labels of P and of Q and up to four places, at every depth."""
+    """Every number of up to three labels of P and of Q and up to four places, at every depth, with least 1 and another;
+    at depth 3 with every least."""
     for depth in DEPTHS + BAD_DEPTHS:
         for p_count in range(4):
             for q_count in range(4):
                 for room in range(5):
                     p, q = parted([pair(rng, good_depth(depth), 0.2) for _ in range(4)])
-                    yield Call(depth, p[:p_count], q[:q_count], room)
+                    for least in flows.LEASTS if depth == 3 else [1, rng.choice(flows.LEASTS)]:
+                        yield Call(depth, least, p[:p_count], q[:q_count], room)
 
 
 def lengths(rng):
@@ -248,7 +274,7 @@ def lengths(rng):
             for room in rooms(rng, count, count + p_more + q_more):
                 depth = rng.choice(DEPTHS + [rng.choice(BAD_DEPTHS)])
                 p, q = some_pairs(rng, good_depth(depth), count)
-                yield Call(depth, p + past(rng, p_more), q + past(rng, q_more), room)
+                yield Call(depth, any_least(rng), p + past(rng, p_more), q + past(rng, q_more), room)
 
 
 def refused_places(rng):
@@ -260,14 +286,15 @@ def refused_places(rng):
                 depth = rng.choice(DEPTHS[1:])
                 p, q = parted([refused_pair(rng, depth, kind) if place in places else good_pair(rng, depth)
                                for place in range(count)])
-                yield Call(depth, p, q, count + rng.choice([0, 1, MANY]))
+                yield Call(depth, rng.choice(flows.GOOD_LEASTS), p, q, count + rng.choice([0, 1, MANY]))
 
 
 def edges():
-    """Every two of some numbers, at every depth."""
+    """Every two of some numbers, at every depth with least 1, and at the good ones with another least."""
     p, q = parted([(p, q) for p in EDGES for q in EDGES])
     for depth in DEPTHS + BAD_DEPTHS:
-        yield Call(depth, p, q, len(p))
+        for least in [1, 2] if depth in DEPTHS else [1]:
+            yield Call(depth, least, p, q, len(p))
 
 
 def gauges(rng):
@@ -275,7 +302,7 @@ def gauges(rng):
     depth, spill = 6, digits(rng, 5)
     labels = [no_label(rng, depth, spill) if rng.random() < 0.05 else lookups.number_of(near(rng, depth, spill))
               for _ in range(GAUGES)]
-    yield Call(depth, labels, [int(spill)] * GAUGES, GAUGES + 1)
+    yield Call(depth, 1, labels, [int(spill)] * GAUGES, GAUGES + 1)
 
 
 def of_sheets(rng, indexes):
@@ -284,8 +311,9 @@ def of_sheets(rng, indexes):
         longest = max(len(reference.digits_of(label)) for label in labels)
         depth = rng.choice([good_depth(longest), good_depth(longest + 1), 18])
         count = len(labels)
-        yield Call(depth, labels, [rng.choice(labels)] * count, count)
-        yield Call(depth, labels, rng.choices(labels, k=count), count + rng.randint(0, 1))
+        least = rng.choice(flows.GOOD_LEASTS)
+        yield Call(depth, 1, labels, [rng.choice(labels)] * count, count)
+        yield Call(depth, least, labels, rng.choices(labels, k=count), count + rng.randint(0, 1))
 
 
 def by_chance(rng, count):
@@ -295,7 +323,8 @@ def by_chance(rng, count):
         depth = rng.choice(DEPTHS + [rng.randint(1, 18)])
         p, q = some_pairs(rng, depth, pairs)
         p_more, q_more = rng.choice([(0, 0), (0, 0), (rng.randint(1, MANY), 0), (0, rng.randint(1, MANY))])
-        yield Call(depth, p + past(rng, p_more), q + past(rng, q_more), pairs + rng.choice([0, 0, 1, p_more + q_more]))
+        room = pairs + rng.choice([0, 0, 1, p_more + q_more])
+        yield Call(depth, any_least(rng), p + past(rng, p_more), q + past(rng, q_more), room)
         count -= pairs
 
 

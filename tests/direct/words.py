@@ -41,9 +41,8 @@ def kinds(word, answer):
 
 def sheet_kinds(sheet, dirs, labelled):
     """The kinds that the directions of a sheet belong to, once labelling has given `labelled`."""
-    rows, cols, depth = sheet
     number, place = labelled[:2]
-    n = rows * cols
+    n = sheet[0] * sheet[1]
     past = any(byte not in CODES for byte in dirs[n:])
     if number == 4:
         rest = n - n % BYTES

@@ -1,5 +1,5 @@
-// The tests of checks 1, 2, 17 and 4 to 7: sizes, depth, weights, and the first cell in reading order that a check
-// looks for.
+// The tests of checks 1, 2, 19, 17 and 4 to 7: sizes, depth, least and split, weights, and the first cell in reading
+// order that a check looks for.
 pub mod codes;
 
 use sheet::Found;
@@ -8,7 +8,8 @@ ghost use Prim.Native.Nat.{_+_, _*_, _≤_};
 ghost use lib.ListN.{length};
 ghost use Rattle.sheet.specs.Sheet.{grid, first};
 ghost use Rattle.directions.specs.Sizes.{OnSheet, Sized};
-ghost use Rattle.sheet.specs.Refusal.{within, sizesFit, depthFits, weightFits, weightsFit};
+ghost use Rattle.sheet.specs.Refusal.{within, sizesFit, depthFits, leastFits, splitFits, leastAndSplitFit};
+ghost use Rattle.sheet.specs.Refusal.{sheetFault, weightFits, weightsFit};
 ghost use Rattle.checks.specs.Search.{isTarget};
 
 // What a search in reading order looks for: an inside cell, an inside cell that a search upstream did not reach, an
@@ -95,6 +96,49 @@ pub fn depth_fits(depth: usize) -> bool
     ensures { λ r. ⌜ r ≡ depthFits depth ⌝ }
 {
     is_within(18, depth)
+}
+
+// Least: 1 to 65,536,000.
+pub fn least_fits(least: usize) -> bool
+    ensures { λ r. ⌜ r ≡ leastFits least ⌝ }
+{
+    is_within(65536000, least)
+}
+
+// Split: 1 to 4.
+fn split_fits(split: usize) -> bool
+    ensures { λ r. ⌜ r ≡ splitFits split ⌝ }
+{
+    is_within(4, split)
+}
+
+// Least and split, for 19.
+fn least_and_split_fit(least: usize, split: usize) -> bool
+    ensures { λ r. ⌜ r ≡ leastAndSplitFit least split ⌝ }
+{
+    if least_fits(least) {
+        return split_fits(split);
+    }
+    false
+}
+
+// The refusal of a sheet by 1, 2, 19, in this order, or 0.
+pub fn sheet_fault(rows: usize, cols: usize, depth: usize, least: usize, split: usize) -> u8
+    ensures { λ r. ⌜ r ≡ sheetFault rows cols depth least split ⌝ }
+{
+    let sizes_ok = sizes_fit(rows, cols);
+    let depth_ok = depth_fits(depth);
+    let least_and_split_ok = least_and_split_fit(least, split);
+    if sizes_ok {
+        if depth_ok {
+            if least_and_split_ok {
+                return 0;
+            }
+            return 19;
+        }
+        return 2;
+    }
+    1
 }
 
 // A weight: 1 to 1000.

@@ -12,7 +12,7 @@ use Rattle.sheet.specs.Water.{Passes, DrainsTo, here, there, onward, wayEnd}
 use Rattle.sheet.specs.Unit.{finished}
 use Rattle.sheet.specs.River.{heavier, donors, Run, river, Network}
 use Rattle.claims.specs.Basin.{Ends, Forest, Basin, ends-here, ends-after}
-use Rattle.claims.specs.Demand.{Shares, OneOutlet, DemandThree, OutletRule}
+use Rattle.claims.specs.Demand.{Shares, OneOutlet, AllCounted, DemandThree, OutletRule}
 use Rattle.claims.specs.Parting.{PartAt, RuleAt}
 use Rattle.claims.specs.Runs.{MouthOf, Headed}
 use Rattle.claims.specs.Lawful.{Lawful}
@@ -107,24 +107,8 @@ module _ {N : Network} {inside : ℕ → Type 0} {outlet : ℕ} (B : Basin N ins
         elim (named-rule depth p q i j) [ inl e ↦ absurd (part-differs at e) | inr r ↦ rw same (both-ways (r .1) at) ];
   }
 
-  -- demand 3, where every mouth counts
-  pub demand-three-holds : ((v : ℕ) → inside v → N .counted v ≡ true) → (depth : ℕ)
-      → DemandThree (N .next) inside depth (digitsIn N outlet depth) (digitsIn N outlet depth)
-  demand-three-holds all depth = record {
-    labels-part = λ p q i j d. elim (named-rule depth p q i j) [ inl e ↦ absurd (d e) | inr r ↦ parted-at (r .0) ];
-    cell-rule = λ p q i j short k at.
-        elim (cell-rule O outlet depth p q (drain p i) (drain q j) no-mouth)
-        [ inl e ↦ absurd (part-differs at e) | inr r ↦ both-ways (r .1 short) at ];
-    one-outlet = units-drain depth;
-  }
-    where
-      no-mouth : (R : Run) → Headed (N .next) (heavier N) R → finished N R ≡ true → (v : ℕ) → MouthOf R v → ⊥
-      no-mouth R w e v m =
-          let g = mouth-goes w m in
-          true≢false (sym (all v (B .forest .from-inside v (g .0) (g .1))) ∙ finished-none N R e v m)
-
   -- at any depth: water that passes p meets the rule, so a rule that is not met is a sure No
-  pub passes-rule : (depth p q : ℕ) → inside p → inside q → (k : ℕ)
+  passes-rule : (depth p q : ℕ) → inside p → inside q → (k : ℕ)
       → PartAt (digitsIn N outlet depth p) (digitsIn N outlet depth q) k
       → Passes (N .next) q p → RuleAt (digitsIn N outlet depth p) (digitsIn N outlet depth q) k
   passes-rule depth p q i j k at h =
@@ -132,3 +116,21 @@ module _ {N : Network} {inside : ℕ → Type 0} {outlet : ℕ} (B : Basin N ins
       let w = o .drains p (record { is-inside = i; begins = begins-all (digitsIn N outlet depth p) }) in
       (outlet-rule-holds depth .rule p q i j (unitOutlet N depth (river N outlet) p) o k at) .0
       (pass-trans h (drains-passes w))
+
+  -- demand 3; the cell rule where least is 1, which makes every mouth count
+  pub demand-three-holds : (least : ℕ) → (AllCounted least → (v : ℕ) → inside v → N .counted v ≡ true) → (depth : ℕ)
+      → DemandThree (N .next) inside depth least (digitsIn N outlet depth) (digitsIn N outlet depth)
+  demand-three-holds least all depth = record {
+    labels-part = λ p q i j d. elim (named-rule depth p q i j) [ inl e ↦ absurd (d e) | inr r ↦ parted-at (r .0) ];
+    passed-meets = passes-rule depth;
+    cell-rule = λ one p q i j short k at.
+        elim (cell-rule O outlet depth p q (drain p i) (drain q j) (no-mouth (all one)))
+        [ inl e ↦ absurd (part-differs at e) | inr r ↦ both-ways (r .1 short) at ];
+    one-outlet = units-drain depth;
+  }
+    where
+      no-mouth : ((v : ℕ) → inside v → N .counted v ≡ true) → (R : Run) → Headed (N .next) (heavier N) R
+          → finished N R ≡ true → (v : ℕ) → MouthOf R v → ⊥
+      no-mouth counts R w e v m =
+          let g = mouth-goes w m in
+          true≢false (sym (counts v (B .forest .from-inside v (g .0) (g .1))) ∙ finished-none N R e v m)

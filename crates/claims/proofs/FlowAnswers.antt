@@ -5,17 +5,20 @@ use mathlib.Core.List.{List}
 use mathlib.Core.Logic.{_≢_}
 use Prim.Native.Nat.{ℕ, _+_, _<_}
 use native.Mathlib.Omega.{arith}
-use lib.Dec.{eqb}
+use lib.Dec.{eqb, ltb}
 use lib.ListN.{length}
-use borrow.Author.Tests.{ne-eqb, ltb-true}
+use borrow.Author.Tests.{ne-eqb, ltb-true, eqb-true}
 use Rattle.sheet.specs.declared.Flow.{Flow}
+use Rattle.sheet.specs.declared.Flow.the-variants.{Refused}
 use Rattle.sheet.specs.declared.OutletFlow.{OutletFlow}
 use Rattle.sheet.specs.declared.OutletFlow.the-variants.{Same as OutletSame, Yes as OutletYes, No as OutletNo}
 use Rattle.sheet.specs.declared.OutletFlow.the-variants.{Refused as OutletRefused}
 use Rattle.sheet.specs.Label.{digitsOf}
-use Rattle.sheet.specs.Refusal.{depthFits}
+use Rattle.sheet.specs.Refusal.{both, depthFits, leastFits}
 use Rattle.sheet.specs.Flow.{partAt, ruleAt, isLabel, answerAt, answerUnequal, outletFlow}
-use Rattle.sheet.specs.Flow.{isWhole, cellAnswer, flow, answerNumber, outletAnswerNumber}
+use Rattle.sheet.specs.Flow.{stemAlone, cellAnswer, flow, answerNumber, outletAnswerNumber}
+use Rattle.sheet.proofs.Within.{both-true}
+use Rattle.claims.specs.Demand.{AllCounted}
 use Rattle.claims.specs.Flow.{AnswersAgree, QuestionsAgree}
 use Rattle.claims.specs.Parting.{PartAt, RuleAt}
 use Rattle.claims.proofs.FlowTests.{part-found, rule-true, rule-test}
@@ -43,13 +46,31 @@ pub good-labels : (depth p q : ℕ) → depthFits depth ≡ true → isLabel dep
 unfolding outletFlow
 good-labels depth p q d e f = rw (d, e, f)
 
--- a label that is whole has fewer digits than the depth
-pub whole-short : (depth p : ℕ) → isWhole depth p ≡ true → length (digitsOf p) < depth
-unfolding isWhole
-whole-short depth p e = ltb-true (length (digitsOf p)) depth e
+-- stem cells alone: least is 1, and there are fewer digits than the depth
+pub alone-means : (depth least digits : ℕ) → stemAlone depth least digits ≡ true → AllCounted least × (digits < depth)
+unfolding stemAlone
+alone-means depth least digits e =
+    let b = both-true (eqb least 1) (ltb digits depth) e in
+    (omega (arith, eqb-true least 1 (b .0)), ltb-true digits depth (b .1))
 
-answers-agree : (whole : Bool) (o : OutletFlow) → AnswersAgree (cellAnswer whole o) o
-answers-agree whole OutletSame = record {
+-- the flow question, from the outlet question, where least fits
+pub from-outlet-flow : (depth least p q : ℕ) → leastFits least ≡ true
+    → flow depth least p q ≡ cellAnswer (stemAlone depth least (length (digitsOf p))) (outletFlow depth p q)
+unfolding flow outletFlow
+from-outlet-flow depth least p q fits =
+    let judged : OutletFlow =
+    cond (both (isLabel depth p) (isLabel depth q)) (cond (eqb p q) OutletSame (answerUnequal p q))
+    (OutletRefused 11) in
+    rw fits (go (depthFits depth) (stemAlone depth least (length (digitsOf p))) judged)
+  where
+    go : (d alone : Bool) (judged : OutletFlow)
+        → cond d (cellAnswer alone (cond d judged (OutletRefused 2))) (Refused 2)
+        ≡ cellAnswer alone (cond d judged (OutletRefused 2))
+    go true alone judged = refl
+    go false alone judged = refl
+
+answers-agree : (alone : Bool) (o : OutletFlow) → AnswersAgree (cellAnswer alone o) o
+answers-agree alone OutletSame = record {
   yes = λ e. differ answerNumber e (omega arith);
   undecided = λ e. differ answerNumber e (omega arith);
   no = (λ e. differ answerNumber e (omega arith), λ e. differ outletAnswerNumber e (omega arith));
@@ -76,7 +97,7 @@ answers-agree false OutletYes = record {
   numbers = refl;
   never-undecided = omega arith;
 }
-answers-agree whole OutletNo = record {
+answers-agree alone OutletNo = record {
   yes = λ e. differ answerNumber e (omega arith);
   undecided = λ e. differ answerNumber e (omega arith);
   no = (λ e. refl, λ e. refl);
@@ -85,7 +106,7 @@ answers-agree whole OutletNo = record {
   numbers = refl;
   never-undecided = omega arith;
 }
-answers-agree whole (OutletRefused number) = record {
+answers-agree alone (OutletRefused number) = record {
   yes = λ e. differ answerNumber e (omega arith);
   undecided = λ e. differ answerNumber e (omega arith);
   no = (λ e. differ answerNumber e (omega arith), λ e. differ outletAnswerNumber e (omega arith));
@@ -96,5 +117,6 @@ answers-agree whole (OutletRefused number) = record {
 }
 
 pub questions-agree : QuestionsAgree
-unfolding flow
-questions-agree depth p q = answers-agree (isWhole depth p) (outletFlow depth p q)
+questions-agree depth least p q fits =
+    rw (from-outlet-flow depth least p q fits) (answers-agree (stemAlone depth least (length (digitsOf p)))
+    (outletFlow depth p q))

@@ -6,6 +6,7 @@ use mathlib.Core.Logic.{_≢_, _↔_}
 use Prim.Native.Nat.{ℕ}
 use native.Mathlib.Omega.{arith}
 use lib.Dec.{eqb}
+use lib.ListN.{length}
 use borrow.Author.Tests.{eqb-true, eqb-false}
 use Rattle.sheet.specs.declared.Outcome.the-variants.{Accepted}
 use Rattle.sheet.specs.declared.Flow.the-variants.{Yes, Undecided}
@@ -14,20 +15,19 @@ use Rattle.sheet.specs.declared.OutletFlow.the-variants.{Same as OutletSame, Ye
 use Rattle.sheet.specs.declared.OutletFlow.the-variants.{Refused as OutletRefused}
 use Rattle.sheet.specs.Sheet.{Sheet, next}
 use Rattle.sheet.specs.Water.{Passes}
-use Rattle.sheet.specs.River.{network}
 use Rattle.sheet.specs.Label.{digitsOf, labelAt}
 use Rattle.sheet.specs.Refusal.{outcome, lentAfter, Lent}
-use Rattle.sheet.specs.Flow.{answerUnequal, isWhole, cellAnswer, flow, answerNumber, outletAnswerNumber}
+use Rattle.sheet.specs.Flow.{answerUnequal, stemAlone, cellAnswer, answerNumber, outletAnswerNumber}
+use Rattle.sheet.proofs.Within.{least-fits}
 use Rattle.claims.specs.Demand.{OneOutlet, Inside, digitsAt}
 use Rattle.claims.specs.Flow.{asked, FlowMeaning, outletAsked, OutletFlowMeaning}
 use Rattle.claims.specs.Parting.{PartAt, RuleAt, MeetsRule}
 use Rattle.claims.proofs.Parting.{part-differs}
 use Rattle.claims.proofs.Units.{drains-passes, begins-all}
-use Rattle.claims.proofs.Basins.{passes-rule}
-use Rattle.claims.proofs.Written.{checks, the-basin, digits-from-outlet, is-label}
+use Rattle.claims.proofs.Written.{checks, is-label}
 use Rattle.claims.proofs.Theorems.{demand-three, outlet-rule}
 use Rattle.claims.proofs.FlowAnswers.{differ, Answered, answered-yes, answered-no, answer-at, good-labels}
-use Rattle.claims.proofs.FlowAnswers.{whole-short}
+use Rattle.claims.proofs.FlowAnswers.{alone-means, from-outlet-flow}
 
 -- the labels of cells p and q, and the answer to the outlet question that they get
 data Judged (labels : List ℕ) (p q : ℕ) : OutletFlow → Type 0 where
@@ -89,30 +89,24 @@ module _ (S : Sheet) (L : Lent) (accepted : outcome S L ≡ Accepted) where
             (eqb-false (labelAt labels p) (labelAt labels q) e) in
             judged-parted (t .0) (t .1) (answer-at (digitsAt labels p) (digitsAt labels q) (t .0) (t .1))
 
-    -- water that passes p meets the rule, at any depth
-    met : (k : ℕ) → PartAt (digitsAt labels p) (digitsAt labels q) k → Passes (next (S .grid)) q p
-        → RuleAt (digitsAt labels p) (digitsAt labels q) k
-    unfolding network
-    met k t h =
-        let f = digits-from-outlet S L accepted in
-        rw (f p i, f q j) (passes-rule (the-basin S L accepted) (S .depth) p q i j k (rw (f p i, f q j) at t) h)
-
     by-answer : (a : OutletFlow) → Judged labels p q a
-        → asked S labels p q ≡ cellAnswer (isWhole (S .depth) (labelAt labels p)) a → FlowMeaning S labels p q
+        → asked S labels p q ≡ cellAnswer (stemAlone (S .depth) (S .least) (length (digitsAt labels p))) a
+        → FlowMeaning S labels p q
     by-answer a (judged-same e) f = record {
       yes = λ g. differ answerNumber (sym f ∙ g) (omega arith);
       no = λ g. differ answerNumber (sym f ∙ g) (omega arith);
       same = λ g. e;
       never-refused = λ n g. differ answerNumber (sym f ∙ g) (omega arith);
     }
-    by-answer a (judged-parted k t (answered-yes r)) f = go (isWhole (S .depth) (labelAt labels p)) refl f
+    by-answer a (judged-parted k t (answered-yes r)) f =
+        go (stemAlone (S .depth) (S .least) (length (digitsAt labels p))) refl f
       where
-        go : (whole : Bool) → isWhole (S .depth) (labelAt labels p) ≡ whole
-            → asked S labels p q ≡ cond whole Yes Undecided → FlowMeaning S labels p q
+        go : (alone : Bool) → stemAlone (S .depth) (S .least) (length (digitsAt labels p)) ≡ alone
+            → asked S labels p q ≡ cond alone Yes Undecided → FlowMeaning S labels p q
         go true e g = record {
           yes = λ h.
-              let short = whole-short (S .depth) (labelAt labels p) e in
-              (demand-three S L accepted .cell-rule p q i j short k t) .1 r;
+              let a = alone-means (S .depth) (S .least) (length (digitsAt labels p)) e in
+              (demand-three S L accepted .cell-rule (a .0) p q i j (a .1) k t) .1 r;
           no = λ h. differ answerNumber (sym g ∙ h) (omega arith);
           same = λ h. differ answerNumber (sym g ∙ h) (omega arith);
           never-refused = λ n h. differ answerNumber (sym g ∙ h) (omega arith);
@@ -125,14 +119,15 @@ module _ (S : Sheet) (L : Lent) (accepted : outcome S L ≡ Accepted) where
         }
     by-answer a (judged-parted k t (answered-no n)) f = record {
       yes = λ g. differ answerNumber (sym f ∙ g) (omega arith);
-      no = λ g h. n (met k t h);
+      no = λ g h. n (demand-three S L accepted .passed-meets p q i j k t h);
       same = λ g. differ answerNumber (sym f ∙ g) (omega arith);
       never-refused = λ m g. differ answerNumber (sym f ∙ g) (omega arith);
     }
 
     pub flow-meaning : FlowMeaning S labels p q
-    unfolding flow
-    flow-meaning = by-answer _ judged refl
+    flow-meaning =
+        let fits = least-fits (S .least) (S .split) (checks S L accepted .least-and-split) in
+        by-answer _ judged (from-outlet-flow (S .depth) (S .least) (labelAt labels p) (labelAt labels q) fits)
 
   -- ---- the outlet question
 

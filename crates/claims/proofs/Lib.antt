@@ -23,3 +23,4 @@ pub mod FlowAnswers
 pub mod FlowMeaning
 pub mod Cases
 pub mod Places
+pub mod AsBefore

@@ -4,8 +4,8 @@ use mathlib.Core.Path.{_≡_, refl, sym, _∙_}
 use mathlib.Core.Bool.{Bool, true, false, cond, not, true≢false}
 use Prim.Native.Nat.{ℕ, suc, _≤_, _<_}
 use native.Mathlib.Omega.{arith}
-use lib.Dec.{ltb}
-use borrow.Author.Tests.{ltb-true, ltb-false, le-leb}
+use lib.Dec.{ltb, eqb}
+use borrow.Author.Tests.{ltb-true, ltb-false, le-leb, eqb-true}
 use Rattle.sheet.specs.declared.Found.the-variants.{At, Nothing}
 use Rattle.sheet.specs.declared.Next.{Next}
 use Rattle.sheet.specs.declared.Next.the-variants.{Outlet, To}
@@ -15,21 +15,23 @@ use Rattle.sheet.specs.declared.Outcome.the-variants.{Accepted, Refused}
 use Rattle.sheet.specs.Water.{reachesOutlet, Passes, here, there}
 use Rattle.sheet.specs.Label.{outlet}
 use Rattle.sheet.specs.River.{networkBy}
-use Rattle.sheet.specs.Refusal.{sizesFit, depthFits, slicesFit, badCode, undrained, outletFrom, firstAfter}
-use Rattle.sheet.specs.Refusal.{secondOutlet, refusedAt, refusedIfNone, weightsFit, outcomeOn, outcomeFrom17, outcome}
-use Rattle.sheet.specs.Refusal.{Lent}
+use Rattle.sheet.specs.Refusal.{sizesFit, depthFits, leastAndSplitFit, slicesFit, faultOf, badCode, undrained}
+use Rattle.sheet.specs.Refusal.{outletFrom, firstAfter, secondOutlet, refusedAt, refusedIfNone, weightsFit, outcomeOn}
+use Rattle.sheet.specs.Refusal.{outcomeFrom17, outcomeFrom3, outcome, Lent}
 use Rattle.sheet.specs.Sheet.{cells, inside, next, goesNowhere, isOutlet, first, Grid, Sheet}
 use Rattle.sheet.proofs.First.{NoneBelow, none-first, at-first, first-same, FirstAt}
 use Rattle.sheet.proofs.Cells.{inside-lt, next-goes}
+use Rattle.sheet.proofs.Within.{no-fault}
 use Rattle.claims.specs.Basin.{Forest, Basin}
 use Rattle.claims.proofs.Units.{one-outlet}
 use Rattle.claims.proofs.Heavier.{heavier-counts}
 use Rattle.claims.proofs.Fuel.{reaches-ends, ends-at}
 
--- checks 1 to 3, 17 and 4 to 7, passed
+-- checks 1, 2, 19, 3, 17 and 4 to 7, passed
 pub record Passed (S : Sheet) (L : Lent) : Type 0 where
   pub sizes : sizesFit (S .grid .rows) (S .grid .cols) ≡ true
   pub depth : depthFits (S .depth) ≡ true
+  pub least-and-split : leastAndSplitFit (S .least) (S .split) ≡ true
   pub slices : slicesFit S L ≡ true
   pub weights : weightsFit (S .grid .rows) (S .weights) ≡ true
   pub rest : outcomeOn (S .grid) ≡ Accepted
@@ -45,19 +47,35 @@ if-passed : (n : ℕ) (b : Bool) {x : Outcome} → cond b x (Refused n 0) ≡ Ac
 if-passed n true e = (refl, e)
 if-passed n false e = let z : _≡_ {A = ℕ} 0 1 = cc in absurd (omega arith)
 
+if-no-fault : (fault : ℕ) {x : Outcome} → cond (eqb fault 0) x (Refused fault 0) ≡ Accepted
+    → (fault ≡ 0) × (x ≡ Accepted)
+if-no-fault fault e = go (eqb fault 0) refl e
+  where
+    go : (b : Bool) → eqb fault 0 ≡ b → {x : Outcome} → cond b x (Refused fault 0) ≡ Accepted
+        → (fault ≡ 0) × (x ≡ Accepted)
+    go true h f = (eqb-true fault 0 h, f)
+    go false h f = let z : _≡_ {A = ℕ} 0 1 = cc in absurd (omega arith)
+
 pub accepted-from-17 : (S : Sheet) → outcomeFrom17 S ≡ Accepted
     → (weightsFit (S .grid .rows) (S .weights) ≡ true) × (outcomeOn (S .grid) ≡ Accepted)
 unfolding outcomeFrom17
 accepted-from-17 S e = if-passed 17 (weightsFit (S .grid .rows) (S .weights)) e
 
 pub accepted-passed : (S : Sheet) (L : Lent) → outcome S L ≡ Accepted → Passed S L
-unfolding outcome
+unfolding outcome outcomeFrom3
 accepted-passed S L e =
-    let a = if-passed 1 (sizesFit (S .grid .rows) (S .grid .cols)) e in
-    let b = if-passed 2 (depthFits (S .depth)) (a .1) in
-    let c = if-passed 3 (slicesFit S L) (b .1) in
+    let a = if-no-fault (faultOf S) e in
+    let p = no-fault (S .grid .rows) (S .grid .cols) (S .depth) (S .least) (S .split) (a .0) in
+    let c = if-passed 3 (slicesFit S L) (a .1) in
     let w = accepted-from-17 S (c .1) in
-    record { sizes = a .0; depth = b .0; slices = c .0; weights = w .0; rest = w .1 }
+    record {
+      sizes = p .0;
+      depth = p .1;
+      least-and-split = p .2;
+      slices = c .0;
+      weights = w .0;
+      rest = w .1;
+    }
 
 not-found : (n : ℕ) (f : Found) {rest : Outcome} → refusedAt n f rest ≡ Accepted → (f ≡ Nothing) × (rest ≡ Accepted)
 unfolding refusedAt

@@ -12,13 +12,13 @@ use Rattle.sheet.specs.declared.Outcome.the-variants.{Accepted}
 use Rattle.sheet.specs.Water.{DrainsTo}
 use Rattle.sheet.specs.Label.{number, labelAt}
 use Rattle.sheet.specs.Area.{sumOver, weight, area}
-use Rattle.sheet.specs.River.{network, least}
+use Rattle.sheet.specs.River.{network}
 use Rattle.sheet.specs.Refusal.{outcome, written, lentAfter, Lent}
 use Rattle.sheet.specs.Sheet.{cells, inside, next, Sheet}
 use Rattle.sheet.proofs.Cells.{cells-most, inside-lt, row-lt}
 use Rattle.sheet.proofs.Within.{cols-some, rows-cols-most}
 use Rattle.sheet.proofs.Weights.{cell-weight}
-use Rattle.claims.specs.Demand.{Inside, DemandThreeOf, OutletRuleOf, Shares, DemandThree, OutletRule}
+use Rattle.claims.specs.Demand.{Inside, DemandThreeOf, OutletRuleOf, Shares, AllCounted, DemandThree, OutletRule}
 use Rattle.claims.specs.Bounds.{RiversAreWhole, mostArea, AreaBounds, Unweighted, UnweightedAreas, LabelBounds}
 use Rattle.claims.proofs.Rivers.{river-whole}
 use Rattle.claims.proofs.Units.{drains-map}
@@ -52,14 +52,16 @@ module _ (next : ℕ → Next) {inside : ℕ → Type 0} {digits written : ℕ �
   }
 
   -- about labels that are equal where their digits are
-  same-demand : (depth : ℕ) {Label : Type 0} (label : ℕ → Label)
+  same-demand : (depth least : ℕ) {Label : Type 0} (label : ℕ → Label)
       → ((p q : ℕ) → inside p → inside q → digits p ≡ digits q → label p ≡ label q)
-      → DemandThree next inside depth digits digits → DemandThree next inside depth label written
-  same-demand depth label alike D = record {
+      → DemandThree next inside depth least digits digits → DemandThree next inside depth least label written
+  same-demand depth least label alike D = record {
     labels-part = λ p q i j d. rw (same p i, same q j) (D .labels-part p q i j (λ e. d (alike p q i j e)));
+    passed-meets =
+        λ p q i j k t h. rw (same p i, same q j) (D .passed-meets p q i j k (rw (same p i, same q j) at t) h);
     cell-rule =
-        λ p q i j l k t. rw (same p i, same q j)
-        (D .cell-rule p q i j (rw (same p i) at l) k (rw (same p i, same q j) at t));
+        λ one p q i j l k t. rw (same p i, same q j)
+        (D .cell-rule one p q i j (rw (same p i) at l) k (rw (same p i, same q j) at t));
     one-outlet = λ w c k.
         let o = D .one-outlet w c (from-written w c k) in
         record {
@@ -87,18 +89,18 @@ module _ (S : Sheet) (L : Lent) (accepted : outcome S L ≡ Accepted) where
   least-area : (c : ℕ) → Inside S c → 1 ≤ area S c
   least-area = area-least S (λ c i. (own-weight c (inside-lt (S .grid) c i)) .0)
 
-  -- every mouth counts
-  counts : (v : ℕ) → Inside S v → leb (least S) (area S v) ≡ true
-  unfolding least
-  counts v i = le-leb 1 (area S v) (least-area v i)
+  -- where least is 1, every mouth counts
+  pub counts : AllCounted (S .least) → (v : ℕ) → Inside S v → leb (S .least) (area S v) ≡ true
+  counts one v i = le-leb (S .least) (area S v) (omega (arith, one, least-area v i))
 
   -- demand 3, whole
   pub demand-three : DemandThreeOf S (lentAfter S L .labels)
   unfolding network
   demand-three =
-      same-demand (next (S .grid)) (digits-from-outlet S L accepted) (S .depth) (labelAt (lentAfter S L .labels))
+      same-demand (next (S .grid)) (digits-from-outlet S L accepted) (S .depth) (S .least)
+      (labelAt (lentAfter S L .labels))
       (λ p q i j e. label-from-outlet S L accepted p i ∙ ap number e ∙ sym (label-from-outlet S L accepted q j))
-      (demand-three-holds (the-basin S L accepted) counts (S .depth))
+      (demand-three-holds (the-basin S L accepted) (S .least) counts (S .depth))
 
   pub outlet-rule : OutletRuleOf S (lentAfter S L .labels)
   unfolding network

@@ -11,13 +11,13 @@ use Rattle.sheet.specs.declared.Outcome.the-variants.{Accepted}
 use Rattle.sheet.specs.Label.{number, digitsOf, label, outlet, outletOf, labelDigits, labelOf, listFrom, labelsOf}
 use Rattle.sheet.specs.Label.{labelAt, Digits}
 use Rattle.sheet.specs.Area.{area}
-use Rattle.sheet.specs.River.{network, river, least, split}
+use Rattle.sheet.specs.River.{network, river}
 use Rattle.sheet.specs.Flow.{isLabel}
 use Rattle.sheet.specs.Refusal.{outcome, written, ifAccepted, lentAfter, Lent}
 use Rattle.sheet.specs.Sheet.{cells, inside, Sheet}
 use Rattle.sheet.proofs.Lists.{written-at}
-use Rattle.sheet.proofs.Digits.{digits-number, number-fits}
-use Rattle.sheet.proofs.Within.{depth-most, digits-label}
+use Rattle.sheet.proofs.Digits.{digits-wider, digits-number, number-fits}
+use Rattle.sheet.proofs.Within.{depth-most, split-bounds, digits-label}
 use Rattle.sheet.proofs.Cells.{inside-lt}
 use Rattle.claims.specs.Demand.{Inside, digitsAt}
 use Rattle.claims.specs.Basin.{Basin}
@@ -39,15 +39,17 @@ module _ (S : Sheet) (L : Lent) (accepted : outcome S L ≡ Accepted) where
 
   pub the-basin : Basin (network S) (Inside S) (outlet (S .grid))
   unfolding network
-  the-basin = basin (S .grid) (passed-on (S .grid) (checks .rest)) (area S) (least S) (split S)
+  the-basin = basin (S .grid) (passed-on (S .grid) (checks .rest)) (area S) (S .least) (S .split)
 
   pub one-to-nine : (c : ℕ) → Inside S c → Digits 9 (labelDigits S c)
   unfolding network
   one-to-nine c i =
       let O = lawful (the-basin .forest) in
+      let few = split-bounds (S .least) (S .split) (checks .least-and-split) .1 in
       rw (own-digits S the-basin c i)
-      (label-range O (S .depth) (river (network S) (outlet (S .grid))) c (river-headed O (outlet (S .grid)))
-      (river-covers O (outlet (S .grid)) c (drain the-basin c i)))
+      (digits-wider (omega (arith, few)) (label-range O (S .depth) (river (network S) (outlet (S .grid))) c
+      (river-headed O (outlet (S .grid)))
+      (river-covers O (outlet (S .grid)) c (drain the-basin c i))))
 
   pub at-most-depth : (c : ℕ) → length (labelDigits S c) ≤ S .depth
   unfolding labelDigits

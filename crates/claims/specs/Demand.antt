@@ -1,5 +1,5 @@
--- The third demand, about any labels: where water goes, which cells are inside, the depth, each cell's label and its
--- digits.
+-- The third demand, about any labels: where water goes, which cells are inside, the depth, the least area of a mouth
+-- that is counted, each cell's label and its digits.
 use mathlib.Core.Path.{_≡_}
 use mathlib.Core.Bool.{true}
 use mathlib.Core.List.{List}
@@ -23,20 +23,27 @@ pub record OneOutlet (next : ℕ → Next) (inside : ℕ → Type 0) (digits : �
   pub drains : DrainsTo next (Shares inside digits w) cell
   pub only : (c : ℕ) → DrainsTo next (Shares inside digits w) c → c ≡ cell
 
+-- every mouth is counted: there is no area below 1
+abbrev pub AllCounted : ℕ → Type 0
+AllCounted least = least ≡ 1
+
 -- demand 3, both halves
-pub record DemandThree (next : ℕ → Next) (inside : ℕ → Type 0) (depth : ℕ) {Label : Type 0} (label : ℕ → Label)
+pub record DemandThree (next : ℕ → Next) (inside : ℕ → Type 0) (depth least : ℕ) {Label : Type 0} (label : ℕ → Label)
     (digits : ℕ → List ℕ) : Type 0 where
   -- every two different labels of inside cells part
   pub labels-part : (p q : ℕ) → inside p → inside q → label p ≢ label q → (i : ℕ) × PartAt (digits p) (digits q) i
-  -- water from q passes p exactly if, where their labels part, p's digit is smaller and p's digits from there on are
-  -- all odd; for a label of p that has fewer digits than the depth
-  pub cell-rule : (p q : ℕ) → inside p → inside q → length (digits p) < depth
+  -- water from q that passes p meets the rule: where their labels part, p's digit is smaller and p's digits from there
+  -- on are all odd
+  pub passed-meets : (p q : ℕ) → inside p → inside q → (i : ℕ) → PartAt (digits p) (digits q) i
+      → Passes next q p → RuleAt (digits p) (digits q) i
+  -- where least is 1, it passes p exactly if the rule is met; for a label of p that has fewer digits than the depth
+  pub cell-rule : AllCounted least → (p q : ℕ) → inside p → inside q → length (digits p) < depth
       → (i : ℕ) → PartAt (digits p) (digits q) i → Passes next q p ↔ RuleAt (digits p) (digits q) i
   -- the cells that share leading digits drain, through cells that share them, to exactly one of them
   pub one-outlet : (w : List ℕ) (c : ℕ) → Shares inside digits w c → OneOutlet next inside digits w
 
--- the outlet rule, from which OutletFlowMeaning (Flow.antt) is drawn: water from q passes the outlet of the unit that p's label names, exactly under the digit rule, at
--- any depth
+-- the outlet rule, from which OutletFlowMeaning (Flow.antt) is drawn: water from q passes the outlet of the unit that
+-- p's label names, exactly under the digit rule, at any depth
 pub record OutletRule (next : ℕ → Next) (inside : ℕ → Type 0) (digits : ℕ → List ℕ) : Type 0 where
   pub rule : (p q : ℕ) → inside p → inside q → (o : ℕ) → DrainsTo next (Shares inside digits (digits p)) o
       → (i : ℕ) → PartAt (digits p) (digits q) i → Passes next q o ↔ RuleAt (digits p) (digits q) i
@@ -51,7 +58,8 @@ digitsAt labels c = digitsOf (labelAt labels c)
 
 -- demand 3 and the outlet rule about a sheet and the labels that were written for it
 abbrev pub DemandThreeOf : Sheet → List ℕ → Type 0
-DemandThreeOf S labels = DemandThree (next (S .grid)) (Inside S) (S .depth) (labelAt labels) (digitsAt labels)
+DemandThreeOf S labels = DemandThree (next (S .grid)) (Inside S) (S .depth) (S .least) (labelAt labels)
+    (digitsAt labels)
 
 abbrev pub OutletRuleOf : Sheet → List ℕ → Type 0
 OutletRuleOf S labels = OutletRule (next (S .grid)) (Inside S) (digitsAt labels)

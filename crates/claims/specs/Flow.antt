@@ -1,7 +1,7 @@
 -- What the answers to the flow question and to the outlet question say of inside cells of a sheet with the labels that
 -- were written for it; and how the two questions agree.
 use mathlib.Core.Path.{_≡_}
-use mathlib.Core.Bool.{cond}
+use mathlib.Core.Bool.{true, cond}
 use mathlib.Core.List.{List}
 use mathlib.Core.Logic.{_≢_, _↔_}
 use Prim.Native.Nat.{ℕ}
@@ -14,13 +14,14 @@ use Rattle.sheet.specs.declared.OutletFlow.the-variants.{Refused as OutletRefus
 use Rattle.sheet.specs.Sheet.{Sheet, next}
 use Rattle.sheet.specs.Water.{Passes}
 use Rattle.sheet.specs.Label.{labelAt}
+use Rattle.sheet.specs.Refusal.{leastFits}
 use Rattle.sheet.specs.Flow.{outletFlow, flow, answerNumber, outletAnswerNumber}
 use Rattle.claims.specs.Demand.{OneOutlet, Inside, digitsAt}
 use Rattle.claims.specs.Parting.{MeetsRule}
 
--- does water from q pass p? asked of their labels
+-- does water from q pass p? asked of their labels, told the sheet's own least
 abbrev pub asked : Sheet → List ℕ → ℕ → ℕ → Flow
-asked S labels p q = flow (S .depth) (labelAt labels p) (labelAt labels q)
+asked S labels p q = flow (S .depth) (S .least) (labelAt labels p) (labelAt labels q)
 
 -- what the flow question says of inside cells p and q
 pub record FlowMeaning (S : Sheet) (labels : List ℕ) (p q : ℕ) : Type 0 where
@@ -67,6 +68,7 @@ pub record AnswersAgree (f : Flow) (o : OutletFlow) : Type 0 where
       (answerNumber f)
   pub never-undecided : outletAnswerNumber o ≢ answerNumber Undecided
 
--- the two questions agree, asked of any numbers
+-- the two questions agree, asked of any numbers, where least fits
 abbrev pub QuestionsAgree : Type 0
-QuestionsAgree = (depth p q : ℕ) → AnswersAgree (flow depth p q) (outletFlow depth p q)
+QuestionsAgree =
+    (depth least p q : ℕ) → leastFits least ≡ true → AnswersAgree (flow depth least p q) (outletFlow depth p q)

@@ -1,5 +1,6 @@
 pub mod Parting
 pub mod Demand
+pub mod AsBefore
 pub mod Basin
 pub mod Runs
 pub mod Lawful

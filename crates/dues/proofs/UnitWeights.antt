@@ -12,7 +12,7 @@ use lib.Seq.{take-length, ext-getD}
 use Rattle.sheet.specs.declared.Outcome.the-variants.{Accepted}
 use Rattle.sheet.specs.Sheet.{Sheet, cells, inside}
 use Rattle.sheet.specs.Area.{sumOver, drainsInto, weight, area}
-use Rattle.sheet.specs.River.{network, least, split}
+use Rattle.sheet.specs.River.{network}
 use Rattle.sheet.specs.Label.{labelAt, areasOf, outlet}
 use Rattle.sheet.specs.Refusal.{Lent, outcome, written, lentAfter}
 use Rattle.sheet.proofs.Cells.{inside-lt}
@@ -94,7 +94,7 @@ module _ (S : Sheet) (L : Lent) (accepted : outcome S L ≡ Accepted) where
   -- all water passes the outlet
   all-drain : (q : ℕ) → drainsInto (S .grid) (outlet (S .grid)) q ≡ inside (S .grid) q
   unfolding network
-  all-drain q = sym (drains-all (S .grid) (area S) (least S) (split S) (the-basin S L accepted) q)
+  all-drain q = sym (drains-all (S .grid) (area S) (S .least) (S .split) (the-basin S L accepted) q)
 
   pub outlet-area : area S (outlet (S .grid)) ≡ wholeWeight S
   unfolding area wholeWeight

@@ -12,6 +12,8 @@ pub extern "C" fn pf_levy(
     rows: usize,
     cols: usize,
     depth: usize,
+    least: usize,
+    split: usize,
     dirs: &[u8],
     weights: &[u16],
     areas: &mut [u32],
@@ -23,18 +25,19 @@ pub extern "C" fn pf_levy(
     total: u64,
     dues: &mut [u64],
 ) -> u64
-    ensures answer { λ r. ⌜ r ≡ indexedCode (levied (sheet rows cols depth (now (dirs .entry)) (now (weights .entry)))
+    ensures answer { λ r. ⌜ r ≡ indexedCode (levied
+        (sheet rows cols depth least split (now (dirs .entry)) (now (weights .entry)))
         (lent (now (areas .entry)) (now (labels .entry)) (now (work .entry)))
         (lentIndex (now (units .entry)) (now (outlets .entry)) (now (counts .entry))) total (now (dues .entry))) ⌝ }
     ensures lent { λ _. ⌜ lent (now (areas .exit)) (now (labels .exit)) (now (work .exit))
-        ≡ lentAfterLevy (sheet rows cols depth (now (dirs .entry)) (now (weights .entry)))
+        ≡ lentAfterLevy (sheet rows cols depth least split (now (dirs .entry)) (now (weights .entry)))
         (lent (now (areas .entry)) (now (labels .entry)) (now (work .entry))) total ⌝ }
     ensures index { λ _. ⌜ lentIndex (now (units .exit)) (now (outlets .exit)) (now (counts .exit))
-        ≡ indexAfterLevy (sheet rows cols depth (now (dirs .entry)) (now (weights .entry)))
+        ≡ indexAfterLevy (sheet rows cols depth least split (now (dirs .entry)) (now (weights .entry)))
         (lent (now (areas .entry)) (now (labels .entry)) (now (work .entry)))
         (lentIndex (now (units .entry)) (now (outlets .entry)) (now (counts .entry))) total (now (dues .entry)) ⌝ }
     ensures dues { λ _. ⌜ now (dues .exit)
-        ≡ duesAfter (sheet rows cols depth (now (dirs .entry)) (now (weights .entry)))
+        ≡ duesAfter (sheet rows cols depth least split (now (dirs .entry)) (now (weights .entry)))
         (lent (now (areas .entry)) (now (labels .entry)) (now (work .entry)))
         (lentIndex (now (units .entry)) (now (outlets .entry)) (now (counts .entry))) total (now (dues .entry)) ⌝ }
 {
@@ -42,6 +45,8 @@ pub extern "C" fn pf_levy(
         rows,
         cols,
         depth,
+        least,
+        split,
         dirs,
         weights,
         areas,

@@ -1,6 +1,7 @@
 // The calls for hosts in C and in languages that call C; include/pfafstetter.h declares them. Each only calls proved
 // functions.
 pub mod basin_levy;
+pub mod unit_index;
 
 use flow::pairs::PairsAnswer;
 use index::Indexed;
@@ -15,7 +16,6 @@ ghost use Rattle.sheet.specs.Flow.{flow, answerNumber, outletFlow, outletAnswer
 ghost use Rattle.flow.specs.Pairs.{pairsAnswer, pairsPlaces};
 ghost use Rattle.labelling.specs.Labelling.{sheet, lent};
 ghost use Rattle.lookup.specs.Lookup.{lookupAnswer, lookupValues};
-ghost use Rattle.index.specs.Index.{lentIndex, indexed, indexAfter};
 ghost use Rattle.exports.specs.Exports.{outcomeCode, indexedCode, CodeTells, pairsCode};
 
 // The refusal's number + 256 × its place; 0 if accepted.
@@ -35,19 +35,33 @@ pub extern "C" fn pf_label(
     rows: usize,
     cols: usize,
     depth: usize,
+    least: usize,
+    split: usize,
     dirs: &[u8],
     weights: &[u16],
     areas: &mut [u32],
     labels: &mut [u64],
     work: &mut [u32],
 ) -> u64
-    ensures outcome { λ r. ⌜ r ≡ outcomeCode (outcome (sheet rows cols depth (now (dirs .entry)) (now (weights .entry)))
+    ensures outcome { λ r. ⌜ r ≡ outcomeCode (outcome
+        (sheet rows cols depth least split (now (dirs .entry)) (now (weights .entry)))
         (lent (now (areas .entry)) (now (labels .entry)) (now (work .entry)))) ⌝ }
     ensures lent { λ _. ⌜ lent (now (areas .exit)) (now (labels .exit)) (now (work .exit))
-        ≡ lentAfter (sheet rows cols depth (now (dirs .entry)) (now (weights .entry)))
+        ≡ lentAfter (sheet rows cols depth least split (now (dirs .entry)) (now (weights .entry)))
         (lent (now (areas .entry)) (now (labels .entry)) (now (work .entry))) ⌝ }
 {
-    outcome_code(labelling::label(rows, cols, depth, dirs, weights, areas, labels, work))
+    outcome_code(labelling::label(
+        rows,
+        cols,
+        depth,
+        least,
+        split,
+        dirs,
+        weights,
+        areas,
+        labels,
+        work,
+    ))
 }
 
 // 256 × the number of units; else the refusal's number + 256 × its place.
@@ -59,47 +73,6 @@ fn indexed_code(answer: Indexed) -> u64
         Indexed::Units(units) => 256 * (units as u64),
         Indexed::Refused(number, place) => number as u64 + 256 * (place as u64),
     }
-}
-
-// Labels a sheet, and fills the index of its units.
-#[no_mangle]
-pub extern "C" fn pf_index(
-    rows: usize,
-    cols: usize,
-    depth: usize,
-    dirs: &[u8],
-    weights: &[u16],
-    areas: &mut [u32],
-    labels: &mut [u64],
-    work: &mut [u32],
-    units: &mut [u64],
-    outlets: &mut [u32],
-    counts: &mut [u32],
-) -> u64
-    ensures answer { λ r. ⌜ r ≡ indexedCode (indexed (sheet rows cols depth (now (dirs .entry)) (now (weights .entry)))
-        (lent (now (areas .entry)) (now (labels .entry)) (now (work .entry)))
-        (lentIndex (now (units .entry)) (now (outlets .entry)) (now (counts .entry)))) ⌝ }
-    ensures lent { λ _. ⌜ lent (now (areas .exit)) (now (labels .exit)) (now (work .exit))
-        ≡ lentAfter (sheet rows cols depth (now (dirs .entry)) (now (weights .entry)))
-        (lent (now (areas .entry)) (now (labels .entry)) (now (work .entry))) ⌝ }
-    ensures index { λ _. ⌜ lentIndex (now (units .exit)) (now (outlets .exit)) (now (counts .exit))
-        ≡ indexAfter (sheet rows cols depth (now (dirs .entry)) (now (weights .entry)))
-        (lent (now (areas .entry)) (now (labels .entry)) (now (work .entry)))
-        (lentIndex (now (units .entry)) (now (outlets .entry)) (now (counts .entry))) ⌝ }
-{
-    indexed_code(index::index(
-        rows,
-        cols,
-        depth,
-        dirs,
-        weights,
-        areas,
-        labels,
-        work,
-        units,
-        outlets,
-        counts,
-    ))
 }
 
 // Where the labels that begin with the leading digits start, and how many there are. The refusal's number, or 0.
@@ -130,10 +103,10 @@ pub extern "C" fn pf_lookup(
 
 // The flow question: does water from the label q pass the label p?
 #[no_mangle]
-pub extern "C" fn pf_flow(depth: usize, p: u64, q: u64) -> u32
-    ensures { λ r. ⌜ r ≡ answerNumber (flow depth p q) ⌝ }
+pub extern "C" fn pf_flow(depth: usize, least: usize, p: u64, q: u64) -> u32
+    ensures { λ r. ⌜ r ≡ answerNumber (flow depth least p q) ⌝ }
 {
-    flow::answer_number(flow::flow_of(depth, p, q))
+    flow::answer_number(flow::flow_of(depth, least, p, q))
 }
 
 // The outlet question: does water from the label q pass the outlet of the unit that the label p names?
@@ -156,13 +129,19 @@ fn pairs_code(answer: PairsAnswer) -> u64
 
 // The flow question for each pair, P's label and Q's at the same place.
 #[no_mangle]
-pub extern "C" fn pf_flow_pairs(depth: usize, p: &[u64], q: &[u64], answers: &mut [u8]) -> u64
-    ensures answer { λ r. ⌜ r ≡ pairsCode (pairsAnswer depth (length (now (p .entry))) (length (now (q .entry)))
+pub extern "C" fn pf_flow_pairs(
+    depth: usize,
+    least: usize,
+    p: &[u64],
+    q: &[u64],
+    answers: &mut [u8],
+) -> u64
+    ensures answer { λ r. ⌜ r ≡ pairsCode (pairsAnswer depth least (length (now (p .entry))) (length (now (q .entry)))
         (length (now (answers .entry)))) ⌝ }
     ensures places { λ _. ⌜ now (answers .exit)
-        ≡ pairsPlaces depth (now (p .entry)) (now (q .entry)) (now (answers .entry)) ⌝ }
+        ≡ pairsPlaces depth least (now (p .entry)) (now (q .entry)) (now (answers .entry)) ⌝ }
 {
-    pairs_code(flow::pairs::flow_pairs(depth, p, q, answers))
+    pairs_code(flow::pairs::flow_pairs(depth, least, p, q, answers))
 }
 
 // The word test: the place of the first of a word's eight directions that is none of the nine codes.

@@ -9,9 +9,9 @@ use lib.ListN.{length}
 use borrow.Author.Tests.{leb-true, ltb-true, lt-ltb, le-ltb, eqb-true, eq-eqb, ne-eqb}
 use Rattle.sheet.specs.declared.Step.{Step}
 use Rattle.sheet.specs.Direction.{steps, stepIn, stepOf, isCode, cellNumber}
-use Rattle.sheet.specs.Refusal.{both, within, sizesFit, depthFits, weightFits}
+use Rattle.sheet.specs.Refusal.{both, within, sizesFit, depthFits, leastAndSplitFit, weightFits}
 use Rattle.sheet.proofs.Cells.{cells-most, cell-lt}
-use Rattle.sheet.proofs.Within.{both-true, within-both}
+use Rattle.sheet.proofs.Within.{both-true, within-both, least-bounds, split-bounds}
 use Rattle.directions.specs.Sizes.{Sized}
 use Rattle.faults.specs.declared.Sizes.{Sizes}
 use Rattle.faults.specs.declared.Cell.{Cell}
@@ -25,7 +25,7 @@ passed false rest number some e = absurd (omega arith)
 
 -- ---- sizes
 
--- sizes within document 01's bounds, with a direction byte lent for each cell and a weight for each row
+-- sizes within the documents' bounds, with a direction byte lent for each cell and a weight for each row
 pub record Fits (z : Sizes) (dirs weights : ℕ) : Type 0 where
   pub rows-some : 1 ≤ z .rows
   pub rows-most : z .rows ≤ 256
@@ -33,6 +33,10 @@ pub record Fits (z : Sizes) (dirs weights : ℕ) : Type 0 where
   pub cols-most : z .cols ≤ 256
   pub depth-some : 1 ≤ z .depth
   pub depth-most : z .depth ≤ 18
+  pub least-some : 1 ≤ z .least
+  pub least-most : z .least ≤ 65536000
+  pub split-some : 1 ≤ z .split
+  pub split-most : z .split ≤ 4
   pub dirs-enough : cellCount z ≤ dirs
   pub weights-enough : z .rows ≤ weights
 
@@ -42,11 +46,14 @@ module _ (z : Sizes) (dirs weights : ℕ) where
   sizes-fit e =
       let one = passed (sizesFit (z .rows) (z .cols)) _ 1 (omega arith) e in
       let two = passed (depthFits (z .depth)) _ 2 (omega arith) (one .1) in
-      let three = passed (lentEnough z dirs weights) _ 3 (omega arith) (two .1) in
+      let nineteen = passed (leastAndSplitFit (z .least) (z .split)) _ 19 (omega arith) (two .1) in
+      let three = passed (lentEnough z dirs weights) _ 3 (omega arith) (nineteen .1) in
       let fit = both-true (within 256 (z .rows)) (within 256 (z .cols)) (one .0) in
       let rows = within-both 256 (z .rows) (fit .0) in
       let cols = within-both 256 (z .cols) (fit .1) in
       let depth = within-both 18 (z .depth) (two .0) in
+      let least = least-bounds (z .least) (z .split) (nineteen .0) in
+      let split = split-bounds (z .least) (z .split) (nineteen .0) in
       let lent = both-true (leb (cellCount z) dirs) (leb (z .rows) weights) (three .0) in
       record {
         rows-some = rows .0;
@@ -55,25 +62,34 @@ module _ (z : Sizes) (dirs weights : ℕ) where
         cols-most = cols .1;
         depth-some = depth .0;
         depth-most = depth .1;
+        least-some = least .0;
+        least-most = least .1;
+        split-some = split .0;
+        split-most = split .1;
         dirs-enough = leb-true (cellCount z) dirs (lent .0);
         weights-enough = leb-true (z .rows) weights (lent .1);
       }
 
   -- a row is judged after the sizes
   module _ (row : ℕ) where
+    -- the first of the four tests that fails, and else a number
+    abbrev first : Bool → Bool → Bool → Bool → ℕ → ℕ
+    first one two nineteen three rest = cond one (cond two (cond nineteen (cond three rest 3) 19) 2) 1
+
     row-fault-is : rowFault z row dirs weights
         ≡ cond (eqb (sizesFault z dirs weights) 0) (cond (ltb row (z .rows)) 0 9) (sizesFault z dirs weights)
     unfolding rowFault sizesFault
     row-fault-is =
-        go (sizesFit (z .rows) (z .cols)) (depthFits (z .depth)) (lentEnough z dirs weights)
-        (cond (ltb row (z .rows)) 0 9)
+        go (sizesFit (z .rows) (z .cols)) (depthFits (z .depth)) (leastAndSplitFit (z .least) (z .split))
+        (lentEnough z dirs weights) (cond (ltb row (z .rows)) 0 9)
       where
-        go : (one two three : Bool) (rest : ℕ) → cond one (cond two (cond three rest 3) 2) 1
-            ≡ cond (eqb (cond one (cond two (cond three 0 3) 2) 1) 0) rest (cond one (cond two (cond three 0 3) 2) 1)
-        go true true true rest = refl
-        go true true false rest = refl
-        go true false three rest = refl
-        go false two three rest = refl
+        go : (one two nineteen three : Bool) (rest : ℕ) → first one two nineteen three rest
+            ≡ cond (eqb (first one two nineteen three 0) 0) rest (first one two nineteen three 0)
+        go true true true true rest = refl
+        go true true true false rest = refl
+        go true true false three rest = refl
+        go true false nineteen three rest = refl
+        go false two nineteen three rest = refl
 
     pub row-within : sizesFault z dirs weights ≡ 0 → row < z .rows → rowFault z row dirs weights ≡ 0
     row-within e l = row-fault-is ∙ rw (eq-eqb _ 0 e, lt-ltb row (z .rows) l)

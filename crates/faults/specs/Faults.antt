@@ -6,19 +6,25 @@ use Prim.Native.Nat.{ℕ, _*_}
 use lib.Dec.{leb, ltb, eqb}
 use lib.ListN.{getD}
 use Rattle.lines.specs.declared.columns.Columns.{Columns}
-use Rattle.lines.specs.declared.columns.Column.the-variants.{Rows, Cols, Depth, Row, Col, Dir}
+use Rattle.lines.specs.declared.columns.Column.the-variants.{Rows, Cols, Depth, Least, Split, Row, Col, Dir}
 use Rattle.lines.specs.declared.values.Values.{Values}
 use Rattle.lines.specs.Columns.{sameColumn}
-use Rattle.lines.specs.Values.{valueOf}
+use Rattle.lines.specs.Values.{valueOr, valueOf}
 use Rattle.sheet.specs.Direction.{isCode, cellNumber}
-use Rattle.sheet.specs.Refusal.{both, sizesFit, depthFits, weightFits}
+use Rattle.sheet.specs.Refusal.{both, sizesFit, depthFits, leastAndSplitFit, weightFits}
 use Rattle.faults.specs.declared.Sizes.{Sizes}
 use Rattle.faults.specs.declared.Cell.{Cell}
 
--- the sizes in a line of values, by the order of its columns
+-- the sizes in a line of values, by the order of its columns; least is 1 and split is 4 where they are not named
 unfoldable pub sizesIn : Columns → Values → Sizes
-unfolding valueOf sameColumn
-sizesIn c v = record { rows = valueOf c v Rows; cols = valueOf c v Cols; depth = valueOf c v Depth }
+unfolding valueOr valueOf sameColumn
+sizesIn c v = record {
+  rows = valueOf c v Rows;
+  cols = valueOf c v Cols;
+  depth = valueOf c v Depth;
+  least = valueOr c v Least 1;
+  split = valueOr c v Split 4;
+}
 
 -- the cell in a line of values
 unfoldable pub cellIn : Columns → Values → Cell
@@ -51,11 +57,12 @@ abbrev pub sizesTests : Sizes → ℕ → ℕ → List Test
 sizesTests z dirs weights =
     test 1 (sizesFit (z .rows) (z .cols))
     ∷ test 2 (depthFits (z .depth))
+    ∷ test 19 (leastAndSplitFit (z .least) (z .split))
     ∷ test 3 (lentEnough z dirs weights)
     ∷ []
 
 unfoldable pub sizesFault : Sizes → ℕ → ℕ → ℕ
-unfolding firstFailing sizesFit depthFits lentEnough
+unfolding firstFailing sizesFit depthFits leastAndSplitFit lentEnough
 sizesFault z dirs weights = firstFailing (sizesTests z dirs weights)
 
 -- the tests of a state that waits for the weight of a row: those of its sizes, then the row
@@ -63,7 +70,7 @@ abbrev pub rowTests : Sizes → ℕ → ℕ → ℕ → List Test
 rowTests z row dirs weights = sizesTests z dirs weights ++ (test 9 (ltb row (z .rows)) ∷ [])
 
 unfoldable pub rowFault : Sizes → ℕ → ℕ → ℕ → ℕ
-unfolding firstFailing sizesFit depthFits lentEnough
+unfolding firstFailing sizesFit depthFits leastAndSplitFit lentEnough
 rowFault z row dirs weights = firstFailing (rowTests z row dirs weights)
 
 -- the test of a weight line

@@ -7,6 +7,8 @@ pub struct Sizes {
     pub rows: usize,
     pub cols: usize,
     pub depth: usize,
+    pub least: usize,
+    pub split: usize,
 }
 
 // What a cell line lists.

@@ -4,12 +4,12 @@ ghost use mathlib.Core.Bool.{true};
 ghost use Rattle.sheet.specs.Refusal.{sizesFit};
 ghost use Rattle.faults.specs.Faults.{sizesIn, lentEnough, sizesFault, rowFault};
 use super::Sizes;
-use checks::depth_fits;
-use checks::sizes_fit;
+use checks::sheet_fault;
 use lines::columns::Column;
 use lines::columns::Columns;
 use lines::values::Values;
 use lines::values::value_of;
+use lines::values::value_or;
 
 // A direction byte for each cell and a weight for each row.
 fn lent_enough(sizes: Sizes, dirs: usize, weights: usize) -> bool
@@ -22,24 +22,27 @@ fn lent_enough(sizes: Sizes, dirs: usize, weights: usize) -> bool
     false
 }
 
-// The refusal of sizes by 1, 2, 3, or 0, where so many direction bytes and so many weights are lent.
+// The refusal of sizes by 1, 2, 19, 3, or 0, where so many direction bytes and so many weights are lent.
 pub fn sizes_fault(sizes: Sizes, dirs: usize, weights: usize) -> u8
     ensures { λ r. ⌜ r ≡ sizesFault sizes dirs weights ⌝ }
 {
-    let sizes_ok = sizes_fit(sizes.rows, sizes.cols);
-    let depth_ok = depth_fits(sizes.depth);
-    if sizes_ok {
-        if depth_ok {
-            if lent_enough(sizes, dirs, weights) {
-                return 0;
-            }
-            return 3;
+    let fault = sheet_fault(
+        sizes.rows,
+        sizes.cols,
+        sizes.depth,
+        sizes.least,
+        sizes.split,
+    );
+    if fault == 0 {
+        if lent_enough(sizes, dirs, weights) {
+            return 0;
         }
-        return 2;
+        return 3;
     }
-    1
+    fault
 }
 
+// The sizes that a line lists: least is 1 and split is 4 where they are not named.
 pub fn sizes_in(columns: Columns, values: Values) -> Sizes
     ensures { λ r. ⌜ r ≡ sizesIn columns values ⌝ }
 {
@@ -47,6 +50,8 @@ pub fn sizes_in(columns: Columns, values: Values) -> Sizes
         rows: value_of(columns, values, Column::Rows) as usize,
         cols: value_of(columns, values, Column::Cols) as usize,
         depth: value_of(columns, values, Column::Depth) as usize,
+        least: value_or(columns, values, Column::Least, 1) as usize,
+        split: value_or(columns, values, Column::Split, 4) as usize,
     }
 }
 

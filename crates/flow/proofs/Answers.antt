@@ -6,6 +6,7 @@ use Prim.Native.Nat.{ℕ, _+_, _-_, _<_}
 use native.Mathlib.Omega.{arith}
 use borrow.Author.Tests.{ne-eqb}
 use lib.Dec.{eqb}
+use lib.ListN.{length}
 use Rattle.sheet.specs.declared.Found.{Found}
 use Rattle.sheet.specs.declared.Found.the-variants.{At, Nothing}
 use Rattle.sheet.specs.declared.Flow.{Flow}
@@ -14,8 +15,9 @@ use Rattle.sheet.specs.declared.OutletFlow.{OutletFlow}
 use Rattle.sheet.specs.declared.OutletFlow.the-variants.{Same as OutletSame, Yes as OutletYes, No as OutletNo}
 use Rattle.sheet.specs.declared.OutletFlow.the-variants.{Refused as OutletRefused}
 use Rattle.sheet.specs.Label.{digitsOf}
-use Rattle.sheet.specs.Refusal.{both, depthFits}
-use Rattle.sheet.specs.Flow.{ruleAt, isLabel, partAt, answerAt, answerUnequal, outletFlow, isWhole, cellAnswer, flow}
+use Rattle.sheet.specs.Refusal.{both, depthFits, leastFits}
+use Rattle.sheet.specs.Flow.{ruleAt, isLabel, partAt, answerAt, answerUnequal, outletFlow, stemAlone}
+use Rattle.sheet.specs.Flow.{cellAnswer, flow}
 use Rattle.sheet.specs.Flow.{answerNumber, outletAnswerNumber}
 use Rattle.flow.specs.OutletAnswer.{outletAnswer}
 
@@ -48,17 +50,23 @@ answer-of (Refused number) =
 pub answer-number-apart : (a b : Flow) → answerNumber a ≡ answerNumber b → a ≡ b
 answer-number-apart a b e = sym (answer-of a) ∙ ap answerOf e ∙ answer-of b
 
-outlet-of-cell : (whole : Bool) (a : OutletFlow) → outletAnswer (cellAnswer whole a) ≡ a
-outlet-of-cell whole OutletSame = refl
+outlet-of-cell : (alone : Bool) (a : OutletFlow) → outletAnswer (cellAnswer alone a) ≡ a
+outlet-of-cell alone OutletSame = refl
 outlet-of-cell true OutletYes = refl
 outlet-of-cell false OutletYes = refl
-outlet-of-cell whole OutletNo = refl
-outlet-of-cell whole (OutletRefused number) = refl
+outlet-of-cell alone OutletNo = refl
+outlet-of-cell alone (OutletRefused number) = refl
 
--- the outlet question's answer, from the flow question's
-pub outlet-from-flow : (depth p q : ℕ) → outletAnswer (flow depth p q) ≡ outletFlow depth p q
-unfolding flow
-outlet-from-flow depth p q = outlet-of-cell (isWhole depth p) (outletFlow depth p q)
+-- the outlet question's answer, from the flow question's where least is 1
+pub outlet-from-flow : (depth p q : ℕ) → outletAnswer (flow depth 1 p q) ≡ outletFlow depth p q
+unfolding flow outletFlow
+outlet-from-flow depth p q = go (depthFits depth) (stemAlone depth 1 (length (digitsOf p))) _
+  where
+    go : (fits alone : Bool) (judged : OutletFlow)
+        → outletAnswer (cond fits (cellAnswer alone (cond fits judged (OutletRefused 2))) (Refused 2))
+        ≡ cond fits judged (OutletRefused 2)
+    go true alone judged = outlet-of-cell alone judged
+    go false alone judged = refl
 
 pub outlet-answer-number-apart : (a b : OutletFlow) → outletAnswerNumber a ≡ outletAnswerNumber b → a ≡ b
 outlet-answer-number-apart a b e =
@@ -91,16 +99,24 @@ outlet-flow-byte depth p q =
     (omega arith))
     (omega arith)
 
-cell-byte : (whole : Bool) (a : OutletFlow) → fitsByte a → answerNumber (cellAnswer whole a) < 256
-cell-byte whole OutletSame h = omega arith
+cell-byte : (alone : Bool) (a : OutletFlow) → fitsByte a → answerNumber (cellAnswer alone a) < 256
+cell-byte alone OutletSame h = omega arith
 cell-byte true OutletYes h = omega arith
 cell-byte false OutletYes h = omega arith
-cell-byte whole OutletNo h = omega arith
-cell-byte whole (OutletRefused number) h = h
+cell-byte alone OutletNo h = omega arith
+cell-byte alone (OutletRefused number) h = h
 
-pub flow-byte : (depth p q : ℕ) → answerNumber (flow depth p q) < 256
+pub flow-byte : (depth least p q : ℕ) → answerNumber (flow depth least p q) < 256
 unfolding flow
-flow-byte depth p q = cell-byte (isWhole depth p) (outletFlow depth p q) (outlet-flow-byte depth p q)
+flow-byte depth least p q =
+    go (depthFits depth) (leastFits least) _
+    (cell-byte (stemAlone depth least (length (digitsOf p))) (outletFlow depth p q) (outlet-flow-byte depth p q))
+  where
+    go : (d l : Bool) (answer : Flow) → answerNumber answer < 256
+        → answerNumber (cond d (cond l answer (Refused 19)) (Refused 2)) < 256
+    go true true answer h = h
+    go true false answer h = omega arith
+    go false l answer h = omega arith
 
-pub number-byte : (depth p q number : ℕ) → number ≡ answerNumber (flow depth p q) → number < 256
-number-byte depth p q number e = omega (arith, flow-byte depth p q)
+pub number-byte : (depth least p q number : ℕ) → number ≡ answerNumber (flow depth least p q) → number < 256
+number-byte depth least p q number e = omega (arith, flow-byte depth least p q)

@@ -5,39 +5,44 @@ use mathlib.Core.Logic.{_≢_}
 use mathlib.Core.List.{List}
 use Prim.Native.Nat.{ℕ}
 use borrow.Author.Tests.{eq-eqb, ne-eqb}
-use lib.Dec.{ltb}
 use lib.ListN.{length}
 use Rattle.sheet.specs.declared.Flow.{Flow}
 use Rattle.sheet.specs.declared.Flow.the-variants.{Same, Refused}
 use Rattle.sheet.specs.declared.OutletFlow.{OutletFlow}
 use Rattle.sheet.specs.Label.{digitsOf}
-use Rattle.sheet.specs.Refusal.{depthFits}
-use Rattle.sheet.specs.Flow.{partAt, isLabel, answerAt, answerUnequal, outletFlow, isWhole, cellAnswer, flow}
+use Rattle.sheet.specs.Refusal.{depthFits, leastFits}
+use Rattle.sheet.specs.Flow.{partAt, isLabel, answerAt, answerUnequal, outletFlow, stemAlone}
+use Rattle.sheet.specs.Flow.{cellAnswer, flow}
 
-module _ (depth p q : ℕ) where
-  pub refused-2 : depthFits depth ≡ false → Refused 2 ≡ flow depth p q
+module _ (depth least p q : ℕ) where
+  pub refused-2 : depthFits depth ≡ false → Refused 2 ≡ flow depth least p q
   unfolding flow outletFlow
   refused-2 e = rw e
 
-  module _ (fits : depthFits depth ≡ true) where
-    pub p-refused : isLabel depth p ≡ false → Refused 11 ≡ flow depth p q
+  pub refused-19 : depthFits depth ≡ true → leastFits least ≡ false → Refused 19 ≡ flow depth least p q
+  unfolding flow outletFlow
+  refused-19 d e = rw (d, e)
+
+  module _ (fits : (depthFits depth ≡ true) × (leastFits least ≡ true)) where
+    pub p-refused : isLabel depth p ≡ false → Refused 11 ≡ flow depth least p q
     unfolding flow outletFlow
-    p-refused e = rw (fits, e)
+    p-refused e = rw (fits .0, fits .1, e)
 
     module _ (p-label : isLabel depth p ≡ true) where
-      pub q-refused : isLabel depth q ≡ false → Refused 11 ≡ flow depth p q
+      pub q-refused : isLabel depth q ≡ false → Refused 11 ≡ flow depth least p q
       unfolding flow outletFlow
-      q-refused e = rw (fits, p-label, e)
+      q-refused e = rw (fits .0, fits .1, p-label, e)
 
       module _ (q-label : isLabel depth q ≡ true) where
-        pub same : p ≡ q → Same ≡ flow depth p q
+        pub same : p ≡ q → Same ≡ flow depth least p q
         unfolding flow outletFlow
-        same e = rw (fits, p-label, q-label, eq-eqb p q e)
+        same e = rw (fits .0, fits .1, p-label, q-label, eq-eqb p q e)
 
         -- by the digits x of p and y of q
         pub unequal : p ≢ q → (x y : List ℕ) → x ≡ digitsOf p → y ≡ digitsOf q → (outlet : OutletFlow)
-            → outlet ≡ answerAt x y (partAt x y) → (answer : Flow) → answer ≡ cellAnswer (ltb (length x) depth) outlet
-            → answer ≡ flow depth p q
-        unfolding flow outletFlow answerUnequal isWhole
+            → outlet ≡ answerAt x y (partAt x y) → (answer : Flow) → answer ≡ cellAnswer
+            (stemAlone depth least (length x)) outlet
+            → answer ≡ flow depth least p q
+        unfolding flow outletFlow answerUnequal
         unequal e x y is-p is-q outlet f answer g =
-            rw (fits, p-label, q-label, ne-eqb p q e) (g ∙ rw (f, is-p, is-q))
+            rw (fits .0, fits .1, p-label, q-label, ne-eqb p q e) (g ∙ rw (f, is-p, is-q))

@@ -10,7 +10,7 @@ use borrow.Author.Tests.{le-leb, lt-leb, leb-true, leb-false}
 use lib.Dec.{leb, leb·suc-suc}
 use lib.ListN.{length, getD, drop, set, length-set, drop-of-length-le}
 use lib.Seq.{drop-cons, sets}
-use Rattle.sheet.specs.Refusal.{depthFits, written}
+use Rattle.sheet.specs.Refusal.{depthFits, leastFits, written}
 use Rattle.sheet.specs.Flow.{flow, answerNumber}
 use Rattle.sheet.proofs.Lists.{written-whole}
 use Rattle.flow.specs.declared.pairs.PairsAnswer.{PairsAnswer}
@@ -43,23 +43,25 @@ count-suc m n = rw leb·suc-suc (go (leb m n))
     go false = refl
 
 -- one number for each pair
-pub numbers-count : (depth : ℕ) (x y : List ℕ) → length (pairNumbers depth x y) ≡ pairCount (length x) (length y)
+pub numbers-count : (depth least : ℕ) (x y : List ℕ) → length (pairNumbers depth least x y) ≡ pairCount (length x)
+    (length y)
 unfolding pairNumbers pairCount
-numbers-count depth [] y = rw (le-leb 0 (length y) (omega arith))
-numbers-count depth (p ∷ x) [] = rw (lt-leb (suc (length x)) 0 (omega arith))
-numbers-count depth (p ∷ x) (q ∷ y) = ap suc (numbers-count depth x y) ∙ count-suc (length x) (length y)
+numbers-count depth least [] y = rw (le-leb 0 (length y) (omega arith))
+numbers-count depth least (p ∷ x) [] = rw (lt-leb (suc (length x)) 0 (omega arith))
+numbers-count depth least (p ∷ x) (q ∷ y) = ap suc (numbers-count depth least x y) ∙ count-suc (length x) (length y)
 
 -- ---- the numbers by place
 
-none-of-q : (depth : ℕ) (x : List ℕ) → pairNumbers depth x [] ≡ []
+none-of-q : (depth least : ℕ) (x : List ℕ) → pairNumbers depth least x [] ≡ []
 unfolding pairNumbers
-none-of-q depth [] = refl
-none-of-q depth (p ∷ x) = refl
+none-of-q depth least [] = refl
+none-of-q depth least (p ∷ x) = refl
 
-module _ (depth : ℕ) (x y : List ℕ) (i : ℕ) where
+module _ (depth least : ℕ) (x y : List ℕ) (i : ℕ) where
   numbers-here : i < pairCount (length x) (length y)
-      → pairNumbers depth (drop i x) (drop i y)
-      ≡ answerNumber (flow depth (getD x i 0) (getD y i 0)) ∷ pairNumbers depth (drop (suc i) x) (drop (suc i) y)
+      → pairNumbers depth least (drop i x) (drop i y)
+      ≡ answerNumber (flow depth least (getD x i 0) (getD y i 0)) ∷ pairNumbers depth least (drop (suc i) x)
+      (drop (suc i) y)
   unfolding pairNumbers
   numbers-here h =
       rw (
@@ -67,72 +69,79 @@ module _ (depth : ℕ) (x y : List ℕ) (i : ℕ) where
         drop-cons y i 0 (omega (arith, count-q (length x) (length y))),
       )
 
-  numbers-end : pairCount (length x) (length y) ≤ i → pairNumbers depth (drop i x) (drop i y) ≡ []
+  numbers-end : pairCount (length x) (length y) ≤ i → pairNumbers depth least (drop i x) (drop i y) ≡ []
   unfolding pairNumbers pairCount
   numbers-end h = go (leb (length x) (length y)) h
     where
-      go : (b : Bool) → cond b (length x) (length y) ≤ i → pairNumbers depth (drop i x) (drop i y) ≡ []
+      go : (b : Bool) → cond b (length x) (length y) ≤ i → pairNumbers depth least (drop i x) (drop i y) ≡ []
       go true g = rw (drop-of-length-le x g)
-      go false g = rw (drop-of-length-le y g) (none-of-q depth (drop i x))
+      go false g = rw (drop-of-length-le y g) (none-of-q depth least (drop i x))
 
 -- the number at a place is that of the flow question's answer for the labels at that place
-pub number-at : (depth : ℕ) (x y : List ℕ) (i : ℕ) → i < pairCount (length x) (length y)
-    → getD (pairNumbers depth x y) i 0 ≡ answerNumber (flow depth (getD x i 0) (getD y i 0))
+pub number-at : (depth least : ℕ) (x y : List ℕ) (i : ℕ) → i < pairCount (length x) (length y)
+    → getD (pairNumbers depth least x y) i 0 ≡ answerNumber (flow depth least (getD x i 0) (getD y i 0))
 unfolding pairNumbers pairCount
-number-at depth [] y i h = absurd (omega (arith, count-p 0 (length y)))
-number-at depth (p ∷ x) [] i h = absurd (omega (arith, count-q (suc (length x)) 0))
-number-at depth (p ∷ x) (q ∷ y) zero h = refl
-number-at depth (p ∷ x) (q ∷ y) (suc i) h =
-    number-at depth x y i (omega (arith, count-suc (length x) (length y)))
+number-at depth least [] y i h = absurd (omega (arith, count-p 0 (length y)))
+number-at depth least (p ∷ x) [] i h = absurd (omega (arith, count-q (suc (length x)) 0))
+number-at depth least (p ∷ x) (q ∷ y) zero h = refl
+number-at depth least (p ∷ x) (q ∷ y) (suc i) h =
+    number-at depth least x y i (omega (arith, count-suc (length x) (length y)))
 
 -- ---- written one by one
 
 -- the numbers before place i are written; `before` was lent, and `answers` is what the slice holds
-pub record Answering (depth : ℕ) (x y before answers : List ℕ) (i : ℕ) : Type 0 where
-  pub to-do : sets answers i (pairNumbers depth (drop i x) (drop i y)) ≡ written (pairNumbers depth x y) before
+pub record Answering (depth least : ℕ) (x y before answers : List ℕ) (i : ℕ) : Type 0 where
+  pub to-do : sets answers i (pairNumbers depth least (drop i x) (drop i y)) ≡ written
+      (pairNumbers depth least x y) before
   pub same-length : length answers ≡ length before
 
-module _ (depth : ℕ) (x y before : List ℕ) where
-  pub answering-starts : pairCount (length x) (length y) ≤ length before → Answering depth x y before before 0
+module _ (depth least : ℕ) (x y before : List ℕ) where
+  pub answering-starts : pairCount (length x) (length y) ≤ length before → Answering depth least x y before before 0
   answering-starts h = record {
-    to-do = written-whole (pairNumbers depth x y) before (omega (arith, numbers-count depth x y));
+    to-do = written-whole (pairNumbers depth least x y) before (omega (arith, numbers-count depth least x y));
     same-length = refl;
   }
 
-  module _ {answers : List ℕ} {i : ℕ} (a : Answering depth x y before answers i) where
+  module _ {answers : List ℕ} {i : ℕ} (a : Answering depth least x y before answers i) where
     pub answering-goes-on : (number : ℕ) → i < pairCount (length x) (length y)
-        → number ≡ answerNumber (flow depth (getD x i 0) (getD y i 0))
-        → Answering depth x y before (set answers i number) (i + 1)
+        → number ≡ answerNumber (flow depth least (getD x i 0) (getD y i 0))
+        → Answering depth least x y before (set answers i number) (i + 1)
     answering-goes-on number h e = record {
-      to-do = rw (add-one i, e) (rw (numbers-here depth x y i h) at (a .to-do));
+      to-do = rw (add-one i, e) (rw (numbers-here depth least x y i h) at (a .to-do));
       same-length = length-set answers i number ∙ a .same-length;
     }
 
-    pub answering-ends : pairCount (length x) (length y) ≤ i → answers ≡ written (pairNumbers depth x y) before
-    answering-ends h = rw (numbers-end depth x y i h) at (a .to-do)
+    pub answering-ends : pairCount (length x) (length y) ≤ i → answers ≡ written (pairNumbers depth least x y) before
+    answering-ends h = rw (numbers-end depth least x y i h) at (a .to-do)
 
 -- ---- the answer of the call
 
-module _ (depth m n places : ℕ) where
-  pub depth-refused : depthFits depth ≡ false → Refused 2 ≡ pairsAnswer depth m n places
+module _ (depth least m n places : ℕ) where
+  pub depth-refused : depthFits depth ≡ false → Refused 2 ≡ pairsAnswer depth least m n places
   unfolding pairsAnswer
   depth-refused e = rw e
 
-  module _ (fits : depthFits depth ≡ true) (count : ℕ) (counted : count ≡ pairCount m n) where
-    pub short-refused : places < count → Refused 3 ≡ pairsAnswer depth m n places
-    unfolding pairsAnswer
-    short-refused h = rw (fits, lt-leb (pairCount m n) places (omega arith))
+  pub least-refused : depthFits depth ≡ true → leastFits least ≡ false → Refused 19 ≡ pairsAnswer depth least m n places
+  unfolding pairsAnswer
+  least-refused d e = rw (d, e)
 
-    pub all-answered : count ≤ places → Pairs count ≡ pairsAnswer depth m n places
+  module _ (fits : (depthFits depth ≡ true) × (leastFits least ≡ true)) (count : ℕ)
+      (counted : count ≡ pairCount m n) where
+    pub short-refused : places < count → Refused 3 ≡ pairsAnswer depth least m n places
     unfolding pairsAnswer
-    all-answered h = rw (fits, le-leb (pairCount m n) places (omega arith)) (ap Pairs counted)
+    short-refused h = rw (fits .0, fits .1, lt-leb (pairCount m n) places (omega arith))
+
+    pub all-answered : count ≤ places → Pairs count ≡ pairsAnswer depth least m n places
+    unfolding pairsAnswer
+    all-answered h = rw (fits .0, fits .1, le-leb (pairCount m n) places (omega arith)) (ap Pairs counted)
 
 -- the answer, its values, and the answers afterwards
-pub promised : (depth : ℕ) (x y before after : List ℕ) (a : PairsAnswer)
-    → a ≡ pairsAnswer depth (length x) (length y) (length before) → after ≡ ifAnswered a (pairNumbers depth x y) before
-    → (a ≡ pairsAnswer depth (length x) (length y) (length before)) ×
-    ((pairsValues a ≡ pairsValues (pairsAnswer depth (length x) (length y) (length before))) ×
-    (after ≡ pairsPlaces depth x y before))
+pub promised : (depth least : ℕ) (x y before after : List ℕ) (a : PairsAnswer)
+    → a ≡ pairsAnswer depth least (length x) (length y) (length before) → after ≡ ifAnswered a
+    (pairNumbers depth least x y) before
+    → (a ≡ pairsAnswer depth least (length x) (length y) (length before)) ×
+    ((pairsValues a ≡ pairsValues (pairsAnswer depth least (length x) (length y) (length before))) ×
+    (after ≡ pairsPlaces depth least x y before))
 unfolding pairsPlaces
-promised depth x y before after a e f =
-    (e, (ap pairsValues e, f ∙ ap (λ (b : PairsAnswer). ifAnswered b (pairNumbers depth x y) before) e))
+promised depth least x y before after a e f =
+    (e, (ap pairsValues e, f ∙ ap (λ (b : PairsAnswer). ifAnswered b (pairNumbers depth least x y) before) e))

@@ -1,32 +1,32 @@
--- Document 02's call for many pairs: the flow question for P's label and Q's at each place of two slices.
+-- Document 02's call for many pairs: the flow question for P's label and Q's at each place of two slices, told least.
 use mathlib.Core.Bool.{cond}
 use mathlib.Core.List.{List, [], _∷_}
 use Prim.Native.Nat.{ℕ}
 use lib.Dec.{leb}
 use lib.ListN.{length}
-use Rattle.sheet.specs.Refusal.{depthFits, written}
+use Rattle.sheet.specs.Refusal.{depthFits, leastFits, written}
 use Rattle.sheet.specs.Flow.{flow, answerNumber}
 use Rattle.flow.specs.declared.pairs.PairsAnswer.{PairsAnswer}
 use Rattle.flow.specs.declared.pairs.PairsAnswer.the-variants.{Pairs, Refused}
 
 -- the number of the flow question's answer for each pair, the labels of P and Q at the same place
-unfoldable pub pairNumbers : ℕ → List ℕ → List ℕ → List ℕ
+unfoldable pub pairNumbers : ℕ → ℕ → List ℕ → List ℕ → List ℕ
 unfolding flow
-pairNumbers depth [] y = []
-pairNumbers depth (p ∷ x) [] = []
-pairNumbers depth (p ∷ x) (q ∷ y) = answerNumber (flow depth p q) ∷ pairNumbers depth x y
+pairNumbers depth least [] y = []
+pairNumbers depth least (p ∷ x) [] = []
+pairNumbers depth least (p ∷ x) (q ∷ y) = answerNumber (flow depth least p q) ∷ pairNumbers depth least x y
 
 -- how many pairs there are: as many as the shorter slice has places, where P's has m and Q's has n
 unfoldable pub pairCount : ℕ → ℕ → ℕ
 pairCount m n = cond (leb m n) m n
 
--- the answer where P's slice has m places, Q's has n and the answers have so many: 2, 3, in this order
-unfoldable pub pairsAnswer : ℕ → ℕ → ℕ → ℕ → PairsAnswer
-unfolding depthFits pairCount
-pairsAnswer depth m n places =
+-- the answer where P's slice has m places, Q's has n and the answers have so many: 2, 19, 3, in this order
+unfoldable pub pairsAnswer : ℕ → ℕ → ℕ → ℕ → ℕ → PairsAnswer
+unfolding depthFits leastFits pairCount
+pairsAnswer depth least m n places =
     let count : ℕ = pairCount m n in
     let room : PairsAnswer = cond (leb count places) (Pairs count) (Refused 3) in
-    cond (depthFits depth) room (Refused 2)
+    cond (depthFits depth) (cond (leastFits least) room (Refused 19)) (Refused 2)
 
 -- refused, no place is written; else the first places hold the numbers and the others keep their values
 abbrev pub ifAnswered : PairsAnswer → List ℕ → List ℕ → List ℕ
@@ -34,10 +34,10 @@ ifAnswered (Pairs count) numbers answers = written numbers answers
 ifAnswered (Refused number) numbers answers = answers
 
 -- the lent answers afterwards
-unfoldable pub pairsPlaces : ℕ → List ℕ → List ℕ → List ℕ → List ℕ
+unfoldable pub pairsPlaces : ℕ → ℕ → List ℕ → List ℕ → List ℕ → List ℕ
 unfolding pairsAnswer pairNumbers
-pairsPlaces depth x y answers =
-    ifAnswered (pairsAnswer depth (length x) (length y) (length answers)) (pairNumbers depth x y) answers
+pairsPlaces depth least x y answers =
+    ifAnswered (pairsAnswer depth least (length x) (length y) (length answers)) (pairNumbers depth least x y) answers
 
 -- the refusal's number, or 0, and the count of pairs, or 0
 pub record PairsValues : Type 0 where

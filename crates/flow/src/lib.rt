@@ -3,6 +3,7 @@
 pub mod pairs;
 
 use checks::depth_fits;
+use checks::least_fits;
 use digits::put_label;
 use sheet::Flow;
 use sheet::Found;
@@ -12,9 +13,9 @@ ghost use mathlib.Core.Bool.{true};
 ghost use Prim.Native.Nat.{_<_};
 ghost use lib.ListN.{length, drop};
 ghost use Rattle.sheet.specs.Label.{digitsOf};
-ghost use Rattle.sheet.specs.Refusal.{depthFits};
+ghost use Rattle.sheet.specs.Refusal.{depthFits, leastFits};
 ghost use Rattle.sheet.specs.Flow.{partAt, every, isOdd, ruleAt, isLabel, answerAt, cellAnswer, flow, outletFlow};
-ghost use Rattle.sheet.specs.Flow.{answerNumber, outletAnswerNumber};
+ghost use Rattle.sheet.specs.Flow.{stemAlone, answerNumber, outletAnswerNumber};
 ghost use Rattle.flow.specs.OutletAnswer.{outletAnswer};
 
 // The first place where both have a digit and the digits differ.
@@ -76,25 +77,35 @@ fn answer_at(p: &[u8], q: &[u8]) -> OutletFlow
     }
 }
 
-// The answer to the flow question from that to the outlet question; `whole` tells that p has fewer digits than the
-// depth.
-fn cell_answer(whole: bool, answer: OutletFlow) -> Flow
-    ensures { λ r. ⌜ r ≡ cellAnswer whole answer ⌝ }
+// The unit of a label with so many digits is known to be stem cells alone: every mouth is counted, and no tributary was
+// cut.
+fn is_stem_alone(depth: usize, least: usize, digits: usize) -> bool
+    ensures { λ r. ⌜ r ≡ stemAlone depth least digits ⌝ }
+{
+    if least == 1 {
+        return digits < depth;
+    }
+    false
+}
+
+// The answer to the flow question from that to the outlet question; `alone` tells that p's unit is stem cells alone.
+fn cell_answer(alone: bool, answer: OutletFlow) -> Flow
+    ensures { λ r. ⌜ r ≡ cellAnswer alone answer ⌝ }
 {
     match answer {
         OutletFlow::Same => Flow::Same,
-        OutletFlow::Yes => { if whole { Flow::Yes } else { Flow::Undecided } }
+        OutletFlow::Yes => { if alone { Flow::Yes } else { Flow::Undecided } }
         OutletFlow::No => Flow::No,
         OutletFlow::Refused(number) => Flow::Refused(number),
     }
 }
 
 // The answer to the flow question where p is a label and its digits are at hand: 11 for q, Same, 12, then the rule.
-fn answer_by_digits(depth: usize, p: u64, digits: &[u8], q: u64) -> Flow
-    requires { ⌜ depthFits depth ≡ true ⌝ }
+fn answer_by_digits(depth: usize, least: usize, p: u64, digits: &[u8], q: u64) -> Flow
+    requires { ⌜ (depthFits depth ≡ true) × (leastFits least ≡ true) ⌝ }
     requires { ⌜ isLabel depth p ≡ true ⌝ }
     requires { ⌜ now digits ≡ digitsOf p ⌝ }
-    ensures { λ r. ⌜ r ≡ flow depth p q ⌝ }
+    ensures { λ r. ⌜ r ≡ flow depth least p q ⌝ }
 {
     let mut places = [0u8; 18];
     match put_label(depth, q, &mut places) {
@@ -103,31 +114,35 @@ fn answer_by_digits(depth: usize, p: u64, digits: &[u8], q: u64) -> Flow
             if p == q {
                 return Flow::Same;
             }
-            cell_answer(digits.len() < depth, answer_at(digits, &places[start..]))
+            let alone = is_stem_alone(depth, least, digits.len());
+            cell_answer(alone, answer_at(digits, &places[start..]))
         }
     }
 }
 
-// The answer to the flow question at a depth from 1 to 18: 11, Same, 12, then the rule.
-fn answer_fitting(depth: usize, p: u64, q: u64) -> Flow
-    requires { ⌜ depthFits depth ≡ true ⌝ }
-    ensures { λ r. ⌜ r ≡ flow depth p q ⌝ }
+// The answer to the flow question where depth and least fit: 11, Same, 12, then the rule.
+fn answer_fitting(depth: usize, least: usize, p: u64, q: u64) -> Flow
+    requires { ⌜ (depthFits depth ≡ true) × (leastFits least ≡ true) ⌝ }
+    ensures { λ r. ⌜ r ≡ flow depth least p q ⌝ }
 {
     let mut places = [0u8; 18];
     match put_label(depth, p, &mut places) {
         Found::Nothing => Flow::Refused(11),
-        Found::At(start) => answer_by_digits(depth, p, &places[start..], q),
+        Found::At(start) => answer_by_digits(depth, least, p, &places[start..], q),
     }
 }
 
-// The flow question: does water from the label q pass the label p? 2, 11, Same, 12, then the rule; Undecided where it
-// is met and p has as many digits as the depth.
-pub fn flow_of(depth: usize, p: u64, q: u64) -> Flow
-    ensures answer { λ r. ⌜ r ≡ flow depth p q ⌝ }
-    ensures number { λ r. ⌜ answerNumber r ≡ answerNumber (flow depth p q) ⌝ }
+// The flow question: does water from the label q pass the label p? 2, 19, 11, Same, 12, then the rule; Undecided where
+// it is met and least is above 1 or p has as many digits as the depth.
+pub fn flow_of(depth: usize, least: usize, p: u64, q: u64) -> Flow
+    ensures answer { λ r. ⌜ r ≡ flow depth least p q ⌝ }
+    ensures number { λ r. ⌜ answerNumber r ≡ answerNumber (flow depth least p q) ⌝ }
 {
     if depth_fits(depth) {
-        return answer_fitting(depth, p, q);
+        if least_fits(least) {
+            return answer_fitting(depth, least, p, q);
+        }
+        return Flow::Refused(19);
     }
     Flow::Refused(2)
 }
@@ -151,7 +166,7 @@ pub fn outlet_flow_of(depth: usize, p: u64, q: u64) -> OutletFlow
     ensures answer { λ r. ⌜ r ≡ outletFlow depth p q ⌝ }
     ensures number { λ r. ⌜ outletAnswerNumber r ≡ outletAnswerNumber (outletFlow depth p q) ⌝ }
 {
-    outlet_answer(flow_of(depth, p, q))
+    outlet_answer(flow_of(depth, 1, p, q))
 }
 
 // The number of an answer: 0 No, 1 Yes, 2 Same, 3 Undecided, 128 + the refusal's number. A refusal may carry any byte,

@@ -2,11 +2,12 @@
 use crate::answer_fitting;
 use crate::answer_number;
 use checks::depth_fits;
+use checks::least_fits;
 ghost use mathlib.Core.Path.{_≡_};
 ghost use mathlib.Core.Bool.{true};
 ghost use Prim.Native.Nat.{_≤_};
 ghost use lib.ListN.{length};
-ghost use Rattle.sheet.specs.Refusal.{depthFits, written};
+ghost use Rattle.sheet.specs.Refusal.{depthFits, leastFits, written};
 ghost use Rattle.flow.specs.Pairs.{pairNumbers, pairCount, pairsAnswer, pairsValues, pairsPlaces};
 
 // The answer of flow_pairs: the count of pairs, or the number of the refusal.
@@ -26,37 +27,46 @@ fn pair_count(m: usize, n: usize) -> usize
 }
 
 // Writes the answer for each of the pairs, of which there are count, as a byte.
-fn answer_pairs(depth: usize, count: usize, p: &[u64], q: &[u64], answers: &mut [u8])
-    requires { ⌜ depthFits depth ≡ true ⌝ }
+fn answer_pairs(depth: usize, least: usize, count: usize, p: &[u64], q: &[u64], answers: &mut [u8])
+    requires { ⌜ (depthFits depth ≡ true) × (leastFits least ≡ true) ⌝ }
     requires { ⌜ count ≡ pairCount (length (now p)) (length (now q)) ⌝ }
     requires { ⌜ count ≤ length (now answers) ⌝ }
     ensures { λ _. ⌜ now (answers .exit)
-        ≡ written (pairNumbers depth (now (p .entry)) (now (q .entry))) (now (answers .entry)) ⌝ }
+        ≡ written (pairNumbers depth least (now (p .entry)) (now (q .entry))) (now (answers .entry)) ⌝ }
 {
     let mut i = 0;
     while i < count {
-        answers[i] = answer_number(answer_fitting(depth, p[i], q[i])) as u8;
+        answers[i] = answer_number(answer_fitting(depth, least, p[i], q[i])) as u8;
         i = i + 1;
     }
 }
 
 // The flow question for each pair, P's label and Q's at the same place: 0 No, 1 Yes, 2 Same, 3 Undecided, 128 + the
-// refusal's number. A refused pair stops no other. Refused by 2, 3, in this order; then no place is written.
-pub fn flow_pairs(depth: usize, p: &[u64], q: &[u64], answers: &mut [u8]) -> PairsAnswer
-    ensures answer { λ r. ⌜ r ≡ pairsAnswer depth (length (now (p .entry))) (length (now (q .entry)))
+// refusal's number. A refused pair stops no other. Refused by 2, 19, 3, in this order; then no place is written.
+pub fn flow_pairs(
+    depth: usize,
+    least: usize,
+    p: &[u64],
+    q: &[u64],
+    answers: &mut [u8],
+) -> PairsAnswer
+    ensures answer { λ r. ⌜ r ≡ pairsAnswer depth least (length (now (p .entry))) (length (now (q .entry)))
         (length (now (answers .entry))) ⌝ }
-    ensures values { λ r. ⌜ pairsValues r ≡ pairsValues (pairsAnswer depth (length (now (p .entry)))
+    ensures values { λ r. ⌜ pairsValues r ≡ pairsValues (pairsAnswer depth least (length (now (p .entry)))
         (length (now (q .entry))) (length (now (answers .entry)))) ⌝ }
     ensures places { λ _. ⌜ now (answers .exit)
-        ≡ pairsPlaces depth (now (p .entry)) (now (q .entry)) (now (answers .entry)) ⌝ }
+        ≡ pairsPlaces depth least (now (p .entry)) (now (q .entry)) (now (answers .entry)) ⌝ }
 {
     if depth_fits(depth) {
-        let count = pair_count(p.len(), q.len());
-        if answers.len() < count {
-            return PairsAnswer::Refused(3);
+        if least_fits(least) {
+            let count = pair_count(p.len(), q.len());
+            if answers.len() < count {
+                return PairsAnswer::Refused(3);
+            }
+            answer_pairs(depth, least, count, p, q, answers);
+            return PairsAnswer::Pairs(count);
         }
-        answer_pairs(depth, count, p, q, answers);
-        return PairsAnswer::Pairs(count);
+        return PairsAnswer::Refused(19);
     }
     PairsAnswer::Refused(2)
 }

@@ -12,7 +12,7 @@ use Rattle.index.specs.Index.{LentIndex, lentIndex, indexed, indexAfter}
 
 -- a sheet with weights, and one without: each is then 1
 abbrev pub weightedSheet : Grid → ℕ → List ℕ → Sheet
-weightedSheet G depth weights = record { grid = G; depth = depth; weights = weights }
+weightedSheet G depth weights = record { grid = G; depth = depth; least = 1; split = 4; weights = weights }
 
 abbrev pub sheet : Grid → ℕ → Sheet
 sheet G depth = weightedSheet G depth (replicate (G .rows) 1)

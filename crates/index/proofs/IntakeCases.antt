@@ -23,7 +23,7 @@ abbrev pub two : LentIndex
 two = lentIndex (7 ∷ 7 ∷ []) (7 ∷ 7 ∷ []) (7 ∷ 7 ∷ [])
 
 abbrev pub sizes : Sizes
-sizes = record { rows = 1; cols = 1; depth = 1 }
+sizes = record { rows = 1; cols = 1; depth = 1; least = 1; split = 4 }
 
 -- the direction byte and the weight of the row
 abbrev pub withWeight : ℕ → LentSheet

@@ -1,5 +1,5 @@
 -- An answer of the index call is a number of units that is at most the number of cells, or a refusal with a number from
--- 1 to 17 and a place below 65,536.
+-- 1 to 19 and a place below 65,536.
 use mathlib.Core.Path.{_≡_, refl}
 use mathlib.Core.Bool.{Bool, true, false, cond}
 use mathlib.Core.List.{List, [], _∷_}
@@ -23,7 +23,7 @@ use Rattle.index.specs.Index.{LentIndex, indexFits, indexedOn, indexed}
 
 abbrev pub SmallAnswer : Indexed → Type 0
 SmallAnswer (Units units) = units ≤ 65536
-SmallAnswer (Refused number place) = (1 ≤ number) × (number ≤ 17) × (place < 65536)
+SmallAnswer (Refused number place) = (1 ≤ number) × (number ≤ 19) × (place < 65536)
 
 with-label-length : (x : List ℕ) (ys : List (List ℕ)) → length (withLabel x ys) ≤ suc (length ys)
 unfolding withLabel

@@ -99,7 +99,7 @@ module _ (S : Sheet) (L : Lent) (I : LentIndex) where
   unfolding indexAfter
   answered e l i = (e, (ap indexedValues e, (l, i ∙ ap (λ (x : Indexed). ifIndexed x (units S) I) e)))
 
-  -- by checks 1 to 3
+  -- by the first checks
   pub refused-first : {number place : ℕ} → firstChecks S L ≡ NotLabelled number place
       → Answered (Refused number place) L I
   unfolding indexed
@@ -107,7 +107,7 @@ module _ (S : Sheet) (L : Lent) (I : LentIndex) where
       let a = refused S L e in
       answered (ap (λ (x : Outcome). indexedOn x (length (units S)) I) (a .0)) (a .1 .1) refl
 
-  -- after checks 1 to 3
+  -- after the first checks
   pub indexed-after : firstChecks S L ≡ Accepted → {areas labels work : List ℕ} {I′ : LentIndex} {r : Indexed}
       → IndexedFitting S (lent (L .areas) (L .labels) (take (8 * cells (S .grid)) (L .work)))
       (lent areas labels work) I I′ r

@@ -43,8 +43,8 @@ pub record InOrder (n : ℕ) (work labels : List ℕ) (queued : ℕ) : Type 0 wh
   pub room : cellsPart * n + queued ≤ length work
   pub labelled : CellsLabelled (cellsIn n work queued) labels
 
--- what the call leaves of a sheet that passed checks 1 to 3: L and I were lent, and L′ and I′ are what the slices hold
--- then
+-- what the call leaves of a sheet that passed the first checks: L and I were lent, and L′ and I′ are what the slices
+-- hold then
 pub record IndexedFitting (S : Sheet) (L L′ : Lent) (I I′ : LentIndex) (r : Indexed) : Type 0 where
   pub answer : r ≡ indexedOn (outcomeFrom17 S) (length (units S)) I
   pub areas : L′ .areas ≡ ifAccepted (outcomeFrom17 S) (areasOf S) (L .areas)

@@ -51,6 +51,8 @@ pub fn index_intake(
                 sizes.rows,
                 sizes.cols,
                 sizes.depth,
+                sizes.least,
+                sizes.split,
                 dirs,
                 weights,
                 areas,

@@ -51,11 +51,13 @@ pub fn index_in_order(
     }
 }
 
-// Labels a sheet that passed checks 1 to 3, and fills the index of its units. The work places are 0 afterwards.
+// Labels a sheet that passed the first checks, and fills the index of its units. The work places are 0 afterwards.
 fn index_fitting(
     rows: usize,
     cols: usize,
     depth: usize,
+    least: usize,
+    split: usize,
     dirs: &[u8],
     weights: &[u16],
     areas: &mut [u32],
@@ -65,16 +67,29 @@ fn index_fitting(
     outlets: &mut [u32],
     counts: &mut [u32],
 ) -> Indexed
-    requires { ⌜ Fitting (sheet rows cols depth (now dirs) (now weights)) (lent (now areas) (now labels) (now work)) ⌝ }
-    requires { ⌜ firstChecks (sheet rows cols depth (now dirs) (now weights)) (lent (now areas) (now labels) (now work))
+    requires { ⌜ Fitting (sheet rows cols depth least split (now dirs) (now weights))
+        (lent (now areas) (now labels) (now work)) ⌝ }
+    requires { ⌜ firstChecks (sheet rows cols depth least split (now dirs) (now weights))
+        (lent (now areas) (now labels) (now work))
         ≡ Outcome.Accepted ⌝ }
-    ensures { λ r. ⌜ IndexedFitting (sheet rows cols depth (now (dirs .entry)) (now (weights .entry)))
+    ensures { λ r. ⌜ IndexedFitting (sheet rows cols depth least split (now (dirs .entry)) (now (weights .entry)))
         (lent (now (areas .entry)) (now (labels .entry)) (now (work .entry)))
         (lent (now (areas .exit)) (now (labels .exit)) (now (work .exit)))
         (lentIndex (now (units .entry)) (now (outlets .entry)) (now (counts .entry)))
         (lentIndex (now (units .exit)) (now (outlets .exit)) (now (counts .exit))) r ⌝ }
 {
-    let found = labelling::label_in_order(rows, cols, depth, dirs, weights, areas, labels, work);
+    let found = labelling::label_in_order(
+        rows,
+        cols,
+        depth,
+        least,
+        split,
+        dirs,
+        weights,
+        areas,
+        labels,
+        work,
+    );
     let answer = index_in_order(found, rows * cols, work, labels, units, outlets, counts);
     labelling::clear_places(work);
     answer
@@ -87,6 +102,8 @@ pub fn index(
     rows: usize,
     cols: usize,
     depth: usize,
+    least: usize,
+    split: usize,
     dirs: &[u8],
     weights: &[u16],
     areas: &mut [u32],
@@ -96,18 +113,18 @@ pub fn index(
     outlets: &mut [u32],
     counts: &mut [u32],
 ) -> Indexed
-    ensures answer { λ r. ⌜ r ≡ indexed (sheet rows cols depth (now (dirs .entry)) (now (weights .entry)))
+    ensures answer { λ r. ⌜ r ≡ indexed (sheet rows cols depth least split (now (dirs .entry)) (now (weights .entry)))
         (lent (now (areas .entry)) (now (labels .entry)) (now (work .entry)))
         (lentIndex (now (units .entry)) (now (outlets .entry)) (now (counts .entry))) ⌝ }
     ensures values { λ r. ⌜ indexedValues r
-        ≡ indexedValues (indexed (sheet rows cols depth (now (dirs .entry)) (now (weights .entry)))
+        ≡ indexedValues (indexed (sheet rows cols depth least split (now (dirs .entry)) (now (weights .entry)))
         (lent (now (areas .entry)) (now (labels .entry)) (now (work .entry)))
         (lentIndex (now (units .entry)) (now (outlets .entry)) (now (counts .entry)))) ⌝ }
     ensures lent { λ _. ⌜ lent (now (areas .exit)) (now (labels .exit)) (now (work .exit))
-        ≡ lentAfter (sheet rows cols depth (now (dirs .entry)) (now (weights .entry)))
+        ≡ lentAfter (sheet rows cols depth least split (now (dirs .entry)) (now (weights .entry)))
         (lent (now (areas .entry)) (now (labels .entry)) (now (work .entry))) ⌝ }
     ensures index { λ _. ⌜ lentIndex (now (units .exit)) (now (outlets .exit)) (now (counts .exit))
-        ≡ indexAfter (sheet rows cols depth (now (dirs .entry)) (now (weights .entry)))
+        ≡ indexAfter (sheet rows cols depth least split (now (dirs .entry)) (now (weights .entry)))
         (lent (now (areas .entry)) (now (labels .entry)) (now (work .entry)))
         (lentIndex (now (units .entry)) (now (outlets .entry)) (now (counts .entry))) ⌝ }
 {
@@ -115,6 +132,8 @@ pub fn index(
         rows,
         cols,
         depth,
+        least,
+        split,
         dirs.len(),
         weights.len(),
         areas.len(),
@@ -127,6 +146,8 @@ pub fn index(
                 rows,
                 cols,
                 depth,
+                least,
+                split,
                 dirs,
                 weights,
                 areas,

@@ -9,12 +9,12 @@ use Rattle.lines.specs.declared.columns.Columns.{Columns}
 use Rattle.names.specs.declared.NamesLine.the-variants.{Bad as BadNames}
 use Rattle.lines.specs.declared.values.ValuesLine.the-variants.{Bad as BadValues}
 use Rattle.names.specs.Columns.{weightColumns, cellColumns}
-use Rattle.names.specs.Names.{namesLine}
+use Rattle.names.specs.Names.{namesLine, sizeNamesLine}
 use Rattle.lines.specs.Fields.{lineBytes}
 use Rattle.lines.specs.Values.{valuesLine}
-use Rattle.names.proofs.NamesLaws.{names-long}
+use Rattle.names.proofs.NamesLaws.{names-long, size-names-long}
 use Rattle.lines.proofs.ValuesLaws.{values-long}
-use Rattle.names.proofs.OtherBytes.{names-line-feed}
+use Rattle.names.proofs.OtherBytes.{names-line-feed, size-names-line-feed}
 use Rattle.lines.proofs.OtherBytes.{values-line-feed}
 use Rattle.intake.specs.declared.Stage.{Stage}
 use Rattle.intake.specs.declared.Stage.the-variants.{WaitingForSizeNames, WaitingForSizes}
@@ -29,19 +29,25 @@ use Rattle.intake.proofs.Laws.{stageNumber, faultOf}
 
 -- a line that is no names line and no line of values
 pub record BadLine (line : List ℕ) : Type 0 where
+  pub size-names : sizeNamesLine line ≡ BadNames
   pub names : (expected : Columns) → namesLine expected line ≡ BadNames
-  pub values : (count : ℕ) → valuesLine count line ≡ BadValues
+  pub values : (c : Columns) → valuesLine c line ≡ BadValues
 
 pub line-feed : (line : List ℕ) (at : ℕ) → at < length line → getD line at 0 ≡ lineFeed → BadLine line
 line-feed line at h e =
     record {
+      size-names = size-names-line-feed line at h e;
       names = λ expected. names-line-feed expected line at h e;
-      values = λ count. values-line-feed count line at h e;
+      values = λ c. values-line-feed c line at h e;
     }
 
 pub over-eighty : (line : List ℕ) → lineBytes < length line → BadLine line
 over-eighty line h =
-    record { names = λ expected. names-long expected line h; values = λ count. values-long count line h }
+    record {
+      size-names = size-names-long line h;
+      names = λ expected. names-long expected line h;
+      values = λ c. values-long c line h;
+    }
 
 -- 13 where the intake has ended, and else 8
 abbrev pub badLineNumber : Stage → ℕ
@@ -56,7 +62,7 @@ badLineNumber (Ended z) = 13
 bad-line-in : (stage : Stage) (line : List ℕ) (lent : LentSheet) → BadLine line
     → lineIn stage line lent ≡ refuse stage lent (badLineNumber stage)
 unfolding lineIn
-bad-line-in WaitingForSizeNames line lent b = rw (b .names _)
+bad-line-in WaitingForSizeNames line lent b = rw (b .size-names)
 bad-line-in (WaitingForSizes c) line lent b = rw (b .values _)
 bad-line-in (WaitingForWeightOrCellNames z) line lent b = rw (b .names weightColumns, b .names cellColumns)
 bad-line-in (WaitingForWeight z row) line lent b = rw (b .values _)

@@ -5,8 +5,10 @@ use mathlib.Core.List.{List, [], _∷_, _++_}
 use Prim.Native.Nat.{ℕ}
 use lib.ListN.{replicate}
 use Rattle.decimal.specs.Ascii.{ascii}
-use Rattle.lines.specs.declared.columns.Column.the-variants.{Rows, Cols, Depth, Row, Col, Dir}
-use Rattle.names.specs.Columns.{sizeColumns, cellColumns}
+use Rattle.lines.specs.declared.columns.Column.{Column}
+use Rattle.lines.specs.declared.columns.Column.the-variants.{Absent, Rows, Cols, Depth, Least, Split, Row, Col, Dir}
+use Rattle.lines.specs.declared.columns.Columns.{Columns}
+use Rattle.names.specs.Columns.{sizeColumns, splitSizeColumns, cellColumns}
 use Rattle.faults.specs.declared.Sizes.{Sizes}
 use Rattle.intake.specs.declared.Stage.{Stage}
 use Rattle.intake.specs.declared.Stage.the-variants.{WaitingForSizeNames, WaitingForSizes}
@@ -17,8 +19,20 @@ use Rattle.intake.specs.Intake.{LentSheet, lentSheet, After, accepted, r
 use Rattle.intake.specs.Intake.{endTaken, newIntake}
 use Rattle.intake.specs.CellLines.{cellsListed, lastCode}
 
+-- sizes with least and split, and those where they are not named
+abbrev pub splitSizesOf : ℕ → ℕ → ℕ → ℕ → ℕ → Sizes
+splitSizesOf rows cols depth least split =
+    record { rows = rows; cols = cols; depth = depth; least = least; split = split }
+
 abbrev pub sizesOf : ℕ → ℕ → ℕ → Sizes
-sizesOf rows cols depth = record { rows = rows; cols = cols; depth = depth }
+sizesOf rows cols depth = splitSizesOf rows cols depth 1 4
+
+-- five columns, and three
+abbrev pub five : Column → Column → Column → Column → Column → Columns
+five a b c d e = record { first = a; second = b; third = c; fourth = d; fifth = e }
+
+abbrev pub three : Column → Column → Column → Columns
+three a b c = five a b c Absent Absent
 
 abbrev pub in-stage : Stage → Intake
 in-stage stage = record { stage = stage }
@@ -352,21 +366,145 @@ thirteen-first = refl
 -- ---- columns in another order; a column twice gives the first of the two, and a missing one 0
 
 pub names-turned : lineAfter newIntake (ascii "depth,rows,cols") lent ≡ accept
-    (WaitingForSizes (record { first = Depth; second = Rows; third = Cols })) lent
+    (WaitingForSizes (three Depth Rows Cols)) lent
 unfolding lineAfter
 names-turned = refl
 
-pub sizes-turned : lineAfter (in-stage (WaitingForSizes (record { first = Depth; second = Rows; third = Cols })))
+pub sizes-turned : lineAfter (in-stage (WaitingForSizes (three Depth Rows Cols)))
     (ascii "2,3,4") lent ≡ accept atNames cleared
 unfolding lineAfter
 sizes-turned = refl
 
 pub cell-names-turned : lineAfter (in-stage atCellNames) (ascii "dir,row,col") lent ≡ accept
-    (TakingCells (sizesOf 3 4 2) (record { first = Dir; second = Row; third = Col })) lent
+    (TakingCells (sizesOf 3 4 2) (three Dir Row Col)) lent
 unfolding lineAfter
 cell-names-turned = refl
 
-pub column-twice : lineAfter (in-stage (WaitingForSizes (record { first = Rows; second = Rows; third = Cols })))
-    (ascii "3,4,1") lent ≡ refuse (WaitingForSizes (record { first = Rows; second = Rows; third = Cols })) lent 2
+pub column-twice : lineAfter (in-stage (WaitingForSizes (three Rows Rows Cols)))
+    (ascii "3,4,1") lent ≡ refuse (WaitingForSizes (three Rows Rows Cols)) lent 2
 unfolding lineAfter
 column-twice = refl
+
+-- ---- least and split
+
+-- a sheet of 3 by 4 cells to depth 2 at least 5 with split 3; the columns in two orders
+abbrev pub atSplitSizes : Stage
+atSplitSizes = WaitingForSizes splitSizeColumns
+
+abbrev pub atLeastFirst : Stage
+atLeastFirst = WaitingForSizes (five Least Split Depth Rows Cols)
+
+abbrev pub atSplitNames : Stage
+atSplitNames = WaitingForWeightOrCellNames (splitSizesOf 3 4 2 5 3)
+
+pub split-names : lineAfter newIntake (ascii "rows,cols,depth,least,split") lent ≡ accept atSplitSizes lent
+unfolding lineAfter
+split-names = refl
+
+pub split-sizes : lineAfter (in-stage atSplitSizes) (ascii "3,4,2,5,3") lent ≡ accept atSplitNames cleared
+unfolding lineAfter
+split-sizes = refl
+
+pub least-first-names : lineAfter newIntake (ascii "least,split,depth,rows,cols") lent ≡ accept atLeastFirst lent
+unfolding lineAfter
+least-first-names = refl
+
+pub least-first-sizes : lineAfter (in-stage atLeastFirst) (ascii "5,3, 2,3,4") lent ≡ accept atSplitNames cleared
+unfolding lineAfter
+least-first-sizes = refl
+
+-- neither is named: least is 1 and split is 4
+pub neither-named : lineAfter (in-stage atSizes) (ascii "3,4,2") lent ≡ accept
+    (WaitingForWeightOrCellNames (splitSizesOf 3 4 2 1 4)) cleared
+unfolding lineAfter
+neither-named = refl
+
+-- 8: one of them alone
+pub least-alone : lineAfter newIntake (ascii "rows,cols,depth,least") lent ≡ refuse WaitingForSizeNames lent 8
+unfolding lineAfter
+least-alone = refl
+
+pub split-alone : lineAfter newIntake (ascii "split,rows,cols,depth") lent ≡ refuse WaitingForSizeNames lent 8
+unfolding lineAfter
+split-alone = refl
+
+-- 8: more digits than a column allows, eight for least and five for the others; other than one value a column
+pub least-8-digits : lineAfter (in-stage atSplitSizes) (ascii "3,4,2,65536000,4") lent ≡ accept
+    (WaitingForWeightOrCellNames (splitSizesOf 3 4 2 65536000 4)) cleared
+unfolding lineAfter
+least-8-digits = refl
+
+pub least-9-digits : lineAfter (in-stage atSplitSizes) (ascii "3,4,2,655360000,4") lent ≡ refuse atSplitSizes lent 8
+unfolding lineAfter
+least-9-digits = refl
+
+pub rows-6-digits : lineAfter (in-stage atSplitSizes) (ascii "300000,4,2,1,4") lent ≡ refuse atSplitSizes lent 8
+unfolding lineAfter
+rows-6-digits = refl
+
+pub split-6-digits : lineAfter (in-stage atSplitSizes) (ascii "3,4,2,1,400000") lent ≡ refuse atSplitSizes lent 8
+unfolding lineAfter
+split-6-digits = refl
+
+pub three-for-five : lineAfter (in-stage atSplitSizes) (ascii "3,4,2") lent ≡ refuse atSplitSizes lent 8
+unfolding lineAfter
+three-for-five = refl
+
+pub five-for-three : lineAfter (in-stage atSizes) (ascii "3,4,2,1,4") lent ≡ refuse atSizes lent 8
+unfolding lineAfter
+five-for-three = refl
+
+-- 19: least outside 1 to 65,536,000, or split outside 1 to 4; after 2 and before 3
+pub least-0 : lineAfter (in-stage atSplitSizes) (ascii "3,4,2,0,4") lent ≡ refuse atSplitSizes lent 19
+unfolding lineAfter
+least-0 = refl
+
+pub least-65536001 : lineAfter (in-stage atSplitSizes) (ascii "3,4,2,65536001,4") lent ≡ refuse atSplitSizes lent 19
+unfolding lineAfter
+least-65536001 = refl
+
+pub split-0 : lineAfter (in-stage atSplitSizes) (ascii "3,4,2,1,0") lent ≡ refuse atSplitSizes lent 19
+unfolding lineAfter
+split-0 = refl
+
+pub split-1 : lineAfter (in-stage atSplitSizes) (ascii "3,4,2,1,1") lent ≡ accept
+    (WaitingForWeightOrCellNames (splitSizesOf 3 4 2 1 1)) cleared
+unfolding lineAfter
+split-1 = refl
+
+pub split-5 : lineAfter (in-stage atSplitSizes) (ascii "3,4,2,1,5") lent ≡ refuse atSplitSizes lent 19
+unfolding lineAfter
+split-5 = refl
+
+pub two-before-nineteen : lineAfter (in-stage atSplitSizes) (ascii "3,4,19,0,4") lent ≡ refuse atSplitSizes lent 2
+unfolding lineAfter
+two-before-nineteen = refl
+
+pub nineteen-before-three : lineAfter (in-stage atSplitSizes) (ascii "3,4,2,0,4") (sevens 11) ≡ refuse
+    atSplitSizes (sevens 11) 19
+unfolding lineAfter
+nineteen-before-three = refl
+
+-- a state with least 0 gives 19 for any line
+abbrev pub leastZero : Sizes
+leastZero = splitSizesOf 3 4 2 0 4
+
+pub nineteen-names : (line : List ℕ) → lineAfter (in-stage (WaitingForWeightOrCellNames leastZero)) line lent
+    ≡ refuse (WaitingForWeightOrCellNames leastZero) lent 19
+unfolding lineAfter
+nineteen-names line = refl
+
+pub nineteen-weight : (line : List ℕ) → lineAfter (in-stage (WaitingForWeight leastZero 9)) line lent
+    ≡ refuse (WaitingForWeight leastZero 9) lent 19
+unfolding lineAfter
+nineteen-weight line = refl
+
+pub nineteen-cells : (line : List ℕ) → lineAfter (in-stage (TakingCells leastZero cellColumns)) line lent
+    ≡ refuse (TakingCells leastZero cellColumns) lent 19
+unfolding lineAfter
+nineteen-cells line = refl
+
+pub thirteen-before-nineteen : lineAfter (in-stage (Ended leastZero)) (ascii "x") lent
+    ≡ refuse (Ended leastZero) lent 13
+unfolding lineAfter
+thirteen-before-nineteen = refl

@@ -13,7 +13,6 @@ use Rattle.lines.specs.declared.columns.Columns.{Columns}
 use Rattle.lines.specs.declared.values.Values.{Values}
 use Rattle.lines.specs.declared.values.ValuesLine.{ValuesLine}
 use Rattle.lines.specs.declared.values.ValuesLine.the-variants.{Values as Valued, Bad as BadValues}
-use Rattle.lines.specs.Columns.{columnCount}
 use Rattle.lines.specs.Values.{valuesLine}
 use Rattle.sheet.specs.Direction.{cellNumber}
 use Rattle.sheet.proofs.Cells.{cell-lt, cell-row, cell-col}
@@ -130,7 +129,7 @@ module _ (z : Sizes) (c : Columns) (line next : List ℕ) (x y : Cell) (lent : L
 -- an accepted line, while the intake takes cells
 record CellTaken (z : Sizes) (c : Columns) (line : List ℕ) (lent : LentSheet) : Type 0 where
   values : Values
-  line-is : valuesLine columnCount line ≡ Valued values
+  line-is : valuesLine c line ≡ Valued values
   on-sheet : onSheet z (cellIn c values) ≡ true
   byte-lent : cellNumber (z .cols) (cellIn c values .row) (cellIn c values .col) < length (lent .dirs)
   after-is : lineAfter (takingCells z c) line lent ≡ accept (TakingCells z c) (cellWritten z (cellIn c values) lent)
@@ -140,9 +139,9 @@ module _ (z : Sizes) (c : Columns) (line : List ℕ) (lent : LentSheet) where
   unfolding lineIn
   cell-taken e =
       let good = line-none (takingCells z c) line lent e in
-      read good (valuesLine columnCount line) refl (line-good (takingCells z c) line lent good)
+      read good (valuesLine c line) refl (line-good (takingCells z c) line lent good)
     where
-      read : faultOf (TakingCells z c) lent ≡ 0 → (v : ValuesLine) → valuesLine columnCount line ≡ v
+      read : faultOf (TakingCells z c) lent ≡ 0 → (v : ValuesLine) → valuesLine c line ≡ v
           → lineAfter (takingCells z c) line lent ≡ onCells z c v lent → CellTaken z c line lent
       read good BadValues is a = absurd (accepted-not-refused (sym e ∙ ap (λ (b : After). b .taken .outcome) a))
       read good (Valued v) is a =

@@ -14,9 +14,8 @@ use Rattle.names.specs.declared.NamesLine.the-variants.{Columns as Named, Bad a
 use Rattle.lines.specs.declared.columns.Columns.{Columns}
 use Rattle.lines.specs.declared.values.ValuesLine.{ValuesLine}
 use Rattle.lines.specs.declared.values.ValuesLine.the-variants.{Values as Valued, Bad as BadValues}
-use Rattle.names.specs.Columns.{sizeColumns, weightColumns, cellColumns}
-use Rattle.names.specs.Names.{namesLine}
-use Rattle.lines.specs.Columns.{columnCount, weightCount}
+use Rattle.names.specs.Columns.{weightColumns, cellColumns}
+use Rattle.names.specs.Names.{namesLine, sizeNamesLine}
 use Rattle.lines.specs.Values.{valuesLine}
 use Rattle.faults.specs.declared.Sizes.{Sizes}
 use Rattle.faults.specs.declared.Cell.{Cell}
@@ -48,8 +47,8 @@ stageNumber (Ended z) = 6
 abbrev pub faultOf : Stage → LentSheet → ℕ
 faultOf stage lent = stateFault stage (length (lent .dirs)) (length (lent .weights))
 
--- The fault of what a stage holds, ended or not: 1, 2, 3 of the sizes, if it holds any, then 9 of the row whose weight
--- it waits for.
+-- The fault of what a stage holds, ended or not: 1, 2, 19, 3 of the sizes, if it holds any, then 9 of the row whose
+-- weight it waits for.
 abbrev pub heldFault : Stage → ℕ → ℕ → ℕ
 heldFault WaitingForSizeNames dirs weights = 0
 heldFault (WaitingForSizes c) dirs weights = 0
@@ -174,12 +173,12 @@ cells-answer z c (Valued v) lent good =
 line-in-answer : (stage : Stage) (line : List ℕ) (lent : LentSheet) → faultOf stage lent ≡ 0
     → Answer stage lent (lineIn stage line lent)
 unfolding lineIn stateFault
-line-in-answer WaitingForSizeNames line lent good = go (namesLine sizeColumns line)
+line-in-answer WaitingForSizeNames line lent good = go (sizeNamesLine line)
   where
     go : (n : NamesLine) → Answer WaitingForSizeNames lent (keep lent (onSizeNames n))
     go (Named c) = accepts _ _ _ _ (omega arith) (same-long lent) refl
     go BadNames = refuses _ _ 8 (omega arith)
-line-in-answer (WaitingForSizes c) line lent good = sizes-answer c (valuesLine columnCount line) lent
+line-in-answer (WaitingForSizes c) line lent good = sizes-answer c (valuesLine c line) lent
 line-in-answer (WaitingForWeightOrCellNames z) line lent good = go (namesLine weightColumns line)
   where
     go : (n : NamesLine) → Answer (WaitingForWeightOrCellNames z) lent
@@ -188,10 +187,10 @@ line-in-answer (WaitingForWeightOrCellNames z) line lent good = go (namesLine we
         accepts _ _ _ _ (omega arith) (same-long lent)
         (row-within z _ _ 0 good (sizes-fit z _ _ good .rows-some))
     go BadNames = cell-names-answer _ z (namesLine cellColumns line) lent (omega arith) good
-line-in-answer (WaitingForWeight z row) line lent good = weight-answer z row (valuesLine weightCount line) lent good
+line-in-answer (WaitingForWeight z row) line lent good = weight-answer z row (valuesLine weightColumns line) lent good
 line-in-answer (WaitingForCellNames z) line lent good =
     cell-names-answer (WaitingForCellNames z) z (namesLine cellColumns line) lent (omega arith) good
-line-in-answer (TakingCells z c) line lent good = cells-answer z c (valuesLine columnCount line) lent good
+line-in-answer (TakingCells z c) line lent good = cells-answer z c (valuesLine c line) lent good
 line-in-answer (Ended z) line lent good = refuses _ _ 13 (omega arith)
 
 pub line-answer : (i : Intake) (line : List ℕ) (lent : LentSheet) → Answer (i .stage) lent (lineAfter i line lent)
@@ -316,7 +315,7 @@ held lent names e = e
 held lent cells e = e
 held lent ended e = e
 
--- the sizes in a state that is reached are within document 01's bounds and fit the slices
+-- the sizes in a state that is reached are within the documents' bounds and fit the slices
 pub reached-sizes : {i : Intake} {lent : LentSheet} {z : Sizes} → Reached i lent → Holds (i .stage) z
     → Fits z (length (lent .dirs)) (length (lent .weights))
 reached-sizes {i} {lent} {z} r h = sizes-fit z _ _ (held lent h (reached-fits r))

@@ -14,9 +14,8 @@ use Rattle.lines.specs.declared.columns.Columns.{Columns}
 use Rattle.lines.specs.declared.values.Values.{Values}
 use Rattle.lines.specs.declared.values.ValuesLine.{ValuesLine}
 use Rattle.lines.specs.declared.values.ValuesLine.the-variants.{Values as Valued, Bad as BadValues}
-use Rattle.names.specs.Columns.{sizeColumns, weightColumns, cellColumns}
-use Rattle.names.specs.Names.{namesLine}
-use Rattle.lines.specs.Columns.{columnCount, weightCount}
+use Rattle.names.specs.Columns.{weightColumns, cellColumns}
+use Rattle.names.specs.Names.{namesLine, sizeNamesLine}
 use Rattle.lines.specs.Values.{valuesLine}
 use Rattle.sheet.specs.Refusal.{weightFits}
 use Rattle.faults.specs.declared.Sizes.{Sizes}
@@ -44,7 +43,7 @@ module _ (z : Sizes) (row : ℕ) (line : List ℕ) (lent : LentSheet) where
   abbrev after : After
   after = lineAfter (record { stage = WaitingForWeight z row }) line lent
 
-  written : (v : Values) → valuesLine weightCount line ≡ Valued v → weightFits (v .first) ≡ true
+  written : (v : Values) → valuesLine weightColumns line ≡ Valued v → weightFits (v .first) ≡ true
       → row < length (lent .weights) → OwnWeight row line lent (weightWritten row (v .first) lent)
   unfolding weightWritten
   written v is fits l = record {
@@ -62,12 +61,12 @@ module _ (z : Sizes) (row : ℕ) (line : List ℕ) (lent : LentSheet) where
   own-row e =
       let i : Intake = record { stage = WaitingForWeight z row } in
       let good = line-none i line lent e in
-      read good (valuesLine weightCount line) refl (line-good i line lent good)
+      read good (valuesLine weightColumns line) refl (line-good i line lent good)
     where
       within : faultOf (WaitingForWeight z row) lent ≡ 0 → row < length (lent .weights)
       within good = let w = waits-for-row z row _ _ refl good in omega (arith, w .0, w .1)
 
-      read : faultOf (WaitingForWeight z row) lent ≡ 0 → (v : ValuesLine) → valuesLine weightCount line ≡ v
+      read : faultOf (WaitingForWeight z row) lent ≡ 0 → (v : ValuesLine) → valuesLine weightColumns line ≡ v
           → after ≡ onWeight z row v lent → OwnWeight row line lent (after .lent)
       read good BadValues is a = absurd (accepted-not-refused (sym e ∙ ap (λ (b : After). b .taken .outcome) a))
       read good (Valued v) is a =
@@ -81,7 +80,7 @@ module _ (c : Columns) (line : List ℕ) (lent : LentSheet) where
 
   sizes-one : after-sizes .taken .outcome ≡ Accepted → OnesSet lent after-sizes
   unfolding lineIn sizesWritten stateFault
-  sizes-one e = read (valuesLine columnCount line) (line-good _ line lent refl)
+  sizes-one e = read (valuesLine c line) (line-good _ line lent refl)
     where
       read : (v : ValuesLine) → after-sizes ≡ onSizes c v lent → OnesSet lent after-sizes
       read BadValues a = absurd (accepted-not-refused (sym e ∙ ap (λ (b : After). b .taken .outcome) a))
@@ -113,7 +112,7 @@ line-in-kept (WaitingForSizes c) line lent e = absurd (true≢false e)
 line-in-kept (WaitingForWeightOrCellNames z) line lent e = refl
 line-in-kept (WaitingForWeight z row) line lent e = absurd (true≢false e)
 line-in-kept (WaitingForCellNames z) line lent e = refl
-line-in-kept (TakingCells z c) line lent e = cells-kept z c (valuesLine columnCount line) lent
+line-in-kept (TakingCells z c) line lent e = cells-kept z c (valuesLine c line) lent
 line-in-kept (Ended z) line lent e = refl
 
 pub weights-after : WeightsAfter
@@ -206,12 +205,12 @@ cells-good z c (Valued v) lent h =
 line-in-good : (stage : Stage) (line : List ℕ) (lent : LentSheet) → Weighed (heldRows stage) (lent .weights)
     → faultOf stage lent ≡ 0 → Good (lineIn stage line lent)
 unfolding lineIn
-line-in-good WaitingForSizeNames line lent h good = go (namesLine sizeColumns line)
+line-in-good WaitingForSizeNames line lent h good = go (sizeNamesLine line)
   where
     go : (n : NamesLine) → Good (keep lent (onSizeNames n))
     go (Named c) row l = absurd (omega arith)
     go BadNames row l = absurd (omega arith)
-line-in-good (WaitingForSizes c) line lent h good = sizes-good c (valuesLine columnCount line) lent
+line-in-good (WaitingForSizes c) line lent h good = sizes-good c (valuesLine c line) lent
 line-in-good (WaitingForWeightOrCellNames z) line lent h good = go (namesLine weightColumns line)
   where
     go : (n : NamesLine) → Good (keep lent (onWeightOrCellNames z n (namesLine cellColumns line)))
@@ -219,10 +218,10 @@ line-in-good (WaitingForWeightOrCellNames z) line lent h good = go (namesLine we
     go BadNames = cell-names-good (WaitingForWeightOrCellNames z) z (namesLine cellColumns line) lent refl h
 line-in-good (WaitingForWeight z row) line lent h good =
     let w = waits-for-row z row (length (lent .dirs)) (length (lent .weights)) refl good in
-    weight-line-good z row (valuesLine weightCount line) lent (omega (arith, w .0, w .1)) h
+    weight-line-good z row (valuesLine weightColumns line) lent (omega (arith, w .0, w .1)) h
 line-in-good (WaitingForCellNames z) line lent h good =
     cell-names-good (WaitingForCellNames z) z (namesLine cellColumns line) lent refl h
-line-in-good (TakingCells z c) line lent h good = cells-good z c (valuesLine columnCount line) lent h
+line-in-good (TakingCells z c) line lent h good = cells-good z c (valuesLine c line) lent h
 line-in-good (Ended z) line lent h good = h
 
 end-rows : (s : Stage) → heldRows (endIn s .intake .stage) ≡ heldRows s

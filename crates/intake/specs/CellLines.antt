@@ -9,7 +9,6 @@ use Rattle.lines.specs.declared.columns.Columns.{Columns}
 use Rattle.lines.specs.declared.values.Values.{Values}
 use Rattle.lines.specs.declared.values.ValuesLine.{ValuesLine}
 use Rattle.lines.specs.declared.values.ValuesLine.the-variants.{Values as Valued, Bad as BadValues}
-use Rattle.lines.specs.Columns.{columnCount}
 use Rattle.lines.specs.Values.{valuesLine}
 use Rattle.sheet.specs.Direction.{isCode}
 use Rattle.sheet.specs.Refusal.{both}
@@ -26,11 +25,11 @@ takingCells z c = record { stage = TakingCells z c }
 
 -- ---- one line
 
--- a line for the cell x that gets none of 1, 2 and 3, by the sizes in the state, and then none of 8, 9 and 4
+-- a line for the cell x that gets none of 1, 2, 19 and 3, by the sizes in the state, and then none of 8, 9 and 4
 pub record CellLine (z : Sizes) (c : Columns) (line : List ℕ) (x : Cell) (lent : LentSheet) : Type 0 where
   pub state-good : stateFault (TakingCells z c) (length (lent .dirs)) (length (lent .weights)) ≡ 0
   pub values : Values
-  pub line-is : valuesLine columnCount line ≡ Valued values
+  pub line-is : valuesLine c line ≡ Valued values
   pub cell-is : x ≡ cellIn c values
   pub on-sheet : onSheet z x ≡ true
   pub code : isCode (x .dir) ≡ true
@@ -47,7 +46,7 @@ unfolding valuesLine cellIn
 cellsListed c [] = []
 cellsListed c (line ∷ lines) =
     let later : List Cell = cellsListed c lines in
-    withCell c (valuesLine columnCount line) later
+    withCell c (valuesLine c line) later
 
 -- whether a line names the cell in a row and column
 abbrev pub isNamed : ℕ → ℕ → Cell → Bool

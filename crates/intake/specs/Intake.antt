@@ -1,4 +1,4 @@
--- Document 01's intake, with document 02's weights: what a line and the end give in each stage.
+-- Document 01's intake, with document 02's weights, least and split: what a line and the end give in each stage.
 use mathlib.Core.Bool.{cond}
 use mathlib.Core.Option.{Option, none, some}
 use mathlib.Core.List.{List, _++_}
@@ -10,9 +10,8 @@ use Rattle.names.specs.declared.NamesLine.{NamesLine}
 use Rattle.names.specs.declared.NamesLine.the-variants.{Columns as Named, Bad as BadNames}
 use Rattle.lines.specs.declared.values.ValuesLine.{ValuesLine}
 use Rattle.lines.specs.declared.values.ValuesLine.the-variants.{Values as Valued, Bad as BadValues}
-use Rattle.names.specs.Columns.{sizeColumns, weightColumns, cellColumns}
-use Rattle.names.specs.Names.{namesLine}
-use Rattle.lines.specs.Columns.{columnCount, weightCount}
+use Rattle.names.specs.Columns.{weightColumns, cellColumns}
+use Rattle.names.specs.Names.{namesLine, sizeNamesLine}
 use Rattle.lines.specs.Values.{valuesLine}
 use Rattle.sheet.specs.Direction.{cellNumber}
 use Rattle.faults.specs.declared.Sizes.{Sizes}
@@ -94,7 +93,7 @@ unfoldable pub onSizeNames : NamesLine → Taken
 onSizeNames (Named c) = accepted (WaitingForSizes c)
 onSizeNames BadNames = refused WaitingForSizeNames 8
 
--- for a size line 8, then 1, 2, 3
+-- for a size line 8, then 1, 2, 19, 3
 unfoldable pub onSizes : Columns → ValuesLine → LentSheet → After
 unfolding sizesIn sizesFault unless sizesWritten
 onSizes c (Valued v) lent =
@@ -135,8 +134,8 @@ onCells z c (Valued v) lent =
     unless (cellFault z x (lent .dirs)) (TakingCells z c) lent (accept (TakingCells z c) (cellWritten z x lent))
 onCells z c BadValues lent = refuse (TakingCells z c) lent 8
 
--- The sizes, if the state has them, by 1, 2, 3; then 9 if it waits for the weight of a row outside its sheet. An ended
--- state is left to 13, which goes before them.
+-- The sizes, if the state has them, by 1, 2, 19, 3; then 9 if it waits for the weight of a row outside its sheet. An
+-- ended state is left to 13, which goes before them.
 unfoldable pub stateFault : Stage → ℕ → ℕ → ℕ
 unfolding sizesFault rowFault
 stateFault WaitingForSizeNames dirs weights = 0
@@ -149,15 +148,15 @@ stateFault (Ended z) dirs weights = 0
 
 -- the line itself
 unfoldable pub lineIn : Stage → List ℕ → LentSheet → After
-unfolding namesLine valuesLine onSizeNames onSizes onWeightOrCellNames onWeight onCellNames onCells
-lineIn WaitingForSizeNames line lent = keep lent (onSizeNames (namesLine sizeColumns line))
-lineIn (WaitingForSizes c) line lent = onSizes c (valuesLine columnCount line) lent
+unfolding namesLine sizeNamesLine valuesLine onSizeNames onSizes onWeightOrCellNames onWeight onCellNames onCells
+lineIn WaitingForSizeNames line lent = keep lent (onSizeNames (sizeNamesLine line))
+lineIn (WaitingForSizes c) line lent = onSizes c (valuesLine c line) lent
 lineIn (WaitingForWeightOrCellNames z) line lent =
     keep lent (onWeightOrCellNames z (namesLine weightColumns line) (namesLine cellColumns line))
-lineIn (WaitingForWeight z row) line lent = onWeight z row (valuesLine weightCount line) lent
+lineIn (WaitingForWeight z row) line lent = onWeight z row (valuesLine weightColumns line) lent
 lineIn (WaitingForCellNames z) line lent =
     keep lent (onCellNames (WaitingForCellNames z) z (namesLine cellColumns line))
-lineIn (TakingCells z c) line lent = onCells z c (valuesLine columnCount line) lent
+lineIn (TakingCells z c) line lent = onCells z c (valuesLine c line) lent
 lineIn (Ended z) line lent = refuse (Ended z) lent 13
 
 -- a line: the state, then the line

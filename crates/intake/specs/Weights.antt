@@ -7,7 +7,7 @@ use lib.ListN.{length, getD}
 use Rattle.lines.specs.declared.columns.Columns.{Columns}
 use Rattle.lines.specs.declared.values.Values.{Values}
 use Rattle.lines.specs.declared.values.ValuesLine.the-variants.{Values as Valued}
-use Rattle.lines.specs.Columns.{weightCount}
+use Rattle.names.specs.Columns.{weightColumns}
 use Rattle.lines.specs.Values.{valuesLine}
 use Rattle.sheet.specs.Refusal.{weightFits}
 use Rattle.faults.specs.declared.Sizes.{Sizes}
@@ -22,7 +22,7 @@ use Rattle.intake.specs.Intake.{LentSheet, After, firstSet, lineAfter}
 -- what an accepted weight line leaves: its row's weight is its value, from 1 to 1000, and all else is as it was
 pub record OwnWeight (row : ℕ) (line : List ℕ) (lent new : LentSheet) : Type 0 where
   pub values : Values
-  pub line-is : valuesLine weightCount line ≡ Valued values
+  pub line-is : valuesLine weightColumns line ≡ Valued values
   pub fits : weightFits (values .first) ≡ true
   pub own : getD (new .weights) row 0 ≡ values .first
   pub others : (other : ℕ) → (other ≡ row → ⊥) → getD (new .weights) other 0 ≡ getD (lent .weights) other 0

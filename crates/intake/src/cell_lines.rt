@@ -2,7 +2,6 @@
 ghost use mathlib.Core.Path.{_≡_};
 ghost use mathlib.Core.List.{List};
 ghost use Prim.Native.Nat.{ℕ};
-ghost use Rattle.lines.specs.Columns.{columnCount};
 ghost use Rattle.lines.specs.Values.{valuesLine};
 ghost use Rattle.lines.specs.declared.values.ValuesLine.{ValuesLine};
 ghost use Rattle.directions.specs.Sizes.{Sized};
@@ -51,10 +50,10 @@ fn take_cell(sizes: Sizes, columns: Columns, values: Values, dirs: &mut [u8]) ->
 pub fn cell_line(sizes: Sizes, columns: Columns, line: &[u8], dirs: &mut [u8]) -> Taken
     requires { ⌜ Sized (sizes .rows) (sizes .cols) (now dirs) ⌝ }
     ensures { λ r. ⌜ ((weights : List ℕ) → record { taken = r; lent = lentSheet (now (dirs .exit)) weights }
-        ≡ onCells sizes columns (valuesLine columnCount (now (line .entry)))
+        ≡ onCells sizes columns (valuesLine columns (now (line .entry)))
         (lentSheet (now (dirs .entry)) weights)) ⌝ }
 {
-    let ValuesLine::Values(values) = read_values(line, lines::COLUMN_COUNT) else {
+    let ValuesLine::Values(values) = read_values(line, columns) else {
         return answer(Stage::TakingCells(sizes, columns), TakenOutcome::Refused(8));
     };
     take_cell(sizes, columns, values, dirs)

@@ -1,7 +1,7 @@
 // Names lines: those of the sizes, of the weights and of the cells.
 ghost use mathlib.Core.Path.{_≡_};
-ghost use Rattle.names.specs.Columns.{sizeColumns, weightColumns, cellColumns};
-ghost use Rattle.names.specs.Names.{namesLine};
+ghost use Rattle.names.specs.Columns.{weightColumns, cellColumns};
+ghost use Rattle.names.specs.Names.{namesLine, sizeNamesLine};
 ghost use Rattle.intake.specs.Intake.{onSizeNames, onWeightOrCellNames, onCellNames};
 use super::Stage;
 use super::Taken;
@@ -11,7 +11,7 @@ use faults::Sizes;
 use names::NamesLine;
 
 pub fn size_names_line(line: &[u8]) -> Taken
-    ensures { λ r. ⌜ r ≡ onSizeNames (namesLine sizeColumns (now (line .entry))) ⌝ }
+    ensures { λ r. ⌜ r ≡ onSizeNames (sizeNamesLine (now (line .entry))) ⌝ }
 {
     let NamesLine::Columns(columns) = names::read_size_names(line) else {
         return answer(Stage::WaitingForSizeNames, TakenOutcome::Refused(8));

@@ -2,7 +2,6 @@
 ghost use mathlib.Core.Path.{_≡_};
 ghost use Prim.Native.Nat.{_≤_};
 ghost use lib.ListN.{length};
-ghost use Rattle.lines.specs.Columns.{columnCount};
 ghost use Rattle.lines.specs.Values.{valuesLine};
 ghost use Rattle.lines.specs.declared.values.ValuesLine.{ValuesLine};
 ghost use Rattle.intake.specs.Intake.{lentSheet, firstSet, onSizes};
@@ -63,10 +62,10 @@ fn take_sizes(columns: Columns, values: Values, dirs: &mut [u8], weights: &mut [
 
 pub fn sizes_line(columns: Columns, line: &[u8], dirs: &mut [u8], weights: &mut [u16]) -> Taken
     ensures { λ r. ⌜ record { taken = r; lent = lentSheet (now (dirs .exit)) (now (weights .exit)) }
-        ≡ onSizes columns (valuesLine columnCount (now (line .entry)))
+        ≡ onSizes columns (valuesLine columns (now (line .entry)))
         (lentSheet (now (dirs .entry)) (now (weights .entry))) ⌝ }
 {
-    let ValuesLine::Values(values) = read_values(line, lines::COLUMN_COUNT) else {
+    let ValuesLine::Values(values) = read_values(line, columns) else {
         return answer(Stage::WaitingForSizes(columns), TakenOutcome::Refused(8));
     };
     take_sizes(columns, values, dirs, weights)

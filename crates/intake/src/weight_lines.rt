@@ -3,8 +3,8 @@ ghost use mathlib.Core.Path.{_≡_};
 ghost use mathlib.Core.List.{List};
 ghost use Prim.Native.Nat.{ℕ, _<_, _≤_};
 ghost use lib.ListN.{length};
-ghost use Rattle.lines.specs.Columns.{weightCount};
 ghost use Rattle.lines.specs.Values.{valuesLine};
+ghost use Rattle.names.specs.Columns.{weightColumns};
 ghost use Rattle.lines.specs.declared.values.ValuesLine.{ValuesLine};
 ghost use Rattle.intake.specs.Intake.{lentSheet, afterWeights, onWeight};
 use super::Stage;
@@ -50,10 +50,10 @@ pub fn weight_line(sizes: Sizes, row: usize, line: &[u8], weights: &mut [u16]) -
     requires { ⌜ row < sizes .rows ⌝ }
     requires { ⌜ sizes .rows ≤ length (now weights) ⌝ }
     ensures { λ r. ⌜ ((dirs : List ℕ) → record { taken = r; lent = lentSheet dirs (now (weights .exit)) }
-        ≡ onWeight sizes row (valuesLine weightCount (now (line .entry)))
+        ≡ onWeight sizes row (valuesLine weightColumns (now (line .entry)))
         (lentSheet dirs (now (weights .entry)))) ⌝ }
 {
-    let ValuesLine::Values(values) = read_values(line, lines::WEIGHT_COUNT) else {
+    let ValuesLine::Values(values) = read_values(line, names::weight_columns()) else {
         return answer(
             Stage::WaitingForWeight(sizes, row),
             TakenOutcome::Refused(8),

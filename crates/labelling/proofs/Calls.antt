@@ -1,21 +1,22 @@
--- The outcome and the lent slices of a direct call, by which of checks 1 to 3 is passed.
+-- The outcome and the lent slices of a direct call, by which of checks 1, 2, 19 and 3 is passed.
 use mathlib.Core.Path.{_≡_, refl, sym, ap, _∙_}
 use mathlib.Core.Bool.{Bool, true, false, cond}
 use mathlib.Core.List.{List, _++_}
 use Prim.Native.Nat.{ℕ, _*_, _≤_}
 use native.Mathlib.Omega.{arith}
-use lib.Dec.{leb}
+use lib.Dec.{leb, eqb}
 use lib.ListN.{length, take, drop, replicate, length-replicate}
 use lib.Seq.{length-take-le}
-use borrow.Author.Tests.{leb-true, le-leb}
+use borrow.Author.Tests.{leb-true, le-leb, eqb-true}
 use Rattle.sheet.specs.declared.Outcome.{Outcome}
 use Rattle.sheet.specs.declared.Outcome.the-variants.{Accepted, Refused}
 use Rattle.sheet.specs.Sheet.{Sheet, cells}
 use Rattle.sheet.specs.Label.{areasOf, labelsOf}
-use Rattle.sheet.specs.Refusal.{Lent, both, written, sizesFit, depthFits, slicesFit, outcomeFrom17, outcome}
-use Rattle.sheet.specs.Refusal.{outcomeValues, ifAccepted, lentAfter}
+use Rattle.sheet.specs.Refusal.{Lent, both, written, sizesFit, depthFits, leastAndSplitFit, slicesFit, faultOf}
+use Rattle.sheet.specs.Refusal.{outcomeFrom17, outcomeFrom3, outcome, outcomeValues, ifAccepted, lentAfter}
 use Rattle.sheet.proofs.Cells.{cells-most}
-use Rattle.sheet.proofs.Within.{both-true, rows-cols-most, cols-some, depth-most}
+use Rattle.sheet.proofs.Within.{both-true, no-fault, rows-cols-most, cols-some, depth-most, least-bounds}
+use Rattle.sheet.proofs.Within.{split-bounds}
 use Rattle.labelling.specs.Labelling.{checkedFirst, firstChecks, Fitting}
 
 -- rows and columns, within their bounds
@@ -45,7 +46,7 @@ module _ (S : Sheet) (L : Lent) where
   answered e l = (e, (ap outcomeValues e, l))
 
   abbrev fits : Bool
-  fits = both (sizesFit (S .grid .rows) (S .grid .cols)) (both (depthFits (S .depth)) (slicesFit S L))
+  fits = both (eqb (faultOf S) 0) (slicesFit S L)
 
   record Long : Type 0 where
     dirs : cells (S .grid) ≤ length (S .grid .dirs)
@@ -67,56 +68,52 @@ module _ (S : Sheet) (L : Lent) where
           }
       go o e b f = rw (e, f)
 
-  -- checks 1 to 3, by what each test gives
-  record By (a b c : Bool) : Type 0 where
-    sizes : sizesFit (S .grid .rows) (S .grid .cols) ≡ a
-    depth : depthFits (S .depth) ≡ b
-    slices : slicesFit S L ≡ c
-    first : firstChecks S L ≡ cond a (cond b (cond c Accepted (Refused 3 0)) (Refused 2 0)) (Refused 1 0)
-    whole : outcome S L ≡ cond a (cond b (cond c (outcomeFrom17 S) (Refused 3 0)) (Refused 2 0)) (Refused 1 0)
-    fit : fits ≡ both a (both b c)
+  -- checks 1, 2 and 19, then 3, by whether they are passed, and what follows them
+  abbrev inOrder : (a c : Bool) → Outcome → Outcome
+  inOrder a c rest = cond a (cond c rest (Refused 3 0)) (Refused (faultOf S) 0)
 
-  by : {a b c : Bool} → sizesFit (S .grid .rows) (S .grid .cols) ≡ a → depthFits (S .depth) ≡ b
-      → slicesFit S L ≡ c → By a b c
-  unfolding outcome checkedFirst slicesFit
-  by e f g = record {
-    sizes = e;
-    depth = f;
+  record By (a c : Bool) : Type 0 where
+    no-fault : eqb (faultOf S) 0 ≡ a
+    slices : slicesFit S L ≡ c
+    first : firstChecks S L ≡ inOrder a c Accepted
+    whole : outcome S L ≡ inOrder a c (outcomeFrom17 S)
+    fit : fits ≡ both a c
+
+  by : {a c : Bool} → eqb (faultOf S) 0 ≡ a → slicesFit S L ≡ c → By a c
+  unfolding outcome outcomeFrom3 checkedFirst slicesFit
+  by e g = record {
+    no-fault = e;
     slices = g;
-    first = rw (e, f, g);
-    whole = rw (e, f, g);
-    fit = rw (e, f, g);
+    first = rw (e, g);
+    whole = rw (e, g);
+    fit = rw (e, g);
   }
 
   -- refused by one of them
   pub refused : {number place : ℕ} → firstChecks S L ≡ Refused number place → Answered (Refused number place) L
-  refused {number} {place} r =
-      go (sizesFit (S .grid .rows) (S .grid .cols)) (depthFits (S .depth)) (slicesFit S L) (by refl refl refl)
+  refused {number} {place} r = go (eqb (faultOf S) 0) (slicesFit S L) (by refl refl)
     where
       same : {o : Outcome} → firstChecks S L ≡ o → outcome S L ≡ o → fits ≡ false → Answered (Refused number place) L
       same e w f = let o = w ∙ sym e ∙ r in answered (sym o) (lent-kept number place o f)
 
-      go : (a b c : Bool) → By a b c → Answered (Refused number place) L
-      go false b c t = same (t .first) (t .whole) (t .fit)
-      go true false c t = same (t .first) (t .whole) (t .fit)
-      go true true false t = same (t .first) (t .whole) (t .fit)
-      go true true true t =
+      go : (a c : Bool) → By a c → Answered (Refused number place) L
+      go false c t = same (t .first) (t .whole) (t .fit)
+      go true false t = same (t .first) (t .whole) (t .fit)
+      go true true t =
           let a = t .first in
           let z : _≡_ {A = ℕ} 0 1 = cc in absurd (omega arith)
 
   -- all are passed
-  passed : firstChecks S L ≡ Accepted → By true true true
-  passed r =
-      go (sizesFit (S .grid .rows) (S .grid .cols)) (depthFits (S .depth)) (slicesFit S L) (by refl refl refl)
+  passed : firstChecks S L ≡ Accepted → By true true
+  passed r = go (eqb (faultOf S) 0) (slicesFit S L) (by refl refl)
     where
-      clash : {number place : ℕ} → firstChecks S L ≡ Refused number place → By true true true
+      clash : {number place : ℕ} → firstChecks S L ≡ Refused number place → By true true
       clash e = let z : _≡_ {A = ℕ} 0 1 = cc in absurd (omega arith)
 
-      go : (a b c : Bool) → By a b c → By true true true
-      go false b c t = clash (t .first)
-      go true false c t = clash (t .first)
-      go true true false t = clash (t .first)
-      go true true true t = t
+      go : (a c : Bool) → By a c → By true true
+      go false c t = clash (t .first)
+      go true false t = clash (t .first)
+      go true true t = t
 
   module _ (accepted : firstChecks S L ≡ Accepted) where
     -- enough places are lent
@@ -140,11 +137,18 @@ module _ (S : Sheet) (L : Lent) where
           work = leb-true (8 * cells (S .grid)) (length (L .work)) (r .1);
         }
 
+    -- checks 1, 2 and 19
+    sheet-fits : (sizesFit (S .grid .rows) (S .grid .cols) ≡ true) × (depthFits (S .depth) ≡ true)
+        × (leastAndSplitFit (S .least) (S .split) ≡ true)
+    sheet-fits =
+        no-fault (S .grid .rows) (S .grid .cols) (S .depth) (S .least) (S .split)
+        (eqb-true (faultOf S) 0 (passed accepted .no-fault))
+
     pub room : 8 * cells (S .grid) ≤ length (L .work)
     room = long .work
 
     pub sizes-bounded : Bounded (S .grid .rows) (S .grid .cols)
-    sizes-bounded = bounded (S .grid .rows) (S .grid .cols) (passed accepted .sizes)
+    sizes-bounded = bounded (S .grid .rows) (S .grid .cols) (sheet-fits .0)
 
     -- checks 17 and 4 to 7 can begin
     pub fitting : Fitting S
@@ -156,23 +160,24 @@ module _ (S : Sheet) (L : Lent) where
         cols-some = sizes-bounded .cols-some;
         long = long .dirs;
       };
-      depth-most = depth-most (S .depth) (passed accepted .depth);
+      depth-most = depth-most (S .depth) (sheet-fits .1);
+      least-most = least-bounds (S .least) (S .split) (sheet-fits .2) .1;
+      split-some = split-bounds (S .least) (S .split) (sheet-fits .2) .0;
+      split-most = split-bounds (S .least) (S .split) (sheet-fits .2) .1;
       weights = long .weights;
       areas = long .areas;
       labels = long .labels;
       work = length-take-le (8 * cells (S .grid)) (L .work) room;
     }
 
-    -- checks 1 to 3 are passed with exactly the work places that are needed, too
+    -- these checks are passed with exactly the work places that are needed, too
     pub still-passed : firstChecks S
         (record { areas = L .areas; labels = L .labels; work = take (8 * cells (S .grid)) (L .work) }) ≡ Accepted
     unfolding checkedFirst
     still-passed =
         let n = cells (S .grid) in
-        let t = passed accepted in
         rw (
-          t .sizes,
-          t .depth,
+          passed accepted .no-fault,
           length-take-le (8 * n) (L .work) room,
           le-leb n (length (S .grid .dirs)) (long .dirs),
           le-leb (S .grid .rows) (length (S .weights)) (long .weights),

@@ -21,7 +21,7 @@ abbrev sheetOne : LentSheet
 sheetOne = lentSheet (1 ∷ []) (5 ∷ [])
 
 abbrev sizes : Sizes
-sizes = record { rows = 1; cols = 1; depth = 1 }
+sizes = record { rows = 1; cols = 1; depth = 1; least = 1; split = 4 }
 
 pub at-start : intakeOutcome (record { stage = WaitingForSizeNames }) sheetOne one ≡ Refused 15 0
 unfolding intakeOutcome

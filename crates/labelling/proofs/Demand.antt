@@ -1,4 +1,4 @@
--- The third demand, and what the outlet question says, hold of the labels as the calls wrote them.
+-- The statements of specs/Demand.antt hold of the labels as the calls wrote them.
 use mathlib.Core.Path.{_≡_, refl}
 use mathlib.Core.Option.{Option, none, some}
 use mathlib.Core.List.{List}
@@ -11,9 +11,11 @@ use Rattle.faults.specs.declared.Sizes.{Sizes}
 use Rattle.intake.specs.declared.Intake.{Intake}
 use Rattle.intake.specs.Intake.{LentSheet, endedSizes}
 use Rattle.claims.proofs.Theorems.{demand-three}
-use Rattle.claims.proofs.FlowMeaning.{outlet-flow-meaning}
+use Rattle.claims.proofs.AsBefore.{as-before}
+use Rattle.claims.proofs.FlowMeaning.{flow-meaning, outlet-flow-meaning}
 use Rattle.labelling.specs.FromIntake.{sheetOf, outcomeWith, lentWith, intakeOutcome, intakeLent}
-use Rattle.labelling.specs.Demand.{LabelledDirectly, OfIntake, ForAllAccepted, DemandThreeWhole, OutletFlowWhole}
+use Rattle.labelling.specs.Demand.{LabelledDirectly, OfIntake, ForAllAccepted, DemandThreeWhole, FlowWhole}
+use Rattle.labelling.specs.Demand.{AsBeforeWhole, OutletFlowWhole}
 
 -- what holds of every accepted sheet and the labels that the definition writes, holds however it is labelled
 module _ (Statement : Sheet → List ℕ → Type 0)
@@ -40,6 +42,12 @@ module _ (Statement : Sheet → List ℕ → Type 0)
 
 pub demand-three-whole : DemandThreeWhole
 demand-three-whole = for-all-accepted _ demand-three
+
+pub flow-whole : FlowWhole
+flow-whole = for-all-accepted _ flow-meaning
+
+pub as-before-whole : AsBeforeWhole
+as-before-whole = for-all-accepted _ as-before
 
 pub outlet-flow-whole : OutletFlowWhole
 outlet-flow-whole = for-all-accepted _ outlet-flow-meaning

@@ -5,7 +5,7 @@ use Prim.Native.Nat.{ℕ}
 use native.Mathlib.Nat.{zero-add}
 use Rattle.sheet.specs.declared.Outcome.the-variants.{Accepted}
 use Rattle.sheet.specs.Sheet.{Sheet, cells, next}
-use Rattle.sheet.specs.River.{network, least, split}
+use Rattle.sheet.specs.River.{network}
 use Rattle.sheet.specs.Label.{areasOf}
 use Rattle.sheet.specs.Refusal.{Lent, outcome, written, lentAfter}
 use Rattle.claims.specs.Demand.{Inside, digitsAt}
@@ -25,7 +25,7 @@ unfolding network
 labels-in-order S L old {queued = queued} accepted e r =
     let B = the-basin S L accepted in
     let same = network-in S old e in
-    let laid = rw same at (r .layout-of (least S) (split S)) in
+    let laid = rw same at (r .layout-of (S .least) (S .split)) in
     let some = some-cell S (checks S L accepted .rest) same r in
     let whole = rw (r .outlet-first, r .whole, zero-add queued) at
     (river-in-order (r .layout) (lawful (B .forest)) laid (S .depth) 0 some) in

@@ -12,7 +12,7 @@ use borrow.Rule.Slice.PartMut.{putMid, midOf, postOf, mid-len, same-len-mid}
 use Rattle.sheet.specs.declared.Outcome.the-variants.{Accepted, Refused}
 use Rattle.sheet.specs.Sheet.{Grid, Sheet, cells, inside}
 use Rattle.sheet.specs.Area.{area}
-use Rattle.sheet.specs.River.{network, networkBy, least, split, river}
+use Rattle.sheet.specs.River.{network, networkBy, river}
 use Rattle.sheet.specs.Label.{areasOf, labelsOf, outlet, holds, label, number}
 use Rattle.sheet.specs.Refusal.{Lent, written, weightsFit, outcomeOn, outcomeFrom17}
 use Rattle.claims.specs.Basin.{Basin}
@@ -58,10 +58,10 @@ module _ (S : Sheet) where
 
   -- so the network by them is the sheet's
   pub network-in : {areas : List ℕ} (old : List ℕ) → areas ≡ written (areasOf S) old
-      → networkIn (S .grid) areas (least S) (split S) ≡ network S
+      → networkIn (S .grid) areas (S .least) (S .split) ≡ network S
   unfolding network
   network-in old e =
-      ap (λ (f : ℕ → ℕ). networkBy (S .grid) f (least S) (split S)) (ap (areaIn (cells (S .grid))) e ∙ areas-in old)
+      ap (λ (f : ℕ → ℕ). networkBy (S .grid) f (S .least) (S .split)) (ap (areaIn (cells (S .grid))) e ∙ areas-in old)
 
 pub queued-most : {G : Grid} {work : List ℕ} {queued : ℕ} → Drained G work queued → queued ≤ cells G
 queued-most d = queue-most (d .searched .upstream .queue)
@@ -106,31 +106,32 @@ part-is a q work = let e : a + q - a ≡ q = omega arith in ap (λ (k : ℕ). ta
 the-basin : (S : Sheet) → outcomeOn (S .grid) ≡ Accepted
     → Basin (network S) (λ c. inside (S .grid) c ≡ true) (outlet (S .grid))
 unfolding network
-the-basin S accepted = basin (S .grid) (passed-on (S .grid) accepted) (area S) (least S) (split S)
+the-basin S accepted = basin (S .grid) (passed-on (S .grid) accepted) (area S) (S .least) (S .split)
 
 -- what labelling a basin asks
 module _ (S : Sheet) {areas work : List ℕ} {queued : ℕ} (accepted : outcomeOn (S .grid) ≡ Accepted)
-    (same : networkIn (S .grid) areas (least S) (split S) ≡ network S) (r : Arranged (S .grid) areas work queued) where
+    (same : networkIn (S .grid) areas (S .least) (S .split) ≡ network S)
+    (r : Arranged (S .grid) areas work queued) where
   abbrev cell : List ℕ
   cell = cellsIn (cells (S .grid)) work queued
 
   abbrev size : List ℕ
   size = sizesIn (cells (S .grid)) work queued
 
-  pub network-of : NetworkOf cell size areas (split S) (least S)
+  pub network-of : NetworkOf cell size areas (S .split) (S .least)
   network-of = record {
     network = network S;
     lawful = lawful (the-basin S accepted .forest);
-    laid-out = rw same at (r .layout-of (least S) (split S));
+    laid-out = rw same at (r .layout-of (S .least) (S .split));
   }
 
-  pub places : (n m : ℕ) → cells (S .grid) ≤ n → cells (S .grid) ≤ m → Places cell size n m (split S)
-  unfolding split
-  places n m a l = record {
+  pub places : (n m : ℕ) → cells (S .grid) ≤ n → cells (S .grid) ≤ m → 1 ≤ S .split → S .split ≤ 4
+      → Places cell size n m (S .split)
+  places n m a l some most = record {
     for-areas = layout-more a (r .layout);
     for-labels = layout-more l (r .layout);
-    split-some = omega arith;
-    split-most = omega arith;
+    split-some = some;
+    split-most = most;
   }
 
   pub some-cell : 0 < length cell
@@ -139,7 +140,7 @@ module _ (S : Sheet) {areas work : List ℕ} {queued : ℕ} (accepted : outcomeO
   -- the labels that a basin's river gets are those of the sheet
   pub labels-written : (labels : List ℕ) {labels′ labels″ : List ℕ} → cells (S .grid) ≤ length labels
       → labels′ ≡ written (replicate (cells (S .grid)) 0) labels
-      → ((n : NetworkOf cell size areas (split S) (least S))
+      → ((n : NetworkOf cell size areas (S .split) (S .least))
       → labels″ ≡ relabelled (holds (n .network) (river (n .network) (getD cell 0 0)))
       (λ c. number (label (n .network) (S .depth) (river (n .network) (getD cell 0 0)) c)) labels′)
       → labels″ ≡ written (labelsOf S) labels
@@ -183,6 +184,9 @@ other-work f e =
     record {
       sized = f .sized;
       depth-most = f .depth-most;
+      least-most = f .least-most;
+      split-some = f .split-some;
+      split-most = f .split-most;
       weights = f .weights;
       areas = f .areas;
       labels = f .labels;

@@ -1,5 +1,5 @@
--- The third demand, and what the outlet question says, about the labels as the calls wrote them: directly, and from an
--- intake.
+-- The third demand, what the flow question and the outlet question say, and the labels of document 01, about the labels
+-- as the calls wrote them: directly, and from an intake.
 use mathlib.Core.Path.{_≡_}
 use mathlib.Core.Option.{some}
 use mathlib.Core.List.{List}
@@ -10,8 +10,9 @@ use Rattle.sheet.specs.Refusal.{Lent, outcome, lentAfter}
 use Rattle.faults.specs.declared.Sizes.{Sizes}
 use Rattle.intake.specs.declared.Intake.{Intake}
 use Rattle.intake.specs.Intake.{LentSheet, endedSizes}
-use Rattle.claims.specs.Demand.{DemandThreeOf}
-use Rattle.claims.specs.Flow.{OutletFlowMeaning}
+use Rattle.claims.specs.Demand.{Inside, DemandThreeOf}
+use Rattle.claims.specs.AsBefore.{AsBefore}
+use Rattle.claims.specs.Flow.{FlowMeaning, OutletFlowMeaning}
 use Rattle.labelling.specs.FromIntake.{sheetOf, intakeOutcome, intakeLent}
 
 -- what the contract of `label` promises of an accepted call: L was lent, and L′ is what the slices hold afterwards
@@ -36,9 +37,17 @@ pub record ForAllAccepted (Statement : Sheet → List ℕ → Type 0) : Type 1 w
   pub from-intake : (i : Intake) (T : LentSheet) (L L′ : Lent) → LabelledFrom i T L L′
       → OfIntake Statement i T (L′ .labels)
 
--- the third demand, weighted sheets included
+-- the third demand, for all weights, least and split together
 abbrev pub DemandThreeWhole : Type 1
 DemandThreeWhole = ForAllAccepted DemandThreeOf
+
+-- what the flow question says, told the sheet's own least
+abbrev pub FlowWhole : Type 1
+FlowWhole = ForAllAccepted (λ S labels. (p q : ℕ) → Inside S p → Inside S q → FlowMeaning S labels p q)
+
+-- least 1 and split 4 give the labels of document 01
+abbrev pub AsBeforeWhole : Type 1
+AsBeforeWhole = ForAllAccepted AsBefore
 
 -- flow to a unit's outlet: exactly under the digit rule, and exactly if the outlet question says Yes
 abbrev pub OutletFlowWhole : Type 1

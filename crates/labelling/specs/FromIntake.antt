@@ -11,7 +11,7 @@ use Rattle.labelling.specs.Labelling.{sheet}
 
 -- the sheet of an intake's sizes z, with the direction bytes and weights T that were lent to it
 abbrev pub sheetOf : Sizes → LentSheet → Sheet
-sheetOf z T = sheet (z .rows) (z .cols) (z .depth) (T .dirs) (T .weights)
+sheetOf z T = sheet (z .rows) (z .cols) (z .depth) (z .least) (z .split) (T .dirs) (T .weights)
 
 unfoldable pub outcomeWith : Option Sizes → LentSheet → Lent → Outcome
 unfolding outcome

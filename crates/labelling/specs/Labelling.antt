@@ -3,42 +3,52 @@ use mathlib.Core.Path.{_≡_}
 use mathlib.Core.Bool.{cond}
 use mathlib.Core.List.{List}
 use Prim.Native.Nat.{ℕ, _*_, _≤_}
-use lib.Dec.{leb}
+use lib.Dec.{leb, eqb}
 use lib.ListN.{length}
 use Rattle.sheet.specs.Sheet.{Sheet, grid, cells}
 use Rattle.directions.specs.Sizes.{Sized}
 use Rattle.sheet.specs.Label.{areasOf, labelsOf}
-use Rattle.sheet.specs.Refusal.{Lent, both, sizesFit, depthFits, outcomeFrom17, ifAccepted}
+use Rattle.sheet.specs.Refusal.{Lent, both, sheetFault, outcomeFrom17, ifAccepted}
 use Rattle.sheet.specs.declared.Outcome.{Outcome}
 use Rattle.sheet.specs.declared.Outcome.the-variants.{Accepted, Refused}
 use Rattle.upstream.specs.Search.{Drained, SingleOutlet}
 use Rattle.drainage.specs.declared.Inspection.{Inspection}
 use Rattle.order.specs.Places.{Arranged}
 
-abbrev pub sheet : ℕ → ℕ → ℕ → List ℕ → List ℕ → Sheet
-sheet rows cols depth dirs weights = record { grid = grid rows cols dirs; depth = depth; weights = weights }
+abbrev pub sheet : ℕ → ℕ → ℕ → ℕ → ℕ → List ℕ → List ℕ → Sheet
+sheet rows cols depth least split dirs weights = record {
+  grid = grid rows cols dirs;
+  depth = depth;
+  least = least;
+  split = split;
+  weights = weights;
+}
 
 abbrev pub lent : List ℕ → List ℕ → List ℕ → Lent
 lent areas labels work = record { areas = areas; labels = labels; work = work }
 
--- checks 1, 2 and 3, in this order; of the slices only the lengths count
-unfoldable pub checkedFirst : ℕ → ℕ → ℕ → ℕ → ℕ → ℕ → ℕ → ℕ → Outcome
-unfolding sizesFit depthFits
-checkedFirst rows cols depth dirs weights areas labels work =
+-- checks 1, 2, 19 and 3, in this order; of the slices only the lengths count
+unfoldable pub checkedFirst : ℕ → ℕ → ℕ → ℕ → ℕ → ℕ → ℕ → ℕ → ℕ → ℕ → Outcome
+unfolding sheetFault
+checkedFirst rows cols depth least split dirs weights areas labels work =
     let n = rows * cols in
     let written = both (leb n areas) (both (leb n labels) (leb (8 * n) work)) in
     let fit = both (leb n dirs) (both (leb rows weights) written) in
-    cond (sizesFit rows cols) (cond (depthFits depth) (cond fit Accepted (Refused 3 0)) (Refused 2 0)) (Refused 1 0)
+    let fault : ℕ = sheetFault rows cols depth least split in
+    cond (eqb fault 0) (cond fit Accepted (Refused 3 0)) (Refused fault 0)
 
 abbrev pub firstChecks : Sheet → Lent → Outcome
 firstChecks S L =
-    checkedFirst (S .grid .rows) (S .grid .cols) (S .depth) (length (S .grid .dirs)) (length (S .weights))
-    (length (L .areas)) (length (L .labels)) (length (L .work))
+    checkedFirst (S .grid .rows) (S .grid .cols) (S .depth) (S .least) (S .split) (length (S .grid .dirs))
+    (length (S .weights)) (length (L .areas)) (length (L .labels)) (length (L .work))
 
--- checks 1 to 3 are passed, and exactly the work places that are needed are lent
+-- checks 1, 2, 19 and 3 are passed, and exactly the work places that are needed are lent
 pub record Fitting (S : Sheet) (L : Lent) : Type 0 where
   pub sized : Sized (S .grid .rows) (S .grid .cols) (S .grid .dirs)
   pub depth-most : S .depth ≤ 18
+  pub least-most : S .least ≤ 65536000
+  pub split-some : 1 ≤ S .split
+  pub split-most : S .split ≤ 4
   pub weights : S .grid .rows ≤ length (S .weights)
   pub areas : cells (S .grid) ≤ length (L .areas)
   pub labels : cells (S .grid) ≤ length (L .labels)

@@ -40,6 +40,8 @@ pub fn label_intake(
                 sizes.rows,
                 sizes.cols,
                 sizes.depth,
+                sizes.least,
+                sizes.split,
                 dirs,
                 weights,
                 areas,

@@ -17,11 +17,6 @@ ghost use Rattle.labelling.specs.Labelling.{sheet, lent, checkedFirst, F
 ghost use Rattle.labelling.specs.Labelling.{LabelledInOrder};
 ghost use Rattle.order.specs.Places.{Arranged};
 
-// How many mouths of a unit are taken, and the least area of a mouth that counts.
-const SPLIT: usize = 4;
-
-const LEAST_AREA: u32 = 1;
-
 // Sets all places to 0.
 pub fn clear_places(places: &mut [u32])
     ensures { λ _. ⌜ now (places .exit) ≡ replicate (length (now (places .entry))) 0 ⌝ }
@@ -46,6 +41,8 @@ fn write_labels(
     rows: usize,
     cols: usize,
     depth: usize,
+    least: usize,
+    split: usize,
     dirs: &[u8],
     weights: &[u16],
     queued: usize,
@@ -53,13 +50,14 @@ fn write_labels(
     labels: &mut [u64],
     work: &mut [u32],
 )
-    requires { ⌜ Fitting (sheet rows cols depth (now dirs) (now weights)) (lent (now areas) (now labels) (now work)) ⌝ }
-    requires { ⌜ Inspected (sheet rows cols depth (now dirs) (now weights)) (now work) queued ⌝ }
+    requires { ⌜ Fitting (sheet rows cols depth least split (now dirs) (now weights))
+        (lent (now areas) (now labels) (now work)) ⌝ }
+    requires { ⌜ Inspected (sheet rows cols depth least split (now dirs) (now weights)) (now work) queued ⌝ }
     ensures areas { λ _. ⌜ now (areas .exit)
-        ≡ written (areasOf (sheet rows cols depth (now (dirs .entry)) (now (weights .entry))))
+        ≡ written (areasOf (sheet rows cols depth least split (now (dirs .entry)) (now (weights .entry))))
         (now (areas .entry)) ⌝ }
     ensures labels { λ _. ⌜ now (labels .exit)
-        ≡ written (labelsOf (sheet rows cols depth (now (dirs .entry)) (now (weights .entry))))
+        ≡ written (labelsOf (sheet rows cols depth least split (now (dirs .entry)) (now (weights .entry))))
         (now (labels .entry)) ⌝ }
     ensures order { λ _. ⌜ Arranged (grid rows cols (now (dirs .entry))) (now (areas .exit))
         (now (work .exit)) queued ⌝ }
@@ -74,8 +72,8 @@ fn write_labels(
     let sizes_end = sizes + queued;
     rivers::units::label_basin(
         depth,
-        SPLIT,
-        LEAST_AREA,
+        split,
+        least as u32,
         &work[cells..cells_end],
         &work[sizes..sizes_end],
         areas,
@@ -89,21 +87,26 @@ fn write_if_accepted(
     rows: usize,
     cols: usize,
     depth: usize,
+    least: usize,
+    split: usize,
     dirs: &[u8],
     weights: &[u16],
     areas: &mut [u32],
     labels: &mut [u64],
     work: &mut [u32],
 )
-    requires { ⌜ Fitting (sheet rows cols depth (now dirs) (now weights)) (lent (now areas) (now labels) (now work)) ⌝ }
+    requires { ⌜ Fitting (sheet rows cols depth least split (now dirs) (now weights))
+        (lent (now areas) (now labels) (now work)) ⌝ }
     requires { ⌜ (found .outcome
         ≡ Outcome.Accepted
-        → Inspected (sheet rows cols depth (now dirs) (now weights)) (now work) (found .queued)) ⌝ }
+        → Inspected (sheet rows cols depth least split (now dirs) (now weights)) (now work) (found .queued)) ⌝ }
     ensures areas { λ _. ⌜ now (areas .exit)
-        ≡ ifAccepted (found .outcome) (areasOf (sheet rows cols depth (now (dirs .entry)) (now (weights .entry))))
+        ≡ ifAccepted (found .outcome) (areasOf (sheet rows cols depth least split (now (dirs .entry))
+        (now (weights .entry))))
         (now (areas .entry)) ⌝ }
     ensures labels { λ _. ⌜ now (labels .exit)
-        ≡ ifAccepted (found .outcome) (labelsOf (sheet rows cols depth (now (dirs .entry)) (now (weights .entry))))
+        ≡ ifAccepted (found .outcome) (labelsOf (sheet rows cols depth least split (now (dirs .entry))
+        (now (weights .entry))))
         (now (labels .entry)) ⌝ }
     ensures order { λ _. ⌜ (found .outcome
         ≡ Outcome.Accepted
@@ -117,6 +120,8 @@ fn write_if_accepted(
                 rows,
                 cols,
                 depth,
+                least,
+                split,
                 dirs,
                 weights,
                 queued,
@@ -129,7 +134,7 @@ fn write_if_accepted(
     }
 }
 
-// Check 17, then 4 to 7, of a sheet that passed checks 1 to 3.
+// Check 17, then 4 to 7, of a sheet that passed the checks before.
 fn inspect_sheet(
     rows: usize,
     cols: usize,
@@ -138,7 +143,8 @@ fn inspect_sheet(
     work: &mut [u32],
 ) -> Inspection
     requires { ⌜ Sized rows cols (now dirs) × (rows ≤ length (now weights)) × Unranked (rows * cols) (now work) ⌝ }
-    ensures { λ r. ⌜ ((depth : ℕ) → InspectedAs (sheet rows cols depth (now (dirs .entry)) (now (weights .entry)))
+    ensures { λ r. ⌜ ((depth least split : ℕ) → InspectedAs
+        (sheet rows cols depth least split (now (dirs .entry)) (now (weights .entry)))
         (now (work .exit)) r) ⌝ }
 {
     if checks::weights_fit(weights, rows) {
@@ -150,20 +156,23 @@ fn inspect_sheet(
     }
 }
 
-// Labels a sheet that passed checks 1 to 3. Of an accepted sheet the order along rivers is left in the work places,
+// Labels a sheet that passed the first checks. Of an accepted sheet the order along rivers is left in the work places,
 // with the number of its cells.
 pub fn label_in_order(
     rows: usize,
     cols: usize,
     depth: usize,
+    least: usize,
+    split: usize,
     dirs: &[u8],
     weights: &[u16],
     areas: &mut [u32],
     labels: &mut [u64],
     work: &mut [u32],
 ) -> Inspection
-    requires { ⌜ Fitting (sheet rows cols depth (now dirs) (now weights)) (lent (now areas) (now labels) (now work)) ⌝ }
-    ensures { λ r. ⌜ LabelledInOrder (sheet rows cols depth (now (dirs .entry)) (now (weights .entry)))
+    requires { ⌜ Fitting (sheet rows cols depth least split (now dirs) (now weights))
+        (lent (now areas) (now labels) (now work)) ⌝ }
+    ensures { λ r. ⌜ LabelledInOrder (sheet rows cols depth least split (now (dirs .entry)) (now (weights .entry)))
         (lent (now (areas .entry)) (now (labels .entry)) (now (work .entry)))
         (lent (now (areas .exit)) (now (labels .exit)) (now (work .exit))) r ⌝ }
 {
@@ -172,32 +181,59 @@ pub fn label_in_order(
     let end = ranks + n;
     clear_places(&mut work[ranks..end]);
     let found = inspect_sheet(rows, cols, dirs, weights, work);
-    write_if_accepted(found, rows, cols, depth, dirs, weights, areas, labels, work);
+    write_if_accepted(
+        found,
+        rows,
+        cols,
+        depth,
+        least,
+        split,
+        dirs,
+        weights,
+        areas,
+        labels,
+        work,
+    );
     found
 }
 
-// Labels a sheet that passed checks 1 to 3. The work places are 0 afterwards.
+// Labels a sheet that passed the first checks. The work places are 0 afterwards.
 fn label_fitting(
     rows: usize,
     cols: usize,
     depth: usize,
+    least: usize,
+    split: usize,
     dirs: &[u8],
     weights: &[u16],
     areas: &mut [u32],
     labels: &mut [u64],
     work: &mut [u32],
 ) -> Outcome
-    requires { ⌜ Fitting (sheet rows cols depth (now dirs) (now weights)) (lent (now areas) (now labels) (now work)) ⌝ }
-    ensures outcome { λ r. ⌜ r ≡ outcomeFrom17 (sheet rows cols depth (now (dirs .entry)) (now (weights .entry))) ⌝ }
+    requires { ⌜ Fitting (sheet rows cols depth least split (now dirs) (now weights))
+        (lent (now areas) (now labels) (now work)) ⌝ }
+    ensures outcome { λ r. ⌜ r ≡ outcomeFrom17 (sheet rows cols depth least split (now (dirs .entry))
+        (now (weights .entry))) ⌝ }
     ensures areas { λ r. ⌜ now (areas .exit)
-        ≡ ifAccepted r (areasOf (sheet rows cols depth (now (dirs .entry)) (now (weights .entry))))
+        ≡ ifAccepted r (areasOf (sheet rows cols depth least split (now (dirs .entry)) (now (weights .entry))))
         (now (areas .entry)) ⌝ }
     ensures labels { λ r. ⌜ now (labels .exit)
-        ≡ ifAccepted r (labelsOf (sheet rows cols depth (now (dirs .entry)) (now (weights .entry))))
+        ≡ ifAccepted r (labelsOf (sheet rows cols depth least split (now (dirs .entry)) (now (weights .entry))))
         (now (labels .entry)) ⌝ }
     ensures work { λ _. ⌜ now (work .exit) ≡ replicate (8 * (rows * cols)) 0 ⌝ }
 {
-    let found = label_in_order(rows, cols, depth, dirs, weights, areas, labels, work);
+    let found = label_in_order(
+        rows,
+        cols,
+        depth,
+        least,
+        split,
+        dirs,
+        weights,
+        areas,
+        labels,
+        work,
+    );
     clear_places(work);
     found.outcome
 }
@@ -231,58 +267,60 @@ fn slices_fit(
     8 * n <= work
 }
 
-// Checks 1, 2 and 3, in this order, of a sheet's sizes, its depth and the lengths of its slices.
+// Checks 1, 2, 19 and 3, in this order, of a sheet's numbers and the lengths of its slices.
 pub fn first_checks(
     rows: usize,
     cols: usize,
     depth: usize,
+    least: usize,
+    split: usize,
     dirs: usize,
     weights: usize,
     areas: usize,
     labels: usize,
     work: usize,
 ) -> Outcome
-    ensures { λ r. ⌜ r ≡ checkedFirst rows cols depth dirs weights areas labels work ⌝ }
+    ensures { λ r. ⌜ r ≡ checkedFirst rows cols depth least split dirs weights areas labels work ⌝ }
 {
-    let sizes_fit = checks::sizes_fit(rows, cols);
-    let depth_fits = checks::depth_fits(depth);
-    if sizes_fit {
-        if depth_fits {
-            if slices_fit(rows * cols, rows, dirs, weights, areas, labels, work) {
-                return Outcome::Accepted;
-            }
-            return Outcome::Refused(3, 0);
+    let fault = checks::sheet_fault(rows, cols, depth, least, split);
+    if fault == 0 {
+        if slices_fit(rows * cols, rows, dirs, weights, areas, labels, work) {
+            return Outcome::Accepted;
         }
-        return Outcome::Refused(2, 0);
+        return Outcome::Refused(3, 0);
     }
-    Outcome::Refused(1, 0)
+    Outcome::Refused(fault, 0)
 }
 
-// Labels a sheet, whose weights are one a row: refusals 1, 2, 3, 17, 4, 5, 6 and 7, in this order, with their numbers
-// and places; accepted, the first rows × cols areas and labels are written.
+// Labels a sheet, whose weights are one a row: refusals 1, 2, 19, 3, 17, 4, 5, 6 and 7, in this order, with their
+// numbers and places; accepted, the first rows × cols areas and labels are written.
 pub fn label(
     rows: usize,
     cols: usize,
     depth: usize,
+    least: usize,
+    split: usize,
     dirs: &[u8],
     weights: &[u16],
     areas: &mut [u32],
     labels: &mut [u64],
     work: &mut [u32],
 ) -> Outcome
-    ensures outcome { λ r. ⌜ r ≡ outcome (sheet rows cols depth (now (dirs .entry)) (now (weights .entry)))
+    ensures outcome { λ r. ⌜ r ≡ outcome (sheet rows cols depth least split (now (dirs .entry)) (now (weights .entry)))
         (lent (now (areas .entry)) (now (labels .entry)) (now (work .entry))) ⌝ }
     ensures values { λ r. ⌜ outcomeValues r
-        ≡ outcomeValues (outcome (sheet rows cols depth (now (dirs .entry)) (now (weights .entry)))
+        ≡ outcomeValues (outcome (sheet rows cols depth least split (now (dirs .entry)) (now (weights .entry)))
         (lent (now (areas .entry)) (now (labels .entry)) (now (work .entry)))) ⌝ }
     ensures lent { λ _. ⌜ lent (now (areas .exit)) (now (labels .exit)) (now (work .exit))
-        ≡ lentAfter (sheet rows cols depth (now (dirs .entry)) (now (weights .entry)))
+        ≡ lentAfter (sheet rows cols depth least split (now (dirs .entry)) (now (weights .entry)))
         (lent (now (areas .entry)) (now (labels .entry)) (now (work .entry))) ⌝ }
 {
     match first_checks(
         rows,
         cols,
         depth,
+        least,
+        split,
         dirs.len(),
         weights.len(),
         areas.len(),
@@ -295,6 +333,8 @@ pub fn label(
                 rows,
                 cols,
                 depth,
+                least,
+                split,
                 dirs,
                 weights,
                 areas,

@@ -86,7 +86,7 @@ module _ (S : Sheet) (L : Lent) (I : LentIndex) (total : ℕ) (D : List ℕ) whe
     unfolding lentAfterLevy totalFits
     lent-then = rw (le-leb _ _ fits) refl
 
-    -- by checks 1 to 3
+    -- by the first checks
     pub refused-first : {number place : ℕ} → firstChecks S L ≡ NotLabelled number place
         → Answered (Refused number place) L I D
     unfolding withDues
@@ -154,7 +154,7 @@ module _ (S : Sheet) (L : Lent) (I : LentIndex) (total : ℕ) (D : List ℕ) whe
               (part-written new (I .labels) most few (omega (arith, shorter)))
           go (Refused number place) e h = glued h ∙ whole (take-append-drop most (I .labels))
 
-      -- after checks 1 to 3
+      -- after the first checks
       pub levied-after : firstChecks S L ≡ Accepted
           → {areas labels work units′ outlets counts D′ : List ℕ} {r : Indexed}
           → IndexedFitting S (lent (L .areas) (L .labels) (take (8 * cells (S .grid)) (L .work)))

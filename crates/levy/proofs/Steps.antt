@@ -44,7 +44,7 @@ pub record Lengths (S : Sheet) (L′ : Lent) (I I′ : LentIndex) (dues : List �
   pub counts : length (I′ .counts) ≡ length (I .counts)
   pub dues-room : length (I .labels) ≤ length dues
 
--- ---- a sheet that passed checks 1 to 3, after labelling and the index call
+-- ---- a sheet that passed the first checks, after labelling and the index call
 module _ (S : Sheet) (L : Lent) (passed : firstChecks S L ≡ Accepted) (fit : Fitting S L) {L′ : Lent}
     {found : Inspection} (o : LabelledInOrder S L L′ found) {I I′ : LentIndex} {r : Indexed}
     (f : IndexedFitting S L (lent (L′ .areas) (L′ .labels) (replicate (8 * cells (S .grid)) 0)) I I′ r) where

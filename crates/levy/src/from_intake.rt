@@ -60,6 +60,8 @@ pub fn levy_intake(
                 sizes.rows,
                 sizes.cols,
                 sizes.depth,
+                sizes.least,
+                sizes.split,
                 dirs,
                 weights,
                 areas,

@@ -16,12 +16,14 @@ ghost use Rattle.dues.specs.Levy.{duesAfter};
 // The greatest total, in cents.
 pub const GREATEST_TOTAL: u64 = 100000000000;
 
-// Labels a sheet that passed checks 1 to 3, and fills the index of its units and their dues. The work places are 0
+// Labels a sheet that passed the first checks, and fills the index of its units and their dues. The work places are 0
 // afterwards.
 fn levy_fitting(
     rows: usize,
     cols: usize,
     depth: usize,
+    least: usize,
+    split: usize,
     dirs: &[u8],
     weights: &[u16],
     areas: &mut [u32],
@@ -33,20 +35,33 @@ fn levy_fitting(
     total: u64,
     dues: &mut [u64],
 ) -> Indexed
-    requires { ⌜ Fitting (sheet rows cols depth (now dirs) (now weights)) (lent (now areas) (now labels) (now work)) ⌝ }
-    requires { ⌜ firstChecks (sheet rows cols depth (now dirs) (now weights)) (lent (now areas) (now labels) (now work))
+    requires { ⌜ Fitting (sheet rows cols depth least split (now dirs) (now weights))
+        (lent (now areas) (now labels) (now work)) ⌝ }
+    requires { ⌜ firstChecks (sheet rows cols depth least split (now dirs) (now weights))
+        (lent (now areas) (now labels) (now work))
         ≡ Outcome.Accepted ⌝ }
     requires { ⌜ (total ≤ greatestTotal) × (length (now units) ≤ length (now dues)) ⌝ }
-    ensures index { λ r. ⌜ IndexedFitting (sheet rows cols depth (now (dirs .entry)) (now (weights .entry)))
+    ensures index { λ r. ⌜ IndexedFitting (sheet rows cols depth least split (now (dirs .entry)) (now (weights .entry)))
         (lent (now (areas .entry)) (now (labels .entry)) (now (work .entry)))
         (lent (now (areas .exit)) (now (labels .exit)) (now (work .exit)))
         (lentIndex (now (units .entry)) (now (outlets .entry)) (now (counts .entry)))
         (lentIndex (now (units .exit)) (now (outlets .exit)) (now (counts .exit))) r ⌝ }
     ensures dues { λ r. ⌜ now (dues .exit)
-        ≡ ifLevied r (duesOf (sheet rows cols depth (now (dirs .entry)) (now (weights .entry))) total)
+        ≡ ifLevied r (duesOf (sheet rows cols depth least split (now (dirs .entry)) (now (weights .entry))) total)
         (now (dues .entry)) ⌝ }
 {
-    let found = labelling::label_in_order(rows, cols, depth, dirs, weights, areas, labels, work);
+    let found = labelling::label_in_order(
+        rows,
+        cols,
+        depth,
+        least,
+        split,
+        dirs,
+        weights,
+        areas,
+        labels,
+        work,
+    );
     let n = rows * cols;
     let answer = index::index_in_order(found, n, work, labels, units, outlets, counts);
     let queued = found.queued;
@@ -83,6 +98,8 @@ pub fn levy(
     rows: usize,
     cols: usize,
     depth: usize,
+    least: usize,
+    split: usize,
     dirs: &[u8],
     weights: &[u16],
     areas: &mut [u32],
@@ -94,22 +111,22 @@ pub fn levy(
     total: u64,
     dues: &mut [u64],
 ) -> Indexed
-    ensures answer { λ r. ⌜ r ≡ levied (sheet rows cols depth (now (dirs .entry)) (now (weights .entry)))
+    ensures answer { λ r. ⌜ r ≡ levied (sheet rows cols depth least split (now (dirs .entry)) (now (weights .entry)))
         (lent (now (areas .entry)) (now (labels .entry)) (now (work .entry)))
         (lentIndex (now (units .entry)) (now (outlets .entry)) (now (counts .entry))) total (now (dues .entry)) ⌝ }
     ensures values { λ r. ⌜ indexedValues r
-        ≡ indexedValues (levied (sheet rows cols depth (now (dirs .entry)) (now (weights .entry)))
+        ≡ indexedValues (levied (sheet rows cols depth least split (now (dirs .entry)) (now (weights .entry)))
         (lent (now (areas .entry)) (now (labels .entry)) (now (work .entry)))
         (lentIndex (now (units .entry)) (now (outlets .entry)) (now (counts .entry))) total (now (dues .entry))) ⌝ }
     ensures lent { λ _. ⌜ lent (now (areas .exit)) (now (labels .exit)) (now (work .exit))
-        ≡ lentAfterLevy (sheet rows cols depth (now (dirs .entry)) (now (weights .entry)))
+        ≡ lentAfterLevy (sheet rows cols depth least split (now (dirs .entry)) (now (weights .entry)))
         (lent (now (areas .entry)) (now (labels .entry)) (now (work .entry))) total ⌝ }
     ensures index { λ _. ⌜ lentIndex (now (units .exit)) (now (outlets .exit)) (now (counts .exit))
-        ≡ indexAfterLevy (sheet rows cols depth (now (dirs .entry)) (now (weights .entry)))
+        ≡ indexAfterLevy (sheet rows cols depth least split (now (dirs .entry)) (now (weights .entry)))
         (lent (now (areas .entry)) (now (labels .entry)) (now (work .entry)))
         (lentIndex (now (units .entry)) (now (outlets .entry)) (now (counts .entry))) total (now (dues .entry)) ⌝ }
     ensures dues { λ _. ⌜ now (dues .exit)
-        ≡ duesAfter (sheet rows cols depth (now (dirs .entry)) (now (weights .entry)))
+        ≡ duesAfter (sheet rows cols depth least split (now (dirs .entry)) (now (weights .entry)))
         (lent (now (areas .entry)) (now (labels .entry)) (now (work .entry)))
         (lentIndex (now (units .entry)) (now (outlets .entry)) (now (counts .entry))) total (now (dues .entry)) ⌝ }
 {
@@ -120,6 +137,8 @@ pub fn levy(
         rows,
         cols,
         depth,
+        least,
+        split,
         dirs.len(),
         weights.len(),
         areas.len(),
@@ -133,6 +152,8 @@ pub fn levy(
                 rows,
                 cols,
                 depth,
+                least,
+                split,
                 dirs,
                 weights,
                 areas,

@@ -1,3 +1,4 @@
+pub mod ColumnLaws
 pub mod FieldLaws
 pub mod ValuesLaws
 pub mod OtherBytes

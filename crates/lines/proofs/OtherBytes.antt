@@ -13,10 +13,12 @@ use Rattle.decimal.specs.declared.Value.the-variants.{Found, Bad as NoValue}
 use Rattle.decimal.specs.Value.{isDigit, valueAt}
 use Rattle.decimal.proofs.Answers.{either-way}
 use Rattle.decimal.proofs.ValueLaws.{isValueByte, value-bytes}
+use Rattle.lines.specs.declared.columns.Columns.{Columns}
 use Rattle.lines.specs.declared.values.Values.{Values}
 use Rattle.lines.specs.declared.values.ValuesLine.the-variants.{Bad as BadValues}
 use Rattle.lines.specs.Fields.{fitsLine, longer, fields}
-use Rattle.lines.specs.Values.{valueDigits, fieldValue, ifWhole, withValue, noValues, valuesFrom, valuesLine}
+use Rattle.lines.specs.Columns.{columnAt, columnDigits}
+use Rattle.lines.specs.Values.{fieldValue, ifWhole, withValue, noValues, valuesFrom, valuesLine}
 use Rattle.lines.proofs.ValuesLaws.{values-other, values-value}
 
 unfoldable pub contains : ℕ → List ℕ → Bool
@@ -61,51 +63,51 @@ fields-contain b (x ∷ s) n = go (eqb x comma) refl (fields-contain b s n)
 
 -- A values line and a byte that is no comma and cannot stand in a value.
 module _ (b : ℕ) (other : isValueByte b ≡ false) where
-  field-other : (f : List ℕ) → contains b f ≡ true → fieldValue f ≡ NoValue
+  field-other : (most : ℕ) (f : List ℕ) → contains b f ≡ true → fieldValue most f ≡ NoValue
   unfolding fieldValue
-  field-other f h = go (valueAt valueDigits f 0) refl
+  field-other most f h = go (valueAt most f 0) refl
     where
-      whole : (v end : ℕ) → valueAt valueDigits f 0 ≡ Found v end → (t : Bool) → eqb end (length f) ≡ t
+      whole : (v end : ℕ) → valueAt most f 0 ≡ Found v end → (t : Bool) → eqb end (length f) ≡ t
           → cond t (Found v end) NoValue ≡ NoValue
       whole v end e true w =
           let (i, l, g) = at-contains b f h in
           absurd (false≢true
-          (sym other ∙ ap isValueByte (sym g) ∙ value-bytes valueDigits f 0 e i (omega arith)
+          (sym other ∙ ap isValueByte (sym g) ∙ value-bytes most f 0 e i (omega arith)
           (omega (arith, eqb-true end (length f) w))))
       whole v end e false w = refl
 
-      go : (x : Value) → valueAt valueDigits f 0 ≡ x → ifWhole f x ≡ NoValue
+      go : (x : Value) → valueAt most f 0 ≡ x → ifWhole f x ≡ NoValue
       go (Found v end) e = whole v end e (eqb end (length f)) refl
       go NoValue e = refl
 
-  values-from-other : (count place : ℕ) (fs : List (List ℕ)) (v : Values) → containsAny b fs ≡ true
-      → valuesFrom count place fs v ≡ BadValues
+  values-from-other : (c : Columns) (place : ℕ) (fs : List (List ℕ)) (v : Values) → containsAny b fs ≡ true
+      → valuesFrom c place fs v ≡ BadValues
   unfolding containsAny
-  values-from-other count place [] v h = absurd (false≢true h)
-  values-from-other count place (f ∷ fs) v h =
-      go (contains b f) refl h (λ (x : ℕ). values-from-other count (place + 1) fs (withValue v place x))
+  values-from-other c place [] v h = absurd (false≢true h)
+  values-from-other c place (f ∷ fs) v h =
+      go (contains b f) refl h (λ (x : ℕ). values-from-other c (place + 1) fs (withValue v place x))
     where
-      known : (x : Value) → fieldValue f ≡ x
-          → ((y : ℕ) → valuesFrom count (place + 1) fs (withValue v place y) ≡ BadValues) → valuesFrom count place
+      known : (x : Value) → fieldValue (columnDigits (columnAt c place)) f ≡ x
+          → ((y : ℕ) → valuesFrom c (place + 1) fs (withValue v place y) ≡ BadValues) → valuesFrom c place
           (f ∷ fs) v ≡ BadValues
-      known (Found y end) e ih = values-value count place v f fs e ∙ ih y
-      known NoValue e ih = values-other count place v f fs e
+      known (Found y end) e ih = values-value c place v f fs e ∙ ih y
+      known NoValue e ih = values-other c place v f fs e
 
       go : (t : Bool) → contains b f ≡ t → (t || containsAny b fs) ≡ true
-          → ((x : ℕ) → containsAny b fs ≡ true → valuesFrom count (place + 1) fs (withValue v place x) ≡ BadValues)
-          → valuesFrom count place (f ∷ fs) v ≡ BadValues
-      go true e h ih = values-other count place v f fs (field-other f e)
-      go false e h ih = known (fieldValue f) refl (λ y. ih y h)
+          → ((x : ℕ) → containsAny b fs ≡ true → valuesFrom c (place + 1) fs (withValue v place x) ≡ BadValues)
+          → valuesFrom c place (f ∷ fs) v ≡ BadValues
+      go true e h ih = values-other c place v f fs (field-other (columnDigits (columnAt c place)) f e)
+      go false e h ih = known (fieldValue (columnDigits (columnAt c place)) f) refl (λ y. ih y h)
 
-  pub values-other-byte : (b ≡ comma → ⊥) → (count : ℕ) (s : List ℕ) (i : ℕ) → i < length s → getD s i 0 ≡ b
-      → valuesLine count s ≡ BadValues
+  pub values-other-byte : (b ≡ comma → ⊥) → (c : Columns) (s : List ℕ) (i : ℕ) → i < length s → getD s i 0 ≡ b
+      → valuesLine c s ≡ BadValues
   unfolding valuesLine
-  values-other-byte no-comma count s i h e =
-      rw (values-from-other count 0 (fields s) noValues
+  values-other-byte no-comma c s i h e =
+      rw (values-from-other c 0 (fields s) noValues
       (sym (fields-contain b s no-comma) ∙ contains-at b s i h e)) (either-way (fitsLine s) BadValues)
 
 -- A line feed.
-pub values-line-feed : (count : ℕ) (s : List ℕ) (i : ℕ) → i < length s → getD s i 0 ≡ lineFeed
-    → valuesLine count s ≡ BadValues
+pub values-line-feed : (c : Columns) (s : List ℕ) (i : ℕ) → i < length s → getD s i 0 ≡ lineFeed
+    → valuesLine c s ≡ BadValues
 unfolding isDigit
 values-line-feed = values-other-byte lineFeed refl (λ e. omega arith)

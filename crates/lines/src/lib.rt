@@ -6,11 +6,11 @@ pub mod values;
 // A line has at most 80 bytes before its line feed.
 pub const LINE_BYTES: usize = 80;
 
-// The number of columns of a sizes line, and of a cell line.
-pub const COLUMN_COUNT: usize = 3;
+// The most columns of a line.
+pub const MOST_COLUMNS: usize = 5;
 
-// The number of columns of a weight line.
-pub const WEIGHT_COUNT: usize = 1;
-
-// The most digits of a value.
+// The most digits of a value, in every column but `least`.
 pub const VALUE_DIGITS: u8 = 5;
+
+// The most digits of a value of `least`.
+pub const LEAST_DIGITS: u8 = 8;

@@ -2,34 +2,35 @@
 use Prim.Native.Nat.{ℕ, _+_, _-_, _<_, _≤_}
 use mathlib.Core.Path.{_≡_, refl, sym, ap, _∙_}
 use mathlib.Core.List.{List, [], _∷_}
-use mathlib.Core.Bool.{Bool, true, false, cond, _&&_, and-eq-true-iff}
+use mathlib.Core.Bool.{Bool, true, false, cond, and-eq-true-iff}
 use native.Mathlib.Omega.{arith}
 use borrow.Author.Tests.{le-leb, lt-leb, eqb-true}
 use lib.ListN.{length, take, drop}
 use Rattle.lines.specs.declared.columns.Column.{Column}
-use Rattle.lines.specs.declared.columns.Column.the-variants.{Absent, Rows, Cols, Depth, Row, Col, Dir, Weight}
+use Rattle.lines.specs.declared.columns.Column.the-variants.{Absent, Rows, Cols, Depth, Least, Split}
+use Rattle.lines.specs.declared.columns.Column.the-variants.{Row, Col, Dir, Weight}
 use Rattle.lines.specs.declared.columns.Columns.{Columns}
 use Rattle.names.specs.declared.NamesLine.{NamesLine}
 use Rattle.names.specs.declared.NamesLine.the-variants.{Columns as Named, Bad}
 use Rattle.lines.specs.Fields.{lineBytes, fitsLine, fields, fieldEnd}
-use Rattle.lines.specs.Columns.{columnCount, sameColumn}
+use Rattle.lines.specs.Columns.{mostColumns, sameColumn}
 use Rattle.names.specs.Columns.{columnNamed, withColumn, noColumns, countColumn, asOften, sameColumns}
-use Rattle.names.specs.Columns.{sizeColumns, weightColumns, cellColumns}
-use Rattle.names.specs.Names.{namesFrom, ifExpected, namesLine}
+use Rattle.names.specs.Columns.{sizeColumns, splitSizeColumns, weightColumns, cellColumns}
+use Rattle.names.specs.Names.{namesFrom, ifExpected, namesLine, sizeNamesLine}
 use Rattle.lines.proofs.FieldLaws.{fieldsFrom, fields-at, fields-past}
 
 -- Column by column.
 module _ (place : ℕ) (c : Columns) where
   -- past the end of the line
-  pub names-at-done : (s : List ℕ) {at : ℕ} → length s < at → place ≤ columnCount
+  pub names-at-done : (s : List ℕ) {at : ℕ} → length s < at → place ≤ mostColumns
       → namesFrom place (fieldsFrom s at) c ≡ Named c
   unfolding namesFrom
-  names-at-done s h e = rw (fields-past s _ h, le-leb place columnCount e)
+  names-at-done s h e = rw (fields-past s _ h, le-leb place mostColumns e)
 
-  pub names-at-over : (s : List ℕ) {at : ℕ} → length s < at → columnCount < place
+  pub names-at-over : (s : List ℕ) {at : ℕ} → length s < at → mostColumns < place
       → namesFrom place (fieldsFrom s at) c ≡ Bad
   unfolding namesFrom
-  names-at-over s h n = rw (fields-past s _ h, lt-leb place columnCount n)
+  names-at-over s h n = rw (fields-past s _ h, lt-leb place mostColumns n)
 
   module _ (f : List ℕ) (fs : List (List ℕ)) where
     pub names-other : sameColumn (columnNamed f) Absent ≡ true → namesFrom place (f ∷ fs) c ≡ Bad
@@ -76,12 +77,51 @@ module _ (expected : Columns) (s : List ℕ) where
     unfolding namesLine
     names-unexpected e t = rw (le-leb (length s) lineBytes fits, e, t)
 
--- Three fields that name columns give these columns, in their order.
+-- a line read with the expected columns
+pub names-as : (s : List ℕ) {given expected : Columns} {l : NamesLine} → given ≡ expected → l ≡ namesLine given s
+    → l ≡ namesLine expected s
+names-as s is e = rw is at e
+
+-- The sizes' names: without least and split, and where that is no good line, with them.
+module _ (s : List ℕ) {first : Columns} (is : first ≡ sizeColumns) where
+  pub size-names-first : {c : Columns} → namesLine first s ≡ Named c → Named c ≡ sizeNamesLine s
+  unfolding sizeNamesLine
+  size-names-first e = sym (rw (rw is at e))
+
+  pub size-names-second : namesLine first s ≡ Bad → {second : Columns} {l : NamesLine} → second ≡ splitSizeColumns
+      → l ≡ namesLine second s → l ≡ sizeNamesLine s
+  unfolding sizeNamesLine
+  size-names-second n second-is e = sym (rw (rw is at n) (sym (rw second-is at e)))
+
+pub size-names-long : (s : List ℕ) → lineBytes < length s → sizeNamesLine s ≡ Bad
+unfolding sizeNamesLine
+size-names-long s h = rw (names-long sizeColumns s h, names-long splitSizeColumns s h)
+
+-- Three fields that name columns give these columns, in their order; so do five.
 pub three-names : (f g h : List ℕ) → sameColumn (columnNamed f) Absent ≡ false
-    → sameColumn (columnNamed g) Absent ≡ false → sameColumn (columnNamed h) Absent ≡ false → namesFrom 0
-    (f ∷ g ∷ h ∷ []) noColumns ≡ Named (record { first = columnNamed f; second = columnNamed g; third = columnNamed h })
+    → sameColumn (columnNamed g) Absent ≡ false → sameColumn (columnNamed h) Absent ≡ false
+    → namesFrom 0 (f ∷ g ∷ h ∷ []) noColumns ≡ Named (record {
+      first = columnNamed f;
+      second = columnNamed g;
+      third = columnNamed h;
+      fourth = Absent;
+      fifth = Absent;
+    })
 unfolding namesFrom
 three-names f g h a b c = rw (a, b, c)
+
+pub five-names : (f g h k l : List ℕ) → sameColumn (columnNamed f) Absent ≡ false
+    → sameColumn (columnNamed g) Absent ≡ false → sameColumn (columnNamed h) Absent ≡ false
+    → sameColumn (columnNamed k) Absent ≡ false → sameColumn (columnNamed l) Absent ≡ false
+    → namesFrom 0 (f ∷ g ∷ h ∷ k ∷ l ∷ []) noColumns ≡ Named (record {
+      first = columnNamed f;
+      second = columnNamed g;
+      third = columnNamed h;
+      fourth = columnNamed k;
+      fifth = columnNamed l;
+    })
+unfolding namesFrom
+five-names f g h k l a b c d e = rw (a, b, c, d, e)
 
 -- An accepted line has each expected column as often as it is expected; so each size, and each part of a cell, exactly
 -- once.
@@ -100,31 +140,49 @@ names-good expected s {c} e = go (fitsLine s) (namesFrom 0 (fields s) noColumns)
     go true Bad e = let z : _≡_ {A = ℕ} 0 1 = cc in absurd (omega arith)
     go false l e = let z : _≡_ {A = ℕ} 0 1 = cc in absurd (omega arith)
 
+-- a column stands among columns as often as it is expected
+abbrev Often : Columns → Columns → Column → Type 0
+Often expected c x = countColumn c x ≡ countColumn expected x
+
 same-count : (expected c : Columns) → sameColumns expected c ≡ true
-    → (countColumn c (expected .first) ≡ countColumn expected (expected .first)) ×
-    (countColumn c (expected .second) ≡ countColumn expected (expected .second)) ×
-    (countColumn c (expected .third) ≡ countColumn expected (expected .third))
+    → Often expected c (expected .first) × Often expected c (expected .second) × Often expected c (expected .third) ×
+    Often expected c (expected .fourth) × Often expected c (expected .fifth)
 unfolding sameColumns asOften
 same-count expected c e =
-    let all = and-eq-true-iff (asOften expected c (expected .first))
-    (asOften expected c (expected .second) && asOften expected c (expected .third)) .0 e in
-    let rest = and-eq-true-iff (asOften expected c (expected .second)) (asOften expected c (expected .third)) .0
-    (all .1) in
-    (eqb-true _ _ (all .0), eqb-true _ _ (rest .0), eqb-true _ _ (rest .1))
+    let one = and-eq-true-iff (asOften expected c (expected .first)) _ .0 e in
+    let two = and-eq-true-iff (asOften expected c (expected .second)) _ .0 (one .1) in
+    let three = and-eq-true-iff (asOften expected c (expected .third)) _ .0 (two .1) in
+    let four = and-eq-true-iff (asOften expected c (expected .fourth)) _ .0 (three .1) in (
+      eqb-true _ _ (one .0),
+      eqb-true _ _ (two .0),
+      eqb-true _ _ (three .0),
+      eqb-true _ _ (four .0),
+      eqb-true _ _ (four .1),
+    )
 
 module _ (s : List ℕ) {c : Columns} where
   pub size-names-once : namesLine sizeColumns s ≡ Named c
-      → (countColumn c Rows ≡ 1) × (countColumn c Cols ≡ 1) × (countColumn c Depth ≡ 1)
+      → (countColumn c Rows ≡ 1) × (countColumn c Cols ≡ 1) × (countColumn c Depth ≡ 1) × (countColumn c Absent ≡ 2)
   unfolding countColumn sameColumn
-  size-names-once e = same-count sizeColumns c (names-good sizeColumns s e)
+  size-names-once e =
+      let all = same-count sizeColumns c (names-good sizeColumns s e) in
+      (all .0, all .1, all .2, all .3)
 
-  pub weight-name-once : namesLine weightColumns s ≡ Named c → (countColumn c Weight ≡ 1) × (countColumn c Absent ≡ 2)
+  pub split-size-names-once : namesLine splitSizeColumns s ≡ Named c
+      → (countColumn c Rows ≡ 1) × (countColumn c Cols ≡ 1) × (countColumn c Depth ≡ 1) × (countColumn c Least ≡ 1) ×
+      (countColumn c Split ≡ 1)
+  unfolding countColumn sameColumn
+  split-size-names-once e = same-count splitSizeColumns c (names-good splitSizeColumns s e)
+
+  pub weight-name-once : namesLine weightColumns s ≡ Named c → (countColumn c Weight ≡ 1) × (countColumn c Absent ≡ 4)
   unfolding countColumn sameColumn
   weight-name-once e =
       let all = same-count weightColumns c (names-good weightColumns s e) in
       (all .0, all .1)
 
   pub cell-names-once : namesLine cellColumns s ≡ Named c
-      → (countColumn c Row ≡ 1) × (countColumn c Col ≡ 1) × (countColumn c Dir ≡ 1)
+      → (countColumn c Row ≡ 1) × (countColumn c Col ≡ 1) × (countColumn c Dir ≡ 1) × (countColumn c Absent ≡ 2)
   unfolding countColumn sameColumn
-  cell-names-once e = same-count cellColumns c (names-good cellColumns s e)
+  cell-names-once e =
+      let all = same-count cellColumns c (names-good cellColumns s e) in
+      (all .0, all .1, all .2, all .3)

@@ -16,8 +16,8 @@ use Rattle.lines.specs.Columns.{sameColumn}
 use Rattle.lines.proofs.FieldLaws.{same-equal}
 use Rattle.lines.proofs.OtherBytes.{contains, containsAny, contains-at, fields-contain}
 use Rattle.names.specs.declared.NamesLine.the-variants.{Bad as BadNames}
-use Rattle.names.specs.Columns.{columnIf, columnNamed, withColumn, noColumns}
-use Rattle.names.specs.Names.{namesFrom, namesLine}
+use Rattle.names.specs.Columns.{columnIf, columnNamed, withColumn, noColumns, sizeColumns, splitSizeColumns}
+use Rattle.names.specs.Names.{namesFrom, namesLine, sizeNamesLine}
 use Rattle.names.proofs.NamesLaws.{names-other, names-column}
 
 -- A byte b that stands in no name and is no comma.
@@ -39,24 +39,28 @@ module _ (b : ℕ) (f : List ℕ) (h : contains b f ≡ true) where
       go true e = absurd (false≢true (sym n ∙ ap (contains b) (sym (same-equal f name e)) ∙ h))
       go false e = rw e
 
-  names-nothing : contains b (ascii "rows,cols,depth,row,col,dir,weight") ≡ false → columnNamed f ≡ Absent
+  names-nothing : contains b (ascii "rows,cols,depth,least,split,row,col,dir,weight") ≡ false → columnNamed f ≡ Absent
   unfolding columnNamed
   names-nothing n =
-      let rows = without b (ascii "rows") (ascii "cols,depth,row,col,dir,weight") n in
-      let cols = without b (ascii "cols") (ascii "depth,row,col,dir,weight") (rows .1) in
-      let depth = without b (ascii "depth") (ascii "row,col,dir,weight") (cols .1) in
-      let row = without b (ascii "row") (ascii "col,dir,weight") (depth .1) in
+      let rows = without b (ascii "rows") (ascii "cols,depth,least,split,row,col,dir,weight") n in
+      let cols = without b (ascii "cols") (ascii "depth,least,split,row,col,dir,weight") (rows .1) in
+      let depth = without b (ascii "depth") (ascii "least,split,row,col,dir,weight") (cols .1) in
+      let least = without b (ascii "least") (ascii "split,row,col,dir,weight") (depth .1) in
+      let split = without b (ascii "split") (ascii "row,col,dir,weight") (least .1) in
+      let row = without b (ascii "row") (ascii "col,dir,weight") (split .1) in
       let col = without b (ascii "col") (ascii "dir,weight") (row .1) in
       let dir = without b (ascii "dir") (ascii "weight") (col .1) in
       other-name _ _ _ (rows .0)
       ∙ other-name _ _ _ (cols .0)
       ∙ other-name _ _ _ (depth .0)
+      ∙ other-name _ _ _ (least .0)
+      ∙ other-name _ _ _ (split .0)
       ∙ other-name _ _ _ (row .0)
       ∙ other-name _ _ _ (col .0)
       ∙ other-name _ _ _ (dir .0)
       ∙ other-name _ _ _ (dir .1)
 
-module _ (b : ℕ) (n : contains b (ascii "rows,cols,depth,row,col,dir,weight") ≡ false) where
+module _ (b : ℕ) (n : contains b (ascii "rows,cols,depth,least,split,row,col,dir,weight") ≡ false) where
   names-from-other : (place : ℕ) (fs : List (List ℕ)) (c : Columns) → containsAny b fs ≡ true
       → namesFrom place fs c ≡ BadNames
   unfolding containsAny sameColumn
@@ -84,7 +88,14 @@ module _ (b : ℕ) (n : contains b (ascii "rows,cols,depth,row,col,dir,weight") 
       (either-way (fitsLine s) BadNames)
     where
       no-comma : b ≡ comma → ⊥
-      no-comma e = false≢true (sym n ∙ ap (λ (x : ℕ). contains x (ascii "rows,cols,depth,row,col,dir,weight")) e)
+      no-comma e =
+          false≢true
+          (sym n ∙ ap (λ (x : ℕ). contains x (ascii "rows,cols,depth,least,split,row,col,dir,weight")) e)
+
+  pub size-names-other-byte : (s : List ℕ) (i : ℕ) → i < length s → getD s i 0 ≡ b → sizeNamesLine s ≡ BadNames
+  unfolding sizeNamesLine
+  size-names-other-byte s i h e =
+      rw (names-other-byte sizeColumns s i h e, names-other-byte splitSizeColumns s i h e)
 
 -- A names line with a blank anywhere is Bad.
 pub names-blank : (expected : Columns) (s : List ℕ) (i : ℕ) → i < length s → getD s i 0 ≡ blank
@@ -97,3 +108,12 @@ pub names-line-feed : (expected : Columns) (s : List ℕ) (i : ℕ) → i < leng
     → namesLine expected s ≡ BadNames
 unfolding contains
 names-line-feed = names-other-byte lineFeed refl
+
+-- The same of the sizes' names.
+pub size-names-blank : (s : List ℕ) (i : ℕ) → i < length s → getD s i 0 ≡ blank → sizeNamesLine s ≡ BadNames
+unfolding contains
+size-names-blank = size-names-other-byte blank refl
+
+pub size-names-line-feed : (s : List ℕ) (i : ℕ) → i < length s → getD s i 0 ≡ lineFeed → sizeNamesLine s ≡ BadNames
+unfolding contains
+size-names-line-feed = size-names-other-byte lineFeed refl

@@ -11,7 +11,7 @@ use Rattle.lines.specs.declared.columns.Column.{Column}
 use Rattle.lines.specs.declared.columns.Column.the-variants.{Absent, Weight}
 use Rattle.lines.specs.declared.columns.Columns.{Columns}
 use Rattle.lines.specs.Fields.{fitsLine, fields, sameBytes}
-use Rattle.lines.specs.Columns.{columnCount, sameColumn}
+use Rattle.lines.specs.Columns.{mostColumns, sameColumn}
 use Rattle.lines.proofs.FieldLaws.{same-equal, one-field}
 use Rattle.names.specs.declared.NamesLine.{NamesLine}
 use Rattle.names.specs.declared.NamesLine.the-variants.{Columns as Named, Bad}
@@ -47,8 +47,10 @@ module _ (f : List ℕ) where
       (not-this (ascii "dir") _ _ refl
       (not-this (ascii "col") _ _ refl
       (not-this (ascii "row") _ _ refl
+      (not-this (ascii "split") _ _ refl
+      (not-this (ascii "least") _ _ refl
       (not-this (ascii "depth") _ _ refl
-      (not-this (ascii "cols") _ _ refl (not-this (ascii "rows") _ _ refl e))))))
+      (not-this (ascii "cols") _ _ refl (not-this (ascii "rows") _ _ refl e))))))))
 
 bad-not-named : {c : Columns} → Bad ≡ Named c → ⊥
 bad-not-named {c} e = let z : _≡_ {A = ℕ} 0 1 = cc in omega arith
@@ -66,7 +68,7 @@ first-named place f fs c d e = go (sameColumn (columnNamed f) Absent) refl
 
 done : (place : ℕ) (c d : Columns) → namesFrom place [] c ≡ Named d → c ≡ d
 unfolding namesFrom
-done place c d e = go (leb place columnCount) e
+done place c d e = go (leb place mostColumns) e
   where
     go : (t : Bool) → cond t (Named c) Bad ≡ Named d → c ≡ d
     go true e = cc
@@ -89,7 +91,7 @@ one-most false = omega arith
 
 -- the weights' line has one field, and it is the name
 one-name : (fs : List (List ℕ)) {c : Columns} → namesFrom 0 fs noColumns ≡ Named c → countColumn c Weight ≡ 1
-    → countColumn c Absent ≡ 2 → fs ≡ ascii "weight" ∷ []
+    → countColumn c Absent ≡ 4 → fs ≡ ascii "weight" ∷ []
 unfolding countColumn sameColumn withColumn
 one-name [] {c} e weight absent =
     let is : noColumns ≡ c = done 0 noColumns c e in
@@ -100,7 +102,7 @@ one-name (f ∷ []) {c} e weight absent =
     ap (λ (d : Columns). countColumn d Weight) is ∙ weight in
     ap (λ (g : List ℕ). g ∷ []) (weight-field f (go (sameColumn (columnNamed f) Weight) refl count))
   where
-    go : (t : Bool) → sameColumn (columnNamed f) Weight ≡ t → one t + 0 + 0 ≡ 1
+    go : (t : Bool) → sameColumn (columnNamed f) Weight ≡ t → one t + 0 + 0 + 0 + 0 ≡ 1
         → sameColumn (columnNamed f) Weight ≡ true
     go true h e = h
     go false h e = absurd (omega arith)
@@ -112,7 +114,13 @@ one-name (f ∷ g ∷ fs) {c} e weight absent =
     ∙ first .0 in
     let b : sameColumn (c .second) Absent ≡ false = ap (λ (x : Column). sameColumn x Absent) (sym (kept .1))
     ∙ second .0 in
-    absurd (omega (arith, rw (a, b) at absent, one-most (sameColumn (c .third) Absent)))
+    absurd (omega (
+      arith,
+      rw (a, b) at absent,
+      one-most (sameColumn (c .third) Absent),
+      one-most (sameColumn (c .fourth) Absent),
+      one-most (sameColumn (c .fifth) Absent),
+    ))
 
 from-line : (s : List ℕ) {c : Columns} → namesLine weightColumns s ≡ Named c
     → namesFrom 0 (fields s) noColumns ≡ Named c

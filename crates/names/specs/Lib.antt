@@ -1,2 +1,3 @@
 pub mod Columns
 pub mod Names
+pub mod SizeNames

@@ -9,14 +9,15 @@ use Rattle.lines.specs.declared.columns.Columns.{Columns}
 use Rattle.names.specs.declared.NamesLine.{NamesLine}
 use Rattle.names.specs.declared.NamesLine.the-variants.{Columns as Named, Bad}
 use Rattle.lines.specs.Fields.{fitsLine, fields}
-use Rattle.lines.specs.Columns.{columnCount, sameColumn}
-use Rattle.names.specs.Columns.{columnIf, columnNamed, noColumns, withColumn, sameColumns}
+use Rattle.lines.specs.Columns.{mostColumns, sameColumn}
+use Rattle.names.specs.Columns.{columnIf, columnNamed, noColumns, withColumn, sameColumns, sizeColumns}
+use Rattle.names.specs.Columns.{splitSizeColumns}
 
 -- The columns that fields name, read column by column from a place on: each field has to name a column, and there is a
 -- place for each.
 unfoldable pub namesFrom : ℕ → List (List ℕ) → Columns → NamesLine
 unfolding columnNamed columnIf sameColumn withColumn
-namesFrom place [] c = cond (leb place columnCount) (Named c) Bad
+namesFrom place [] c = cond (leb place mostColumns) (Named c) Bad
 namesFrom place (f ∷ fs) c =
     let column : Column = columnNamed f in
     let rest : NamesLine = namesFrom (place + 1) fs (withColumn c place column) in
@@ -31,6 +32,16 @@ ifExpected expected Bad = Bad
 unfoldable pub namesLine : Columns → List ℕ → NamesLine
 unfolding fitsLine fields namesFrom sameColumns
 namesLine expected s = cond (fitsLine s) (ifExpected expected (namesFrom 0 (fields s) noColumns)) Bad
+
+abbrev pub orElse : NamesLine → NamesLine → NamesLine
+orElse (Named c) other = Named c
+orElse Bad other = other
+
+-- A line of the sizes' names. Document 02, W9: "The sizes lines may also name `least` [..] and `split` [..]. Both or
+-- neither are named".
+unfoldable pub sizeNamesLine : List ℕ → NamesLine
+unfolding namesLine
+sizeNamesLine s = orElse (namesLine sizeColumns s) (namesLine splitSizeColumns s)
 
 -- document 01's number of an answer, and its columns: 8 where the line breaks the file's rules
 pub record NamesValues : Type 0 where

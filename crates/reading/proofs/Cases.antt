@@ -4,6 +4,7 @@ use mathlib.Core.List.{List, [], _∷_, _++_}
 use Prim.Native.Nat.{ℕ}
 use lib.ListN.{replicate}
 use Rattle.decimal.specs.Ascii.{ascii}
+use Rattle.faults.specs.declared.Sizes.{Sizes}
 use Rattle.intake.specs.declared.Stage.the-variants.{Ended as AtEnd}
 use Rattle.intake.specs.Intake.{LentSheet, lentSheet, lineAfter, endTaken}
 use Rattle.reading.specs.declared.Read.the-variants.{Ended}
@@ -41,10 +42,13 @@ sampleA =
 abbrev pub sampleCodes : List ℕ
 sampleCodes = 0 ∷ 4 ∷ 16 ∷ 8 ∷ 16 ∷ 16 ∷ 16 ∷ 16 ∷ 64 ∷ 64 ∷ 32 ∷ 64 ∷ []
 
--- it ends with 3 rows, 4 columns, depth 2
+-- a file that is read to its end, with these sizes
+abbrev endedWith : Sizes → LentSheet → FileRead
+endedWith z lent = record { read = Ended (record { stage = AtEnd z }); lent = lent }
+
+-- it ends with 3 rows, 4 columns, depth 2; least and split are not named
 abbrev pub sampleRead : LentSheet → FileRead
-sampleRead lent =
-    record { read = Ended (record { stage = AtEnd (record { rows = 3; cols = 4; depth = 2 }) }); lent = lent }
+sampleRead lent = endedWith (record { rows = 3; cols = 4; depth = 2; least = 1; split = 4 }) lent
 
 -- 12 direction bytes and 3 weights, and 2,048 and 256
 pub sample-12 : readFile (lentSheet (replicate 12 7) (replicate 3 7)) sampleA
@@ -109,10 +113,8 @@ lentTwo = lentSheet (0 ∷ 0 ∷ []) (0 ∷ 0 ∷ [])
 
 -- one weight a row, then the cells
 pub weights-read : readFile lentTwo (ascii "rows,cols,depth\n2,1,1\nweight\n1000\n  7\nrow,col,dir\n0,0,4\n1,0,4\n")
-    ≡ record {
-      read = Ended (record { stage = AtEnd (record { rows = 2; cols = 1; depth = 1 }) });
-      lent = lentSheet (4 ∷ 4 ∷ []) (1000 ∷ 7 ∷ []);
-    }
+    ≡ endedWith (record { rows = 2; cols = 1; depth = 1; least = 1; split = 4 })
+    (lentSheet (4 ∷ 4 ∷ []) (1000 ∷ 7 ∷ []))
 unfolding readFile linesOf readFrom lineAfter endAfter endTaken
 weights-read = refl
 
@@ -138,3 +140,22 @@ pub weights-cut : readFile lentTwo (ascii "rows,cols,depth\n2,1,1\nweight\n5\n")
     ≡ refusedRead 14 5 (lentSheet (0 ∷ 0 ∷ []) (5 ∷ 1 ∷ []))
 unfolding readFile linesOf readFrom lineAfter endAfter endTaken
 weights-cut = refl
+
+-- ---- least and split
+
+-- five columns, then weights and cells
+pub split-read : readFile lentTwo (
+    ascii "split,rows,least,cols,depth\n2,2,  65536000,1,1\nweight\n1000\n  7\nrow,col,dir\n0,0,4\n1,0,4\n")
+    ≡ endedWith (record { rows = 2; cols = 1; depth = 1; least = 65536000; split = 2 })
+    (lentSheet (4 ∷ 4 ∷ []) (1000 ∷ 7 ∷ []))
+unfolding readFile linesOf readFrom lineAfter endAfter endTaken
+split-read = refl
+
+-- least without split, in the first line, and a split of 5, in the second
+pub least-alone : readFile lentTwo (ascii "rows,cols,depth,least\n2,1,1,1\n") ≡ refusedRead 8 1 lentTwo
+unfolding readFile linesOf readFrom lineAfter endAfter endTaken
+least-alone = refl
+
+pub split-refused : readFile lentTwo (ascii "rows,cols,depth,least,split\n2,1,1,1,5\n") ≡ refusedRead 19 2 lentTwo
+unfolding readFile linesOf readFrom lineAfter endAfter endTaken
+split-refused = refl

@@ -52,3 +52,15 @@ pub weight-refused : report sheet12 lent12 (ascii "rows,cols,depth\n3,1,1\nweigh
     ≡ ascii "refused,place\n17,5\n"
 unfolding report readFile linesOf readFrom lineAfter endAfter endTaken verdictOf readLent reportText refusalText
 weight-refused = refl
+
+-- the same three cells with least and split: the mouth of area 1 is not counted at least 2, so all is one unit
+pub three-cells-least : report sheet12 lent12 (
+    ascii "least,rows,cols,depth,split\n2,3,1,1,4\nrow,col,dir\n0,0,4\n1,0,16\n2,0,64\n")
+    ≡ ascii "row,col,area,label\n0,0,1,0\n1,0,3,0\n2,0,1,0\n"
+unfolding report readFile linesOf readFrom lineAfter endAfter endTaken verdictOf readLent intakeLent reportText listingText
+three-cells-least = refl
+
+pub least-refused : report sheet12 lent12 (ascii "least,rows,cols,depth,split\n65536001,3,1,1,4\n")
+    ≡ ascii "refused,place\n19,2\n"
+unfolding report readFile linesOf readFrom lineAfter endAfter endTaken verdictOf readLent reportText refusalText
+least-refused = refl

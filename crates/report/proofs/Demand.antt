@@ -31,7 +31,8 @@ Numbered (Labelled z) = Unit
 
 ending-numbered : {T : LentSheet} {L : Lent} {bytes : List ℕ} {v : Verdict} → Ending T L bytes v → Numbered v
 ending-numbered (line-refused {number} {place} r) =
-    one-of InFile lineNumbers (refl, (refl, (refl, (refl, (refl, (refl, (refl, (refl, tt)))))))) number (r .number-is)
+    one-of InFile lineNumbers (refl, (refl, (refl, (refl, (refl, (refl, (refl, (refl, (refl, tt))))))))) number
+    (r .number-is)
 ending-numbered (end-refused {number} {place} r) = one-of InFile endNumbers (refl, tt) number (r .number-is)
 ending-numbered (sheet-refused {number} {place} r) =
     one-of InFile sheetNumbers (refl, (refl, (refl, (refl, (refl, tt))))) number (r .number-is)
@@ -74,7 +75,7 @@ refused-each = (
                       refusedWith 14 1 [] refl,
                       (
                         refusedWith 17 4 (ascii "rows,cols,depth\n1,1,1\nweight\n0\n") refl,
-                        tt,
+                        (refusedWith 19 2 (ascii "split,rows,cols,least,depth\n5,1,1,1,1\n") refl, tt),
                       ),
                     ),
                   ),

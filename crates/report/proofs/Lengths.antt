@@ -109,20 +109,23 @@ module _ (S : Sheet) (L : Lent) (accepted : outcome S L ≡ Accepted) where
 
 -- ---- the report
 
-small : (numbers : List ℕ) → AllOf (λ n. n ≤ 17) numbers → (number : ℕ) → oneOf numbers number ≡ true → number ≤ 17
-small = one-of (λ n. n ≤ 17)
+small : (numbers : List ℕ) → AllOf (λ n. n ≤ 19) numbers → (number : ℕ) → oneOf numbers number ≡ true → number ≤ 19
+small = one-of (λ n. n ≤ 19)
 
 module _ (T : LentSheet) (L : Lent) (bytes : List ℕ) (few : length bytes < largestCount) where
   -- a refusal's number and place are small, and a labelled sheet has a direction byte lent for each cell
   abbrev Small : Verdict → Type 0
-  Small (Refused number place) = (number ≤ 17) × (place < 2 ^ 64)
+  Small (Refused number place) = (number ≤ 19) × (place < 2 ^ 64)
   Small (Labelled z) = z .rows * z .cols ≤ length (T .dirs)
 
   ending-small : {v : Verdict} → Ending T L bytes v → Small v
   ending-small (line-refused {number} {place} r) = (
     small lineNumbers (
       omega arith,
-      (omega arith, (omega arith, (omega arith, (omega arith, (omega arith, (omega arith, (omega arith, tt))))))),
+      (
+        omega arith,
+        (omega arith, (omega arith, (omega arith, (omega arith, (omega arith, (omega arith, (omega arith, tt))))))),
+      ),
     ) number (r .number-is),
     omega (arith, r .place-is, lines-most bytes, ap length (r .lines) ∙ length-append (r .before) (r .line ∷ r .after)),
   )

@@ -13,8 +13,9 @@ use Rattle.sheet.specs.declared.Outcome.{Outcome as LabelOutcome}
 use Rattle.sheet.specs.declared.Outcome.the-variants.{Accepted as Labelled, Refused as NotLabelled}
 use Rattle.sheet.specs.Sheet.{Grid, Sheet, cells, inside, first}
 use Rattle.sheet.specs.Refusal.{Lent, badCode, undrained, outletFrom, firstAfter, secondOutlet, refusedAt}
-use Rattle.sheet.specs.Refusal.{refusedIfNone, sizesFit, depthFits, slicesFit, weightsFit, outcomeOn}
-use Rattle.sheet.specs.Refusal.{outcomeFrom17, outcome}
+use Rattle.sheet.specs.Refusal.{refusedIfNone, sizesFit, depthFits, leastAndSplitFit, slicesFit, weightsFit, outcomeOn}
+use Rattle.sheet.specs.Refusal.{sheetFault, outcomeFrom17, outcomeFrom3, outcome}
+use Rattle.sheet.proofs.Within.{within-yes}
 use Rattle.sheet.proofs.First.{at-first}
 use Rattle.sheet.proofs.Cells.{cells-most}
 use Rattle.sheet.proofs.Weights.{all-fit}
@@ -23,9 +24,8 @@ use Rattle.names.specs.declared.NamesLine.the-variants.{Columns as Named, Bad a
 use Rattle.lines.specs.declared.columns.Columns.{Columns}
 use Rattle.lines.specs.declared.values.ValuesLine.{ValuesLine}
 use Rattle.lines.specs.declared.values.ValuesLine.the-variants.{Values as Valued, Bad as BadValues}
-use Rattle.names.specs.Columns.{sizeColumns, weightColumns, cellColumns}
-use Rattle.names.specs.Names.{namesLine}
-use Rattle.lines.specs.Columns.{columnCount, weightCount}
+use Rattle.names.specs.Columns.{weightColumns, cellColumns}
+use Rattle.names.specs.Names.{namesLine, sizeNamesLine}
 use Rattle.lines.specs.Values.{valuesLine}
 use Rattle.faults.specs.declared.Sizes.{Sizes}
 use Rattle.faults.specs.declared.Cell.{Cell}
@@ -89,11 +89,11 @@ tests-fault (t ∷ ts) n = go (t .passed) (tests-fault ts (n .1))
 
 sizes-fault : (z : Sizes) (dirs weights : ℕ) → Fault (sizesFault z dirs weights)
 unfolding sizesFault
-sizes-fault z dirs weights = tests-fault (sizesTests z dirs weights) (refl, (refl, (refl, tt)))
+sizes-fault z dirs weights = tests-fault (sizesTests z dirs weights) (refl, (refl, (refl, (refl, tt))))
 
 row-fault : (z : Sizes) (row dirs weights : ℕ) → Fault (rowFault z row dirs weights)
 unfolding rowFault
-row-fault z row dirs weights = tests-fault (rowTests z row dirs weights) (refl, (refl, (refl, (refl, tt))))
+row-fault z row dirs weights = tests-fault (rowTests z row dirs weights) (refl, (refl, (refl, (refl, (refl, tt)))))
 
 weight-fault : (weight : ℕ) → Fault (weightFault weight)
 unfolding weightFault
@@ -189,14 +189,14 @@ on-cells z c BadValues T = refl
 
 line-in-fine : (s : Stage) (line : List ℕ) (T : LentSheet) → NotEnded s → Fine (lineIn s line T .taken)
 unfolding lineIn
-line-in-fine WaitingForSizeNames line T n = on-size-names (namesLine sizeColumns line)
-line-in-fine (WaitingForSizes c) line T n = on-sizes c (valuesLine columnCount line) T
+line-in-fine WaitingForSizeNames line T n = on-size-names (sizeNamesLine line)
+line-in-fine (WaitingForSizes c) line T n = on-sizes c (valuesLine c line) T
 line-in-fine (WaitingForWeightOrCellNames z) line T n =
     on-weight-or-cell-names z (namesLine weightColumns line) (namesLine cellColumns line)
-line-in-fine (WaitingForWeight z row) line T n = on-weight z row (valuesLine weightCount line) T
+line-in-fine (WaitingForWeight z row) line T n = on-weight z row (valuesLine weightColumns line) T
 line-in-fine (WaitingForCellNames z) line T n =
     on-cell-names (WaitingForCellNames z) z (namesLine cellColumns line)
-line-in-fine (TakingCells z c) line T n = on-cells z c (valuesLine columnCount line) T
+line-in-fine (TakingCells z c) line T n = on-cells z c (valuesLine c line) T
 line-in-fine (Ended z) line T n = absurd n
 
 line-fine : (i : Intake) (line : List ℕ) (T : LentSheet) → NotEnded (i .stage) → Fine (lineAfter i line T .taken)
@@ -297,10 +297,12 @@ sheet-or : (b : Bool) (x y : LabelOutcome) → SheetFine 65536 x → SheetFine 6
 sheet-or true x y hx hy = hx
 sheet-or false x y hx hy = hy
 
--- sizes within document 01's bounds pass the first two checks, and weights from 1 to 1000 pass 17
+-- sizes within their bounds pass checks 1, 2 and 19, and weights from 1 to 1000 pass 17
 module _ (S : Sheet) (L : Lent) (rows-some : 1 ≤ S .grid .rows) (rows-most : S .grid .rows ≤ 256)
     (cols-some : 1 ≤ S .grid .cols) (cols-most : S .grid .cols ≤ 256) (depth-some : 1 ≤ S .depth)
-    (depth-most : S .depth ≤ 18) (weights-fit : weightsFit (S .grid .rows) (S .weights) ≡ true) where
+    (depth-most : S .depth ≤ 18) (least-some : 1 ≤ S .least) (least-most : S .least ≤ 65536000)
+    (split-some : 1 ≤ S .split) (split-most : S .split ≤ 4)
+    (weights-fit : weightsFit (S .grid .rows) (S .weights) ≡ true) where
   sizes-passed : sizesFit (S .grid .rows) (S .grid .cols) ≡ true
   unfolding sizesFit
   sizes-passed =
@@ -315,14 +317,22 @@ module _ (S : Sheet) (L : Lent) (rows-some : 1 ≤ S .grid .rows) (rows-most : S
   unfolding depthFits
   depth-passed = rw (le-leb 1 (S .depth) depth-some, le-leb (S .depth) 18 depth-most)
 
+  split-passed : leastAndSplitFit (S .least) (S .split) ≡ true
+  unfolding leastAndSplitFit
+  split-passed =
+      rw (
+        within-yes 65536000 (S .least) least-some least-most,
+        within-yes 4 (S .split) split-some split-most,
+      )
+
   outcome-from-17 : outcomeFrom17 S ≡ outcomeOn (S .grid)
   unfolding outcomeFrom17
   outcome-from-17 = rw weights-fit
 
   outcome-fine : SheetFine 65536 (outcome S L)
-  unfolding outcome
+  unfolding outcome outcomeFrom3 sheetFault
   outcome-fine =
-      rw (sizes-passed, depth-passed, outcome-from-17)
+      rw (sizes-passed, depth-passed, split-passed, outcome-from-17)
       (sheet-or (slicesFit S L) (outcomeOn (S .grid)) (NotLabelled 3 0)
       (sheet-widened (cells (S .grid)) 65536 (outcomeOn (S .grid)) (cells-most rows-most cols-most)
       (outcome-on-fine (S .grid)))
@@ -341,18 +351,19 @@ module _ {T : LentSheet} {bytes : List ℕ} {z : Sizes} (file : FileEnded T byte
   holds : Holds (endTaken (file .lines .intake) .intake .stage) z
   holds = rw (ap (λ (t : Taken). t .intake .stage) (file .ended)) ended
 
-  -- its sizes are within document 01's bounds, and its weights from 1 to 1000
+  -- its sizes are within their bounds, and its weights from 1 to 1000
   pub file-fits : Fits z (length (file .lines .held .dirs)) (length (file .lines .held .weights))
   file-fits = reached-sizes reached holds
 
   file-weights : weightsFit (z .rows) (file .lines .held .weights) ≡ true
   file-weights = all-fit (z .rows) (file .lines .held .weights) (reached-weights reached holds)
 
-  -- so none of 1, 2 and 17 refuses its sheet
+  -- so none of 1, 2, 19 and 17 refuses its sheet
   pub file-number : (L : Lent) (number place : ℕ)
       → outcome (sheetOf z (file .lines .held)) L ≡ NotLabelled number place
       → (oneOf sheetNumbers number ≡ true) × (place ≤ 65536)
   file-number L number place e =
       sheet-number (sheetOf z (file .lines .held)) L (file-fits .rows-some) (file-fits .rows-most)
-      (file-fits .cols-some) (file-fits .cols-most) (file-fits .depth-some) (file-fits .depth-most) file-weights
+      (file-fits .cols-some) (file-fits .cols-most) (file-fits .depth-some) (file-fits .depth-most)
+      (file-fits .least-some) (file-fits .least-most) (file-fits .split-some) (file-fits .split-most) file-weights
       number place e

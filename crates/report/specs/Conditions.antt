@@ -24,10 +24,10 @@ abbrev pub oneOf : List ℕ → ℕ → Bool
 oneOf [] number = false
 oneOf (n ∷ numbers) number = cond (eqb number n) true (oneOf numbers number)
 
--- those that a line of a file can get, the end, and the sheet, at most (the sheet not 17: the weights that accepted
--- lines leave fit)
+-- those that a line of a file can get, the end, and the sheet, at most (the sheet not 1, 2, 19 or 17: the sizes and the
+-- weights that accepted lines leave fit)
 abbrev pub lineNumbers : List ℕ
-lineNumbers = 8 ∷ 1 ∷ 2 ∷ 3 ∷ 17 ∷ 9 ∷ 4 ∷ 10 ∷ []
+lineNumbers = 8 ∷ 1 ∷ 2 ∷ 19 ∷ 3 ∷ 17 ∷ 9 ∷ 4 ∷ 10 ∷ []
 
 abbrev pub endNumbers : List ℕ
 endNumbers = 14 ∷ []
@@ -37,7 +37,7 @@ sheetNumbers = 3 ∷ 4 ∷ 5 ∷ 6 ∷ 7 ∷ []
 
 -- those that a file can get: all but 11, 12, 13, 15, 16 and 18
 abbrev pub fileNumbers : List ℕ
-fileNumbers = 1 ∷ 2 ∷ 3 ∷ 4 ∷ 5 ∷ 6 ∷ 7 ∷ 8 ∷ 9 ∷ 10 ∷ 14 ∷ 17 ∷ []
+fileNumbers = 1 ∷ 2 ∷ 3 ∷ 4 ∷ 5 ∷ 6 ∷ 7 ∷ 8 ∷ 9 ∷ 10 ∷ 14 ∷ 17 ∷ 19 ∷ []
 
 -- ---- the ways in which a file can end
 

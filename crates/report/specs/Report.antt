@@ -28,10 +28,28 @@ pub record VerdictValues : Type 0 where
   pub rows : ℕ
   pub cols : ℕ
   pub depth : ℕ
+  pub least : ℕ
+  pub split : ℕ
 
 abbrev pub verdictValues : Verdict → VerdictValues
-verdictValues (Refused number place) = record { number = number; place = place; rows = 0; cols = 0; depth = 0 }
-verdictValues (Labelled z) = record { number = 0; place = 0; rows = z .rows; cols = z .cols; depth = z .depth }
+verdictValues (Refused number place) = record {
+  number = number;
+  place = place;
+  rows = 0;
+  cols = 0;
+  depth = 0;
+  least = 0;
+  split = 0;
+}
+verdictValues (Labelled z) = record {
+  number = 0;
+  place = 0;
+  rows = z .rows;
+  cols = z .cols;
+  depth = z .depth;
+  least = z .least;
+  split = z .split;
+}
 
 -- labelled, or refused with "the place that labelling gave"
 unfoldable pub sheetVerdict : Sizes → Outcome → Verdict

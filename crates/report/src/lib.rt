@@ -42,6 +42,8 @@ fn sheet_verdict(
         sizes.rows,
         sizes.cols,
         sizes.depth,
+        sizes.least,
+        sizes.split,
         dirs,
         weights,
         areas,

@@ -1,6 +1,7 @@
 -- The worked cases hold of the definitions, by computation.
 use mathlib.Core.Path.{_≡_, refl}
 use Rattle.sheet.specs.Cases.{cases, listing, refusals, orders, traps, outletFlows, weighted, words}
+use Rattle.sheet.specs.Cases.{splits, nineteens, leastFlows}
 use Rattle.sheet.specs.Cases.{allComputed, allStated}
 
 -- all cases marked * in document 01
@@ -31,6 +32,18 @@ all-outlet-flows = refl
 pub all-weighted : allComputed weighted ≡ allStated weighted
 unfolding weighted
 all-weighted = refl
+
+pub all-splits : allComputed splits ≡ allStated splits
+unfolding splits
+all-splits = refl
+
+pub all-nineteens : allComputed nineteens ≡ allStated nineteens
+unfolding nineteens
+all-nineteens = refl
+
+pub all-least-flows : allComputed leastFlows ≡ allStated leastFlows
+unfolding leastFlows
+all-least-flows = refl
 
 pub all-words : allComputed words ≡ allStated words
 unfolding words

@@ -10,6 +10,11 @@ use lib.ListN.{length, length-append}
 use borrow.Author.Tests.{eq-eqb, ne-eqb, eqb-true}
 use Rattle.sheet.specs.Label.{Digits, digits-none, digits-cons, numberFrom, number, digitsWithin, digitsOf}
 
+-- digits up to a bound lie below a larger one
+pub digits-wider : {top wider : ℕ} {x : List ℕ} → top ≤ wider → Digits top x → Digits wider x
+digits-wider h digits-none = digits-none
+digits-wider h (digits-cons low high d) = digits-cons low (omega arith) (digits-wider h d)
+
 -- ---- the number of digits
 
 number-join : (m : ℕ) (x y : List ℕ) → numberFrom m (x ++ y) ≡ numberFrom (numberFrom m x) y

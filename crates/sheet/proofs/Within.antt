@@ -1,13 +1,15 @@
--- Tests that both hold, and numbers from 1 to a bound: sizes, depths, digits.
+-- Tests that both hold, and numbers from 1 to a bound: sizes, depths, least and split, digits.
 use mathlib.Core.Path.{_≡_, refl, sym}
 use mathlib.Core.Bool.{Bool, true, false, cond, true≢false}
 use mathlib.Core.List.{List, [], _∷_}
 use Prim.Native.Nat.{ℕ, _≤_, _<_}
+use native.Mathlib.Omega.{arith}
 use borrow.Author.Tests.{le-leb, lt-leb, leb-true}
 use lib.Dec.{leb}
 use lib.ListN.{length}
 use Rattle.sheet.specs.Label.{Digits, digits-none, digits-cons}
-use Rattle.sheet.specs.Refusal.{both, within, sizesFit, depthFits}
+use Rattle.sheet.specs.Refusal.{both, within, sizesFit, depthFits, leastFits, splitFits, leastAndSplitFit}
+use Rattle.sheet.specs.Refusal.{sheetFault}
 use Rattle.sheet.specs.Flow.{every, areDigits}
 
 pub both-true : (a b : Bool) → both a b ≡ true → (a ≡ true) × (b ≡ true)
@@ -48,6 +50,44 @@ cols-some rows cols e = within-both 256 cols (both-true (within 256 rows) (withi
 pub depth-most : (depth : ℕ) → depthFits depth ≡ true → depth ≤ 18
 unfolding depthFits
 depth-most depth e = within-both 18 depth e .1
+
+-- checks 1, 2 and 19
+module _ (rows cols depth least split : ℕ) where
+  pub fault-most : sheetFault rows cols depth least split ≤ 19
+  unfolding sheetFault
+  fault-most = go (sizesFit rows cols) (depthFits depth) (leastAndSplitFit least split)
+    where
+      go : (a b c : Bool) → cond a (cond b (cond c 0 19) 2) 1 ≤ 19
+      go true true true = omega arith
+      go true true false = omega arith
+      go true false c = omega arith
+      go false b c = omega arith
+
+  -- no fault: all are passed
+  pub no-fault : sheetFault rows cols depth least split ≡ 0
+      → (sizesFit rows cols ≡ true) × (depthFits depth ≡ true) × (leastAndSplitFit least split ≡ true)
+  unfolding sheetFault
+  no-fault e = go (sizesFit rows cols) (depthFits depth) (leastAndSplitFit least split) e
+    where
+      go : (a b c : Bool) → _≡_ {A = ℕ} (cond a (cond b (cond c 0 19) 2) 1) 0 → (a ≡ true) × (b ≡ true) × (c ≡ true)
+      go true true true f = (refl, refl, refl)
+      go true true false f = absurd (omega arith)
+      go true false c f = absurd (omega arith)
+      go false b c f = absurd (omega arith)
+
+-- least and split that fit, and their bounds
+module _ (least split : ℕ) (e : leastAndSplitFit least split ≡ true) where
+  pub least-fits : leastFits least ≡ true
+  unfolding leastAndSplitFit
+  least-fits = both-true (leastFits least) (splitFits split) e .0
+
+  pub least-bounds : (1 ≤ least) × (least ≤ 65536000)
+  unfolding leastFits
+  least-bounds = within-both 65536000 least least-fits
+
+  pub split-bounds : (1 ≤ split) × (split ≤ 4)
+  unfolding leastAndSplitFit splitFits
+  split-bounds = within-both 4 split (both-true (leastFits least) (splitFits split) e .1)
 
 pub digits-every : (x : List ℕ) → every (within 9) x ≡ true → Digits 9 x
 unfolding every

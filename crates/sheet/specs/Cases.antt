@@ -7,7 +7,7 @@ use lib.Dec.{eqb}
 use lib.ListN.{replicate}
 use Rattle.sheet.specs.Sheet.{Grid, Sheet, grid}
 use Rattle.sheet.specs.Word.{bytesOf, numberAt, firstBadOf}
-use Rattle.sheet.specs.Area.{area}
+use Rattle.sheet.specs.Area.{drainsInto, area}
 use Rattle.sheet.specs.River.{network, stem, mouth, Run, river}
 use Rattle.sheet.specs.Label.{labelOf, outlet, listFrom}
 use Rattle.sheet.specs.Refusal.{Lent, outcome, OutcomeValues, outcomeValues, lentAfter}
@@ -24,12 +24,22 @@ case computed stated = record { computed = computed; stated = stated }
 abbrev pub sampleA : Grid
 sampleA = grid 3 4 (0 ∷ 4 ∷ 16 ∷ 8 ∷ 16 ∷ 16 ∷ 16 ∷ 16 ∷ 64 ∷ 64 ∷ 32 ∷ 64 ∷ [])
 
--- a sheet with weights, and one without: each is then 1
+-- a sheet with weights, and one without: each is then 1; least and split are 1 and 4, as where they are not named
 abbrev pub weightedSheet : Grid → ℕ → List ℕ → Sheet
-weightedSheet G depth weights = record { grid = G; depth = depth; weights = weights }
+weightedSheet G depth weights = record { grid = G; depth = depth; least = 1; split = 4; weights = weights }
 
 abbrev pub sheet : Grid → ℕ → Sheet
 sheet G depth = weightedSheet G depth (replicate (G .rows) 1)
+
+-- a sheet without weights, with least and split
+abbrev pub splitSheet : Grid → ℕ → ℕ → ℕ → Sheet
+splitSheet G depth least split = record {
+  grid = G;
+  depth = depth;
+  least = least;
+  split = split;
+  weights = replicate (G .rows) 1;
+}
 
 -- the mouths that stand straight after a stem cell in a river list
 abbrev mouths : Run → List ℕ
@@ -62,10 +72,10 @@ cases =
     ∷ case (area (sheet (grid 1 1 (1 ∷ [])) 1) 0 ∷ labelOf (sheet (grid 1 1 (1 ∷ [])) 1) 0 ∷ []) (1 ∷ 0 ∷ [])
     ∷ case (outcomeIs (sheet (grid 1 2 (1 ∷ 16 ∷ [])) 1) (lentFor 2)) (6 ∷ 0 ∷ [])
     ∷ case (outcomeIs (sheet (grid 1 2 (16 ∷ 1 ∷ [])) 1) (lentFor 2)) (7 ∷ 1 ∷ [])
-    ∷ case (answerNumber (flow 3 91 92) ∷ answerNumber (flow 3 92 91) ∷ answerNumber (flow 3 21 3) ∷ [])
+    ∷ case (answerNumber (flow 3 1 91 92) ∷ answerNumber (flow 3 1 92 91) ∷ answerNumber (flow 3 1 21 3) ∷ [])
     (1 ∷ 0 ∷ 0 ∷ [])
-    ∷ case (answerNumber (flow 3 131 14) ∷ []) (3 ∷ [])
-    ∷ case (answerNumber (flow 3 9 91) ∷ answerNumber (flow 3 105 9) ∷ []) (140 ∷ 139 ∷ [])
+    ∷ case (answerNumber (flow 3 1 131 14) ∷ []) (3 ∷ [])
+    ∷ case (answerNumber (flow 3 1 9 91) ∷ answerNumber (flow 3 1 105 9) ∷ []) (140 ∷ 139 ∷ [])
     ∷ []
 
 -- sample A whole: it is accepted, and of slices for 13 cells the first 12 areas and labels are those that document 01
@@ -115,13 +125,14 @@ traps =
     ∷ case (labelOf (sheet confluences 2) 1 ∷ labelOf (sheet confluences 2) 2 ∷ []) (2 ∷ 6 ∷ [])
     ∷ case (labelOf (sheet confluences 2) 7 ∷ labelOf (sheet confluences 2) 6 ∷ labelOf (sheet confluences 2) 8 ∷ [])
     (4 ∷ 8 ∷ 9 ∷ [])
-    ∷ case (answerNumber (flow 3 12 3) ∷ answerNumber (flow 3 114 3) ∷ answerNumber (flow 3 11 3) ∷ []) (0 ∷ 0 ∷ 1 ∷ [])
+    ∷ case (answerNumber (flow 3 1 12 3) ∷ answerNumber (flow 3 1 114 3) ∷ answerNumber (flow 3 1 11 3) ∷ [])
+    (0 ∷ 0 ∷ 1 ∷ [])
     ∷ case (outcomeIs (sheet (grid 1 3 (4 ∷ 1 ∷ 16 ∷ [])) 1) (lentFor 3)) (6 ∷ 1 ∷ [])
-    ∷ case (answerNumber (flow 3 132 14) ∷ answerNumber (flow 3 0 0) ∷ answerNumber (flow 3 0 5) ∷ [])
+    ∷ case (answerNumber (flow 3 1 132 14) ∷ answerNumber (flow 3 1 0 0) ∷ answerNumber (flow 3 1 0 5) ∷ [])
     (0 ∷ 2 ∷ 140 ∷ [])
-    ∷ case (answerNumber (flow 3 9 105) ∷ answerNumber (flow 3 105 105) ∷ answerNumber (flow 0 105 105) ∷ [])
+    ∷ case (answerNumber (flow 3 1 9 105) ∷ answerNumber (flow 3 1 105 105) ∷ answerNumber (flow 0 1 105 105) ∷ [])
     (139 ∷ 139 ∷ 130 ∷ [])
-    ∷ case (answerNumber (flow 19 1 2) ∷ answerNumber (flow 18 1 2) ∷ []) (130 ∷ 1 ∷ [])
+    ∷ case (answerNumber (flow 19 1 1 2) ∷ answerNumber (flow 18 1 1 2) ∷ []) (130 ∷ 1 ∷ [])
     ∷ []
 
 -- The outlet question: as the flow question, but for Yes where the label has as many digits as the depth (14 past
@@ -171,6 +182,61 @@ weighted =
     ∷ case (outcomeIs (weightedSheet confluence 1 (0 ∷ 0 ∷ 0 ∷ [])) (lentFor 2)) (3 ∷ 0 ∷ [])
     ∷ case (outcomeIs (weightedSheet (grid 1 1 (3 ∷ [])) 1 (0 ∷ [])) (lentFor 1)) (17 ∷ 0 ∷ [])
     ∷ case (refused .areas ++ refused .labels ++ refused .work) (replicate 6 7 ++ replicate 24 0)
+    ∷ []
+
+-- Least and split. Sample A at least 2: of the mouths 8, 9, 10, 1 and 3 only 1 counts, whose area is 2; the others stay
+-- in their units, which are finished. At least 3 no mouth counts. By weights its areas are larger: at least 3 mouth 1
+-- counts again. Of the basin of confluences one mouth at a time: 7, then 1 in unit 1 and 6 in unit 3; two at a time: 7
+-- and 6. At the greatest least no mouth of sample A counts.
+unfoldable pub splits : List Case
+unfolding labelOf listFrom
+splits =
+    case (listFrom (labelOf (splitSheet sampleA 2 2 4)) 0 12)
+    (0 ∷ 2 ∷ 2 ∷ 3 ∷ 1 ∷ 1 ∷ 3 ∷ 3 ∷ 1 ∷ 1 ∷ 1 ∷ 3 ∷ [])
+    ∷ case (listFrom (labelOf (splitSheet sampleA 2 3 4)) 0 12) (replicate 12 0)
+    ∷ case (listFrom (labelOf (record {
+      grid = sampleA;
+      depth = 2;
+      least = 3;
+      split = 4;
+      weights = 2 ∷ 1 ∷ 1 ∷ [];
+    })) 0 12) (0 ∷ 2 ∷ 2 ∷ 3 ∷ 1 ∷ 1 ∷ 3 ∷ 3 ∷ 1 ∷ 1 ∷ 1 ∷ 3 ∷ [])
+    ∷ case (listFrom (labelOf (splitSheet confluences 2 1 1)) 0 9)
+    (11 ∷ 12 ∷ 31 ∷ 11 ∷ 31 ∷ 0 ∷ 32 ∷ 2 ∷ 33 ∷ [])
+    ∷ case (listFrom (labelOf (splitSheet confluences 1 1 2)) 0 9) (1 ∷ 1 ∷ 3 ∷ 1 ∷ 3 ∷ 0 ∷ 4 ∷ 2 ∷ 5 ∷ [])
+    ∷ case (listFrom (labelOf (splitSheet sampleA 2 65536000 4)) 0 12) (replicate 12 0)
+    ∷ []
+
+-- 19 at least 0 and 65,536,001 and at split 0 and 5, not at the bounds; 2 is tested before it, 3 after it; it writes
+-- nothing
+unfoldable pub nineteens : List Case
+unfolding outcome lentAfter
+nineteens =
+    let refused : Lent = lentAfter (splitSheet (grid 1 1 (1 ∷ [])) 1 0 4) (lentFor 1) in
+    case (outcomeIs (splitSheet (grid 1 1 (1 ∷ [])) 1 0 4) (lentFor 1)) (19 ∷ 0 ∷ [])
+    ∷ case (outcomeIs (splitSheet (grid 1 1 (1 ∷ [])) 1 65536001 4) (lentFor 1)) (19 ∷ 0 ∷ [])
+    ∷ case (outcomeIs (splitSheet (grid 1 1 (1 ∷ [])) 1 65536000 1) (lentFor 1)) (0 ∷ 0 ∷ [])
+    ∷ case (outcomeIs (splitSheet (grid 1 1 (1 ∷ [])) 1 1 0) (lentFor 1)) (19 ∷ 0 ∷ [])
+    ∷ case (outcomeIs (splitSheet (grid 1 1 (1 ∷ [])) 1 1 5) (lentFor 1)) (19 ∷ 0 ∷ [])
+    ∷ case (outcomeIs (splitSheet (grid 1 1 (1 ∷ [])) 19 0 5) (lentFor 1)) (2 ∷ 0 ∷ [])
+    ∷ case (outcomeIs (splitSheet (grid 1 1 (1 ∷ [])) 18 0 4) (lentFor 0)) (19 ∷ 0 ∷ [])
+    ∷ case (refused .areas ++ refused .labels ++ refused .work) (replicate 10 7)
+    ∷ []
+
+-- The flow question told least: on sample A at least 2, water from cell 6, label 3, does not pass cell 8, label 1,
+-- though the digit rule is met and the label has fewer digits than the depth: Undecided, where least 1 gives Yes. 2
+-- before 19, 19 before 11.
+unfoldable pub leastFlows : List Case
+unfolding flow labelOf drainsInto
+leastFlows =
+    case (labelOf (splitSheet sampleA 2 2 4) 6 ∷ labelOf (splitSheet sampleA 2 2 4) 8 ∷ []) (3 ∷ 1 ∷ [])
+    ∷ case (cond (drainsInto sampleA 8 6) 1 0 ∷ cond (drainsInto sampleA 4 6) 1 0 ∷ []) (0 ∷ 1 ∷ [])
+    ∷ case (answerNumber (flow 2 2 1 3) ∷ answerNumber (flow 2 1 1 3) ∷ answerNumber (flow 2 65536000 1 3) ∷ [])
+    (3 ∷ 1 ∷ 3 ∷ [])
+    ∷ case (answerNumber (flow 2 2 3 1) ∷ answerNumber (flow 2 2 3 3) ∷ answerNumber (flow 2 2 3 31) ∷ [])
+    (0 ∷ 2 ∷ 140 ∷ [])
+    ∷ case (answerNumber (flow 3 0 105 105) ∷ answerNumber (flow 3 65536001 9 91) ∷ answerNumber (flow 19 0 1 1) ∷ [])
+    (147 ∷ 147 ∷ 130 ∷ [])
     ∷ []
 
 -- The word test: words of codes alone, with all nine among them; a bad byte at either end and in the middle; the first

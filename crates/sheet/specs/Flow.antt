@@ -1,5 +1,5 @@
 -- Document 01's flow question, and document 02's question about flow to a unit's outlet, here called the outlet
--- question: where two labels part, the digit rule, refusals 2, 11 and 12, and the answers.
+-- question: where two labels part, the digit rule, refusals 2, 19, 11 and 12, and the answers.
 use mathlib.Core.Bool.{Bool, true, false, cond}
 use mathlib.Core.List.{List, [], _∷_}
 use Prim.Native.Nat.{ℕ, suc, _+_, _%_}
@@ -13,7 +13,7 @@ use Rattle.sheet.specs.declared.OutletFlow.{OutletFlow}
 use Rattle.sheet.specs.declared.OutletFlow.the-variants.{Same as OutletSame, Yes as OutletYes, No as OutletNo}
 use Rattle.sheet.specs.declared.OutletFlow.the-variants.{Refused as OutletRefused}
 use Rattle.sheet.specs.Label.{digitsOf}
-use Rattle.sheet.specs.Refusal.{both, within, depthFits}
+use Rattle.sheet.specs.Refusal.{both, within, depthFits, leastFits}
 
 -- the first place from i on where both have a digit and the digits differ
 unfoldable pub partFrom : ℕ → List ℕ → List ℕ → Found
@@ -70,24 +70,26 @@ outletFlow depth p q =
     cond (both (isLabel depth p) (isLabel depth q)) (cond (eqb p q) OutletSame unequal) (OutletRefused 11) in
     cond (depthFits depth) judged (OutletRefused 2)
 
--- document 02's "whole": a label with fewer digits than the depth, so that no tributary in its unit was cut
-unfoldable pub isWhole : ℕ → ℕ → Bool
-unfolding digitsOf
-isWhole depth p = ltb (length (digitsOf p)) depth
+-- the unit of a label with so many digits is known to be stem cells alone: every mouth is counted, and the label has
+-- fewer digits than the depth, so that no tributary in its unit was cut
+unfoldable pub stemAlone : ℕ → ℕ → ℕ → Bool
+stemAlone depth least digits = both (eqb least 1) (ltb digits depth)
 
--- the answer to the flow question, from that to the outlet question: Yes is unsure where the label may hold tributaries
--- that were cut; the others stay
+-- the answer to the flow question, from that to the outlet question: Yes is unsure where the unit may hold cells off
+-- the stem; the others stay
 abbrev pub cellAnswer : Bool → OutletFlow → Flow
-cellAnswer whole OutletSame = Same
-cellAnswer whole OutletYes = cond whole Yes Undecided
-cellAnswer whole OutletNo = No
-cellAnswer whole (OutletRefused number) = Refused number
+cellAnswer alone OutletSame = Same
+cellAnswer alone OutletYes = cond alone Yes Undecided
+cellAnswer alone OutletNo = No
+cellAnswer alone (OutletRefused number) = Refused number
 
--- the flow question, does water from the label q pass the label p? The steps are those of the outlet question, and then
--- one more
-unfoldable pub flow : ℕ → ℕ → ℕ → Flow
-unfolding outletFlow isWhole
-flow depth p q = cellAnswer (isWhole depth p) (outletFlow depth p q)
+-- the flow question, does water from the label q pass the label p? 2, 19 of `least`, in this order; the other steps are
+-- those of the outlet question, and then one more
+unfoldable pub flow : ℕ → ℕ → ℕ → ℕ → Flow
+unfolding depthFits leastFits outletFlow stemAlone digitsOf
+flow depth least p q =
+    let answer : Flow = cellAnswer (stemAlone depth least (length (digitsOf p))) (outletFlow depth p q) in
+    cond (depthFits depth) (cond (leastFits least) answer (Refused 19)) (Refused 2)
 
 -- the number of an answer to the flow question: 0 No, 1 Yes, 2 Same, 3 Undecided, 128 + the refusal's number
 abbrev pub answerNumber : Flow → ℕ

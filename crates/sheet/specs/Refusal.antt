@@ -1,9 +1,9 @@
--- The outcome of labelling: document 01's refusals 1 to 7 in order, with their places, with document 02's 17 straight
--- after 3, and what each lent slice holds afterwards.
+-- The outcome of labelling: document 01's refusals 1 to 7 in order, with their places, with document 02's 19 straight
+-- after 2 and 17 straight after 3, and what each lent slice holds afterwards.
 use mathlib.Core.Bool.{Bool, true, false, cond, not}
 use mathlib.Core.List.{List, _++_}
 use Prim.Native.Nat.{ℕ, zero, suc, _*_}
-use lib.Dec.{leb}
+use lib.Dec.{leb, eqb}
 use lib.ListN.{length, drop, replicate, getD}
 use Rattle.sheet.specs.declared.Found.{Found}
 use Rattle.sheet.specs.declared.Found.the-variants.{At, Nothing}
@@ -27,7 +27,7 @@ both a b = cond a b false
 unfoldable pub within : ℕ → ℕ → Bool
 within most x = both (leb 1 x) (leb x most)
 
--- checks 1, 2 and 3
+-- checks 1, 2, 19 and 3
 unfoldable pub sizesFit : ℕ → ℕ → Bool
 unfolding within
 sizesFit rows cols = both (within 256 rows) (within 256 cols)
@@ -35,6 +35,19 @@ sizesFit rows cols = both (within 256 rows) (within 256 cols)
 unfoldable pub depthFits : ℕ → Bool
 unfolding within
 depthFits depth = within 18 depth
+
+-- 19: least outside 1 to 65,536,000, or split outside 1 to 4
+unfoldable pub leastFits : ℕ → Bool
+unfolding within
+leastFits least = within 65536000 least
+
+unfoldable pub splitFits : ℕ → Bool
+unfolding within
+splitFits split = within 4 split
+
+unfoldable pub leastAndSplitFit : ℕ → ℕ → Bool
+unfolding leastFits splitFits
+leastAndSplitFit least split = both (leastFits least) (splitFits split)
 
 -- with n = rows × columns: n directions, one weight a row, n areas, n labels, 8n work places
 unfoldable pub slicesFit : Sheet → Lent → Bool
@@ -103,13 +116,27 @@ unfolding weightsFit outcomeOn
 outcomeFrom17 S =
     let rest : Outcome = outcomeOn (S .grid) in cond (weightsFit (S .grid .rows) (S .weights)) rest (Refused 17 0)
 
--- 1, 2 and 3, in this order, before 17
+-- 3, with place 0, before 17
+unfoldable pub outcomeFrom3 : Sheet → Lent → Outcome
+unfolding slicesFit outcomeFrom17
+outcomeFrom3 S L = let rest : Outcome = outcomeFrom17 S in cond (slicesFit S L) rest (Refused 3 0)
+
+-- the number of the first of checks 1, 2 and 19 that fails; 0 if none does
+unfoldable pub sheetFault : ℕ → ℕ → ℕ → ℕ → ℕ → ℕ
+unfolding sizesFit depthFits leastAndSplitFit
+sheetFault rows cols depth least split =
+    cond (sizesFit rows cols) (cond (depthFits depth) (cond (leastAndSplitFit least split) 0 19) 2) 1
+
+abbrev pub faultOf : Sheet → ℕ
+faultOf S = sheetFault (S .grid .rows) (S .grid .cols) (S .depth) (S .least) (S .split)
+
+-- 1, 2 and 19, with place 0, before 3
 unfoldable pub outcome : Sheet → Lent → Outcome
-unfolding sizesFit depthFits slicesFit outcomeFrom17
+unfolding sheetFault outcomeFrom3
 outcome S L =
-    let rest : Outcome = outcomeFrom17 S in
-    cond (sizesFit (S .grid .rows) (S .grid .cols))
-    (cond (depthFits (S .depth)) (cond (slicesFit S L) rest (Refused 3 0)) (Refused 2 0)) (Refused 1 0)
+    let fault : ℕ = faultOf S in
+    let rest : Outcome = outcomeFrom3 S L in
+    cond (eqb fault 0) rest (Refused fault 0)
 
 -- document 01's number and place of an outcome; both are 0 where it is accepted
 pub record OutcomeValues : Type 0 where
@@ -131,11 +158,11 @@ ifAccepted (Refused number place) new old = old
 -- what the lent slices hold after labelling: areas and labels are written where it is accepted, and the first 8n work
 -- places are 0 once check 3 is passed
 unfoldable pub lentAfter : Sheet → Lent → Lent
-unfolding outcome sizesFit depthFits slicesFit areasOf labelsOf
+unfolding outcome sheetFault slicesFit areasOf labelsOf
 lentAfter S L = record {
   areas = ifAccepted (outcome S L) (areasOf S) (L .areas);
   labels = ifAccepted (outcome S L) (labelsOf S) (L .labels);
   work =
-      cond (both (sizesFit (S .grid .rows) (S .grid .cols)) (both (depthFits (S .depth)) (slicesFit S L)))
+      cond (both (eqb (faultOf S) 0) (slicesFit S L))
       (written (replicate (8 * cells (S .grid)) 0) (L .work)) (L .work);
 }

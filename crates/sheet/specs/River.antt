@@ -13,18 +13,10 @@ pub record Network : Type 0 where
   pub cells : ℕ  -- all cell numbers are below this
   pub next : ℕ → Next
   pub area : ℕ → ℕ
-  pub counted : ℕ → Bool  -- may this mouth get a digit?
-  pub split : ℕ  -- how many mouths of a unit get digits, at most
+  pub counted : ℕ → Bool  -- is this mouth counted in a split?
+  pub split : ℕ  -- how many of the counted mouths of a unit are taken, at most
 
--- the least area of a mouth that counts: every mouth does
-unfoldable pub least : Sheet → ℕ
-least S = 1
-
--- how many mouths of a unit are taken, at most
-unfoldable pub split : Sheet → ℕ
-split S = 4
-
--- the drainage network of a grid by the areas of its cells
+-- the drainage network of a grid by the areas of its cells; a mouth counts if its area is at least `least`
 unfoldable pub networkBy : Grid → (ℕ → ℕ) → ℕ → ℕ → Network
 unfolding next
 networkBy G area least split = record {
@@ -37,8 +29,8 @@ networkBy G area least split = record {
 
 -- the drainage network of a sheet; areas are those of the whole basin
 unfoldable pub network : Sheet → Network
-unfolding area least split networkBy
-network S = networkBy (S .grid) (area S) (least S) (split S)
+unfolding area networkBy
+network S = networkBy (S .grid) (area S) (S .least) (S .split)
 
 abbrev pub heavier : Network → ℕ → ℕ → Bool
 heavier N u v = heavierBy (N .area) u v

@@ -21,10 +21,13 @@ pub record Grid : Type 0 where
 abbrev pub grid : ℕ → ℕ → List ℕ → Grid
 grid rows cols dirs = record { rows = rows; cols = cols; dirs = dirs }
 
--- "sheet": a grid, the depth in digits of its labels, and its weights, one a row; more weights than rows may be lent
+-- "sheet": a grid, the depth in digits of its labels, document 02's "least" and "split", and its weights, one a row;
+-- more weights than rows may be lent
 pub record Sheet : Type 0 where
   pub grid : Grid
   pub depth : ℕ
+  pub least : ℕ  -- the smallest area for which a mouth is counted in a split
+  pub split : ℕ  -- how many of the counted mouths of a unit are taken, at most
   pub weights : List ℕ
 
 -- n = rows × columns

@@ -1,4 +1,5 @@
--- Document 01's units: when one is finished, which of its mouths are taken, and the runs between them.
+-- Document 01's units, with document 02's counted mouths: when a unit is finished, which of its mouths are taken, and
+-- the runs between them.
 use mathlib.Core.Bool.{Bool, true, false, cond}
 use mathlib.Core.List.{[], _∷_}
 use Prim.Native.Nat.{ℕ, suc}
@@ -6,7 +7,7 @@ use lib.Dec.{ltb}
 use Rattle.sheet.specs.Area.{heavierBy}
 use Rattle.sheet.specs.River.{Network, heavier, Entry, stem, mouth, Run}
 
--- a unit that holds no mouth (that counts) is finished
+-- a unit without counted mouths is finished
 unfoldable pub finished : Network → Run → Bool
 finished N [] = true
 finished N (stem s ∷ R) = finished N R
@@ -18,7 +19,8 @@ rank heavier [] v = 0
 rank heavier (stem s ∷ R) v = rank heavier R v
 rank heavier (mouth u ∷ R) v = let r = rank heavier R v in cond (heavier u v) (suc r) r
 
--- v is one of the four heaviest mouths of the unit, or of all if fewer: fewer than four of them are heavier
+-- v is one of the heaviest counted mouths of the unit, as many as `split` says, or of all if fewer: it is counted, and
+-- fewer than `split` are heavier. Those are counted too, being heavier. A mouth that is not taken stays in its run.
 unfoldable pub taken : Network → Run → ℕ → Bool
 unfolding heavierBy rank
 taken N R v = cond (N .counted v) (ltb (rank (heavier N) R v) (N .split)) false

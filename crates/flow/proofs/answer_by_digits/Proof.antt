@@ -36,7 +36,7 @@ found : (c : tie.After-known-told)
 found c = sym ((after-put-label c) .put-label .ensures .0) ∙ c .before .start .given .1
 
 room : (c : tie.After-known-told) → (start (after-put-label c)) .args .depth ≤ 18
-room c = depth-most _ ((start (after-put-label c)) .pre .0)
+room c = depth-most _ ((start (after-put-label c)) .pre .0 .0)
 
 within : (c : tie.After-known-told) → startAt c ≤ 18
 within c = found-within _ _ _ _ (found c)
@@ -49,7 +49,7 @@ slice-aggregate-put-label : tie.Need-slice-aggregate-put-label
 slice-aggregate-put-label c = search needs
 
 put-label-requires : tie.Need-put-label-requires
-put-label-requires c κs = depth-most _ (c .before .before .pre .0)
+put-label-requires c κs = depth-most _ (c .before .before .pre .0 .0)
 
 enum-told : tie.Need-enum-told
 enum-told c = search needs
@@ -60,13 +60,16 @@ enum-known-start c = search needs
 returns : tie.Need-returns
 returns c =
     let asked = (start (after-put-label (c .before))) .pre in
-    same _ _ _ (asked .0) (asked .1 .0) (q-label (c .before)) (c .if1 .taken)
+    same _ _ _ _ (asked .0) (asked .1 .0) (q-label (c .before)) (c .if1 .taken)
+
+is-stem-alone-requires : tie.Need-is-stem-alone-requires
+is-stem-alone-requires c κs = search needs
 
 sub-answer-at : tie.Need-sub-answer-at
-sub-answer-at c = within (c .before)
+sub-answer-at c = within (c .before .before)
 
 part-answer-at-start : tie.Need-part-answer-at-start
-part-answer-at-start c = within (c .before .before)
+part-answer-at-start c = within (c .before .before .before)
 
 part-answer-at-end : tie.Need-part-answer-at-end
 part-answer-at-end c = search needs
@@ -81,17 +84,19 @@ returns-2 : tie.Need-returns-2
 returns-2 c =
     let put = c .before .before .before in
     let none = found-none _ _ _ (sym (put .put-label .ensures .0) ∙ c .enum-told .given .1) in
-    q-refused _ _ _ ((start put) .pre .0) ((start put) .pre .1 .0) none
+    q-refused _ _ _ _ ((start put) .pre .0) ((start put) .pre .1 .0) none
 
 returns-3 : tie.Need-returns-3
 returns-3 c =
-    let told = c .before .before .before .before .before in
+    let alone = c .before .before .before .before in
+    let told = alone .before .before in
     let asked = (start (after-put-label told)) .pre in
     let q-digits =
     found-digits _ _ places _ _ (omega arith) (room told) (found told)
     ((after-put-label told) .put-label .ensures .1) in
-    unequal _ _ _ (asked .0) (asked .1 .0) (q-label told) (c .before .before .before .before .if1 .left) _ _
-    (asked .1 .1) q-digits _ (c .before .answer-at .ensures) _ (c .cell-answer .ensures)
+    unequal _ _ _ _ (asked .0) (asked .1 .0) (q-label told) (alone .before .if1 .left) _ _
+    (asked .1 .1) q-digits _ (c .before .answer-at .ensures) _
+    (rw (alone .is-stem-alone .ensures) at (c .cell-answer .ensures))
 
 pub answer-by-digits-spec : {M : Type 1} → statement M
 answer-by-digits-spec =
@@ -102,6 +107,7 @@ answer-by-digits-spec =
     enum-told
     enum-known-start
     returns
+    is-stem-alone-requires
     sub-answer-at
     part-answer-at-start
     part-answer-at-end

@@ -33,7 +33,7 @@ found : (c : tie.After-known-told)
 found c = sym ((after-put-label c) .put-label .ensures .0) ∙ c .before .start .given .1
 
 room : (c : tie.After-known-told) → (start (after-put-label c)) .args .depth ≤ 18
-room c = depth-most _ ((start (after-put-label c)) .pre)
+room c = depth-most _ ((start (after-put-label c)) .pre .0)
 
 within : (c : tie.After-known-told) → startAt c ≤ 18
 within c = found-within _ _ _ _ (found c)
@@ -42,7 +42,7 @@ slice-aggregate-put-label : tie.Need-slice-aggregate-put-label
 slice-aggregate-put-label c = search needs
 
 put-label-requires : tie.Need-put-label-requires
-put-label-requires c κs = depth-most _ (c .before .pre)
+put-label-requires c κs = depth-most _ (c .before .pre .0)
 
 enum-told : tie.Need-enum-told
 enum-told c = search needs
@@ -74,7 +74,7 @@ returns : tie.Need-returns
 returns c =
     let put = c .before .before .before in
     let none = found-none _ _ _ (sym (put .put-label .ensures .0) ∙ c .enum-told .given .1) in
-    p-refused _ _ _ ((start put) .pre) none
+    p-refused _ _ _ _ ((start put) .pre) none
 
 returns-2 : tie.Need-returns-2
 returns-2 c = c .answer-by-digits .ensures

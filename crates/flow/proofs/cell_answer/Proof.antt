@@ -12,21 +12,21 @@ use Rattle.flow.proofs.cell_answer.Statement.{statement}
 use Rattle.flow.proofs.cell_answer.Tie as tie
 
 -- the answer by that to the outlet question
-module _ (whole : Bool) (answer : OutletFlow) where
-  same-stays : answer ≡ OutletSame → Same ≡ cellAnswer whole answer
-  same-stays e = sym (ap (cellAnswer whole) e)
+module _ (alone : Bool) (answer : OutletFlow) where
+  same-stays : answer ≡ OutletSame → Same ≡ cellAnswer alone answer
+  same-stays e = sym (ap (cellAnswer alone) e)
 
-  yes-stays : answer ≡ OutletYes → whole ≡ true → Yes ≡ cellAnswer whole answer
+  yes-stays : answer ≡ OutletYes → alone ≡ true → Yes ≡ cellAnswer alone answer
   yes-stays e w = rw (e, w)
 
-  yes-unsure : answer ≡ OutletYes → whole ≡ false → Undecided ≡ cellAnswer whole answer
+  yes-unsure : answer ≡ OutletYes → alone ≡ false → Undecided ≡ cellAnswer alone answer
   yes-unsure e w = rw (e, w)
 
-  no-stays : answer ≡ OutletNo → No ≡ cellAnswer whole answer
-  no-stays e = sym (ap (cellAnswer whole) e)
+  no-stays : answer ≡ OutletNo → No ≡ cellAnswer alone answer
+  no-stays e = sym (ap (cellAnswer alone) e)
 
-  refusal-stays : (number : ℕ) → answer ≡ OutletRefused number → Refused number ≡ cellAnswer whole answer
-  refusal-stays number e = sym (ap (cellAnswer whole) e)
+  refusal-stays : (number : ℕ) → answer ≡ OutletRefused number → Refused number ≡ cellAnswer alone answer
+  refusal-stays number e = sym (ap (cellAnswer alone) e)
 
 ruleset answers = (same-stays, yes-stays, yes-unsure, no-stays, refusal-stays)
 

@@ -1,4 +1,4 @@
--- `index` meets its contract: by what checks 1 to 3 give.
+-- `index` meets its contract: by what the first checks give.
 use mathlib.Core.Path.{_≡_, sym, _∙_}
 use Prim.Native.Nat.{_*_, _≤_}
 use native.Mathlib.Omega.{arith}
@@ -42,7 +42,7 @@ after-work c = c .before .before .before .before .before .before .before
 abbrev S : tie.After-first-checks → Sheet
 S c =
     let a = (start (after-slice-known3 c)) .args in
-    sheet (a .rows) (a .cols) (a .depth) (a .dirs .now) (a .weights .now)
+    sheet (a .rows) (a .cols) (a .depth) (a .least) (a .split) (a .dirs .now) (a .weights .now)
 
 abbrev L : tie.After-first-checks → Lent
 L c = let a = (start (after-slice-known3 c)) .args in lent (a .areas .now) (a .labels .now) (a .work .now)

@@ -44,8 +44,8 @@ index-in-order-requires c κs =
     let l = after-label-in-order (c .before .before .before .before .before) in
     let f = l .label-in-order in
     let p = (start (after-slice-known3 l)) .pre .0 in λ e.
-    in-order (cells-most (p .sized .rows-most) (p .sized .cols-most)) (f .kept .1 .1 .1 .1 .1 .1 .1 .0 ∙ p .work)
-    (omega (arith, f .kept .1 .1 .1 .1 .1 .1 .0, p .labels)) (f .ensures .order e)
+    in-order (cells-most (p .sized .rows-most) (p .sized .cols-most)) (f .kept .1 .1 .1 .1 .1 .1 .1 .1 .1 .0 ∙ p .work)
+    (omega (arith, f .kept .1 .1 .1 .1 .1 .1 .1 .1 .0, p .labels)) (f .ensures .order e)
 
 clear-places-requires : tie.Need-clear-places-requires
 clear-places-requires c κs = search needs
@@ -76,7 +76,7 @@ returns c =
     let p = (start (after-slice-known3 l)) .pre in
     indexed-fitting _ _ (p .1) (f .ensures) _ (i .index-in-order .ensures .0) (i .index-in-order .ensures .1)
     ((after-clear-places c) .clear-places .ensures ∙
-    ap (λ (k : ℕ). replicate k 0) (f .kept .1 .1 .1 .1 .1 .1 .1 .0 ∙ p .0 .work))
+    ap (λ (k : ℕ). replicate k 0) (f .kept .1 .1 .1 .1 .1 .1 .1 .1 .1 .0 ∙ p .0 .work))
 
 pub index-fitting-spec : {M : Type 1} → statement M
 index-fitting-spec =

@@ -20,13 +20,15 @@ same-length : tie.Need-same-length
 same-length c = search needs
 
 returns : tie.Need-returns
-returns c depth =
+returns c depth least split =
     let w = c .before .before .before .before .before in
-    inspected (sheet _ _ depth _ _) (sym (w .weights-fit .ensures) ∙ c .before .before .before .before .if1 .taken)
+    inspected (sheet _ _ depth least split _ _) (sym (w .weights-fit .ensures)
+    ∙ c .before .before .before .before .if1 .taken)
     (c .before .before .inspect .ensures)
 
 returns-2 : tie.Need-returns-2
-returns-2 c depth = refused-17 (sheet _ _ depth _ _) (sym (c .before .weights-fit .ensures) ∙ c .if1 .left)
+returns-2 c depth least split =
+    refused-17 (sheet _ _ depth least split _ _) (sym (c .before .weights-fit .ensures) ∙ c .if1 .left)
 
 pub inspect-sheet-spec : {M : Type 1} → statement M
 inspect-sheet-spec = tie.close (tie.spec weights-fit-requires inspect-requires same-length returns returns-2)

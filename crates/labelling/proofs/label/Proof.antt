@@ -1,4 +1,4 @@
--- `label` meets its contract: by what checks 1 to 3 give.
+-- `label` meets its contract: by what the first checks give.
 use mathlib.Core.Path.{_≡_, sym, ap, _∙_}
 use mathlib.Core.List.{List, _++_}
 use Prim.Native.Nat.{ℕ, _*_, _≤_}
@@ -30,7 +30,8 @@ after-enum-told c = c .before .before .before
 
 -- the sheet and what is lent
 abbrev S : tie.After-first-checks → Sheet
-S c = let a = (start c) .args in sheet (a .rows) (a .cols) (a .depth) (a .dirs .now) (a .weights .now)
+S c = let a = (start c) .args in sheet (a .rows) (a .cols) (a .depth) (a .least) (a .split) (a .dirs .now)
+    (a .weights .now)
 
 abbrev L : tie.After-first-checks → Lent
 L c = let a = (start c) .args in lent (a .areas .now) (a .labels .now) (a .work .now)

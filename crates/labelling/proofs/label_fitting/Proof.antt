@@ -41,7 +41,7 @@ same-length-3 c = search needs
 returns : tie.Need-returns
 returns c =
     let f = (after-label-in-order (after-areas (c .before .before))) .label-in-order in
-    let long = f .kept .1 .1 .1 .1 .1 .1 .1 .0 ∙
+    let long = f .kept .1 .1 .1 .1 .1 .1 .1 .1 .1 .0 ∙
     (start (after-slices (after-label-in-order (after-areas (c .before .before))))) .pre .work in (
       f .ensures .outcome,
       (

@@ -63,7 +63,7 @@ write-if-accepted-requires c κs =
           (i .inspect-sheet .kept .1 .1 .1 .1 .0
           ∙ cleared-long (s .args .rows * s .args .cols) (s .args .work .now) (s .pre .work)
           (a .clear-places .ensures)),
-      i .inspect-sheet .ensures (s .args .depth) .passed,
+      i .inspect-sheet .ensures (s .args .depth) (s .args .least) (s .args .split) .passed,
     )
 
 same-length : tie.Need-same-length
@@ -80,7 +80,8 @@ returns c =
     let w = c .before .before .before .before .before .before .write-if-accepted .ensures in
     record {
       outcome =
-          (after-inspect-sheet (c .before .before .before .before .before .before)) .inspect-sheet .ensures _ .outcome;
+          (after-inspect-sheet (c .before .before .before .before .before .before)) .inspect-sheet .ensures _ _ _
+          .outcome;
       areas = w .0;
       labels = w .1 .0;
       order = w .1 .1;

@@ -1,4 +1,4 @@
-use mathlib.Core.Path.{_≡_}
+use mathlib.Core.Path.{_≡_, refl}
 use Prim.Native.Nat.{ℕ}
 use native.Mathlib.Omega.{arith}
 use borrow.Author.Needs.{needs}
@@ -43,7 +43,9 @@ returns c =
     (w .0, (w .1 .0, λ e. w .1 .1))
 
 returns-2 : tie.Need-returns-2
-returns-2 c = (search needs, (search needs, λ e. let z : _≡_ {A = ℕ} 0 1 = cc in absurd (omega arith)))
+returns-2 c =
+    let told = c .enum-told2 .given .1 in
+    (rw told refl, (rw told refl, λ e. let z : _≡_ {A = ℕ} 0 1 = cc in absurd (omega arith)))
 
 pub write-if-accepted-spec : {M : Type 1} → statement M
 write-if-accepted-spec =

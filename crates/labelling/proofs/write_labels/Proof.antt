@@ -3,7 +3,6 @@ use Prim.Native.Nat.{_*_, _≤_}
 use mathlib.Core.Path.{_≡_, refl, sym, _∙_}
 use native.Mathlib.Omega.{arith}
 use borrow.Author.Needs.{needs}
-use Rattle.sheet.specs.River.{least, split}
 use Rattle.sheet.proofs.Cells.{cells-most}
 use Rattle.upstream.specs.Work.{cellsPart, orderedSizesPart}
 use Rattle.labelling.specs.Labelling.{sheet}
@@ -42,7 +41,7 @@ measure-requires c κs =
     let s = c .before .before .before .before .before .before .before in
     let p = s .pre in
     let a = s .args in
-    let S = sheet (a .rows) (a .cols) (a .depth) (a .dirs .now) (a .weights .now) in
+    let S = sheet (a .rows) (a .cols) (a .depth) (a .least) (a .split) (a .dirs .now) (a .weights .now) in
     (p .0 .sized, p .1 .drained, weighted S (p .0) (p .1), p .0 .areas, omega (arith, p .0 .work))
 
 arrange-requires : tie.Need-arrange-requires
@@ -80,6 +79,12 @@ add-sizes-end : tie.Need-add-sizes-end
 add-sizes-end c =
     let p = (start (after-measure (after-arrange (after-clear-labels (c .before))))) .pre in
     omega (arith, queued-most (p .1 .drained), cells-most (p .0 .sized .rows-most) (p .0 .sized .cols-most))
+
+-- least fits 32 bits
+cast-label-basin : tie.Need-cast-label-basin
+cast-label-basin c =
+    let p = (start (after-measure (after-arrange (after-clear-labels (c .before))))) .pre in
+    omega (arith, p .0 .least-most)
 
 mul-label-basin : tie.Need-mul-label-basin
 mul-label-basin c = omega (arith, few c)
@@ -124,14 +129,13 @@ part-label-basin-end-2 c =
     )
 
 label-basin-requires : tie.Need-label-basin-requires
-unfolding least split
 label-basin-requires c κs =
     let o = after-arrange (after-clear-labels (c .before .before .before .before .before .before)) in
     let m = after-measure o in
     let p = (start m) .pre in
     let a = (start m) .args in
     let n = a .rows * a .cols in
-    let S = sheet (a .rows) (a .cols) (a .depth) (a .dirs .now) (a .weights .now) in
+    let S = sheet (a .rows) (a .cols) (a .depth) (a .least) (a .split) (a .dirs .now) (a .weights .now) in
     let accepted = rest-accepted S (p .1) in
     let e = network-in S (a .areas .now) (m .measure .ensures .1 S refl refl) in
     let r = o .arrange .ensures .0 in
@@ -150,7 +154,7 @@ label-basin-requires c κs =
                 arith,
                 p .0 .labels,
                 c .before .before .before .before .before .before .before .clear-labels .kept .0,
-              )),
+              )) (p .0 .split-some) (p .0 .split-most),
         ),
       ),
     )
@@ -165,13 +169,12 @@ same-length-3 : tie.Need-same-length-3
 same-length-3 c = search needs
 
 returns : tie.Need-returns
-unfolding least split
 returns c =
     let p = (start (after-measure (after-arrange (after-clear-labels (after-labels (c .before .before)))))) .pre in
     let a = (start (after-measure (after-arrange (after-clear-labels (after-labels (c .before .before)))))) .args in
     let n = a .rows * a .cols in
     let r = (after-arrange (after-clear-labels (after-labels (c .before .before)))) .arrange .ensures .0 in
-    let S = sheet (a .rows) (a .cols) (a .depth) (a .dirs .now) (a .weights .now) in
+    let S = sheet (a .rows) (a .cols) (a .depth) (a .least) (a .split) (a .dirs .now) (a .weights .now) in
     let accepted = rest-accepted S (p .1) in
     let areas =
     (after-measure
@@ -200,6 +203,7 @@ write-labels-spec =
     add-cells-end
     mul-sizes
     add-sizes-end
+    cast-label-basin
     mul-label-basin
     sub-label-basin
     part-label-basin-start

@@ -1,4 +1,4 @@
--- `levy` meets its contract: by the total, and by what checks 1 to 3 give.
+-- `levy` meets its contract: by the total, and by what the first checks give.
 use mathlib.Core.Path.{_≡_, sym, _∙_}
 use Prim.Native.Nat.{_*_, _≤_}
 use native.Mathlib.Omega.{arith}
@@ -38,7 +38,8 @@ after-levy-fitting c =
 -- the sheet and what is lent
 abbrev S : tie.After-first-checks → Sheet
 S c =
-    let a = (start c) .args in sheet (a .rows) (a .cols) (a .depth) (a .dirs .now) (a .weights .now)
+    let a = (start c) .args in sheet (a .rows) (a .cols) (a .depth) (a .least) (a .split) (a .dirs .now)
+    (a .weights .now)
 
 abbrev L : tie.After-first-checks → Lent
 L c = let a = (start c) .args in lent (a .areas .now) (a .labels .now) (a .work .now)

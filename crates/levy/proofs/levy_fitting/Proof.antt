@@ -42,8 +42,8 @@ index-in-order-requires c κs =
     let l = c .before .before .before .before .before .before .before .before .before .before .before in
     let f = l .label-in-order in
     let p = (start l) .pre .0 in λ e.
-    in-order (cells-most (p .sized .rows-most) (p .sized .cols-most)) (f .kept .1 .1 .1 .1 .1 .1 .1 .0 ∙ p .work)
-    (omega (arith, f .kept .1 .1 .1 .1 .1 .1 .0, p .labels)) (f .ensures .order e)
+    in-order (cells-most (p .sized .rows-most) (p .sized .cols-most)) (f .kept .1 .1 .1 .1 .1 .1 .1 .1 .1 .0 ∙ p .work)
+    (omega (arith, f .kept .1 .1 .1 .1 .1 .1 .1 .1 .0, p .labels)) (f .ensures .order e)
 
 dues-in-order-requires : tie.Need-dues-in-order-requires
 dues-in-order-requires c κs =
@@ -54,9 +54,9 @@ dues-in-order-requires c κs =
     let x = indexed-fitting _ _ (p .1 .0) (f .ensures) _ (i .index-in-order .ensures .0) (i .index-in-order .ensures .1)
     refl in λ units e.
     in-order-dues _ _ (p .1 .0) (p .0) (f .ensures) x e (p .1 .1 .0) (record {
-      areas = omega (arith, f .kept .1 .1 .1 .1 .1 .0, p .0 .areas);
-      labels = omega (arith, f .kept .1 .1 .1 .1 .1 .1 .0, p .0 .labels);
-      work = f .kept .1 .1 .1 .1 .1 .1 .1 .0 ∙ p .0 .work;
+      areas = omega (arith, f .kept .1 .1 .1 .1 .1 .1 .1 .0, p .0 .areas);
+      labels = omega (arith, f .kept .1 .1 .1 .1 .1 .1 .1 .1 .0, p .0 .labels);
+      work = f .kept .1 .1 .1 .1 .1 .1 .1 .1 .1 .0 ∙ p .0 .work;
       counts = i .index-in-order .kept .1 .1 .1 .1 .1 .1 .0;
       dues-room = p .1 .1 .1;
     })
@@ -95,7 +95,7 @@ returns c =
     let a = i .index-in-order .ensures in (
       indexed-fitting _ _ (p .1 .0) (f .ensures) _ (a .0) (a .1)
           (c .before .before .clear-places .ensures
-          ∙ ap (λ (k : ℕ). replicate k 0) (f .kept .1 .1 .1 .1 .1 .1 .1 .0 ∙ p .0 .work)),
+          ∙ ap (λ (k : ℕ). replicate k 0) (f .kept .1 .1 .1 .1 .1 .1 .1 .1 .1 .0 ∙ p .0 .work)),
       dues-written _ _ (p .1 .0) (p .0) (f .ensures)
           (indexed-fitting _ _ (p .1 .0) (f .ensures) _ (a .0) (a .1) refl) _ _ (d .dues-in-order .ensures),
     )

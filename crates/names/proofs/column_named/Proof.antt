@@ -23,6 +23,9 @@ after-column-if3 c = c .before .before .before .before
 abbrev after-column-if5 : tie.After-column-if7 → tie.After-column-if5
 after-column-if5 c = c .before .before .before .before
 
+abbrev after-column-if7 : tie.After-column-if9 → tie.After-column-if7
+after-column-if7 c = c .before .before .before .before
+
 slice-aggregate-column-if : tie.Need-slice-aggregate-column-if
 slice-aggregate-column-if c = search needs
 
@@ -65,18 +68,33 @@ slice-aggregate-column-if-7 c = search needs
 column-if-requires-7 : tie.Need-column-if-requires-7
 column-if-requires-7 c κs = search needs
 
+slice-aggregate-column-if-8 : tie.Need-slice-aggregate-column-if-8
+slice-aggregate-column-if-8 c = search needs
+
+column-if-requires-8 : tie.Need-column-if-requires-8
+column-if-requires-8 c κs = search needs
+
+slice-aggregate-column-if-9 : tie.Need-slice-aggregate-column-if-9
+slice-aggregate-column-if-9 c = search needs
+
+column-if-requires-9 : tie.Need-column-if-requires-9
+column-if-requires-9 c κs = search needs
+
 returns : tie.Need-returns
 unfolding columnNamed
 returns c =
-    let five = after-column-if5 c in
+    let seven = after-column-if7 c in
+    let five = after-column-if5 seven in
     let three = after-column-if3 five in
     let one = after-column-if three in
-    chain _ _ _ (c .column-if7 .ensures)
-    (chain _ _ _ (c .before .before .column-if6 .ensures)
+    chain _ _ _ (c .column-if9 .ensures)
+    (chain _ _ _ (c .before .before .column-if8 .ensures)
+    (chain _ _ _ (seven .column-if7 .ensures)
+    (chain _ _ _ (seven .before .before .column-if6 .ensures)
     (chain _ _ _ (five .column-if5 .ensures)
     (chain _ _ _ (five .before .before .column-if4 .ensures)
     (chain _ _ _ (three .column-if3 .ensures)
-    (chain _ _ _ (three .before .before .column-if2 .ensures) (one .column-if .ensures))))))
+    (chain _ _ _ (three .before .before .column-if2 .ensures) (one .column-if .ensures))))))))
 
 pub column-named-spec : {M : Type 1} → statement M
 column-named-spec =
@@ -96,4 +114,8 @@ column-named-spec =
     column-if-requires-6
     slice-aggregate-column-if-7
     column-if-requires-7
+    slice-aggregate-column-if-8
+    column-if-requires-8
+    slice-aggregate-column-if-9
+    column-if-requires-9
     returns)

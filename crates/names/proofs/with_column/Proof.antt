@@ -1,25 +1,42 @@
 -- `names::with_column` meets its contract.
-use borrow.Author.Tests.{ne-eqb}
+use borrow.Author.Needs.{needs}
 use Rattle.names.specs.Columns.{withColumn}
 use Rattle.names.proofs.with_column.Statement.{statement}
 use Rattle.names.proofs.with_column.Tie as tie
 
+column-set-requires : tie.Need-column-set-requires
+column-set-requires c κs = search needs
+
+column-set-requires-2 : tie.Need-column-set-requires-2
+column-set-requires-2 c κs = search needs
+
+column-set-requires-3 : tie.Need-column-set-requires-3
+column-set-requires-3 c κs = search needs
+
+column-set-requires-4 : tie.Need-column-set-requires-4
+column-set-requires-4 c κs = search needs
+
+column-set-requires-5 : tie.Need-column-set-requires-5
+column-set-requires-5 c κs = search needs
+
 returns : tie.Need-returns
 unfolding withColumn
-returns c = rw (c .if1 .taken)
-
-returns-2 : tie.Need-returns-2
-unfolding withColumn
-returns-2 c = rw (c .if2 .taken)
-
-returns-3 : tie.Need-returns-3
-unfolding withColumn
-returns-3 c = rw (c .if3 .taken)
-
-returns-4 : tie.Need-returns-4
-unfolding withColumn
-returns-4 c =
-    rw (ne-eqb _ _ (c .before .before .if1 .left), ne-eqb _ _ (c .before .if2 .left), ne-eqb _ _ (c .if3 .left))
+returns c =
+    rw (
+      c .before .before .before .before .column-set .ensures,
+      c .before .before .before .column-set2 .ensures,
+      c .before .before .column-set3 .ensures,
+      c .before .column-set4 .ensures,
+      c .column-set5 .ensures,
+    )
 
 pub with-column-spec : {M : Type 1} → statement M
-with-column-spec = tie.close (tie.spec returns returns-2 returns-3 returns-4)
+with-column-spec =
+    tie.close
+    (tie.spec
+    column-set-requires
+    column-set-requires-2
+    column-set-requires-3
+    column-set-requires-4
+    column-set-requires-5
+    returns)

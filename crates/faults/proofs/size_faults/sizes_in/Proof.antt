@@ -22,9 +22,28 @@ value-of-requires-3 c κs = search needs
 cast-t11 : tie.Need-cast-t11
 cast-t11 c = search needs
 
+value-or-requires : tie.Need-value-or-requires
+value-or-requires c κs = search needs
+
+cast-t14 : tie.Need-cast-t14
+cast-t14 c = search needs
+
+value-or-requires-2 : tie.Need-value-or-requires-2
+value-or-requires-2 c κs = search needs
+
+cast-t17 : tie.Need-cast-t17
+cast-t17 c = search needs
+
 returns : tie.Need-returns
 unfolding sizesIn
-returns c = simp (c .before .before .value-of .ensures, c .before .value-of2 .ensures, c .value-of3 .ensures)
+returns c =
+    simp (
+      c .before .before .before .before .value-of .ensures,
+      c .before .before .before .value-of2 .ensures,
+      c .before .before .value-of3 .ensures,
+      c .before .value-or .ensures,
+      c .value-or2 .ensures,
+    )
 
 pub sizes-in-spec : {M : Type 1} → statement M
 sizes-in-spec =
@@ -36,4 +55,8 @@ sizes-in-spec =
     cast-t8
     value-of-requires-3
     cast-t11
+    value-or-requires
+    cast-t14
+    value-or-requires-2
+    cast-t17
     returns)

@@ -13,10 +13,10 @@ use Rattle.flow.proofs.pairs.answer_pairs.Statement.{statement}
 use Rattle.flow.proofs.pairs.answer_pairs.Tie as tie
 
 abbrev Inv-loop : tie.InvT-loop
-Inv-loop depth count p q answers₀ i₀ answers i = Answering depth p q answers₀ answers i
+Inv-loop depth least count p q answers₀ i₀ answers i = Answering depth least p q answers₀ answers i
 
 abbrev μ-loop : tie.MeasureT-loop
-μ-loop depth count p q answers₀ i₀ answers i = count - i
+μ-loop depth least count p q answers₀ i₀ answers i = count - i
 
 -- Points of the function, each from a later one.
 abbrev start : tie.In-loop Inv-loop μ-loop → tie.Start Inv-loop μ-loop
@@ -37,7 +37,8 @@ enough-q c =
     omega (arith, s .pre .1 .0, count-q (length (s .args .p .now)) (length (s .args .q .now)))
 
 loop-holds : tie.Need-loop-holds Inv-loop μ-loop
-loop-holds c = answering-starts _ _ _ _ (let s = c .before .before .before in omega (arith, s .pre .1 .0, s .pre .1 .1))
+loop-holds c = answering-starts _ _ _ _ _ (let s = c .before .before .before in omega
+    (arith, s .pre .1 .0, s .pre .1 .1))
 
 mul-answer-fitting : tie.Need-mul-answer-fitting Inv-loop μ-loop
 mul-answer-fitting c = omega (arith, enough-p c, enough-q c)
@@ -59,7 +60,8 @@ answer-number-requires c κs = search needs
 
 cast-answers : tie.Need-cast-answers Inv-loop μ-loop
 cast-answers c =
-    let byte = number-byte _ _ _ _ (c .answer-number .ensures ∙ ap answerNumber (c .before .answer-fitting .ensures)) in
+    let byte = number-byte _ _ _ _ _ (c .answer-number .ensures ∙ ap answerNumber
+    (c .before .answer-fitting .ensures)) in
     omega (arith, byte)
 
 slice-write-answers : tie.Need-slice-write-answers Inv-loop μ-loop
@@ -74,7 +76,7 @@ loop-less c = omega arith
 loop-again : tie.Need-loop-again Inv-loop μ-loop
 loop-again c =
     let l = in-loop c in
-    answering-goes-on _ _ _ _ (l .before .loop .inv) _ (omega (arith, (start l) .pre .1 .0))
+    answering-goes-on _ _ _ _ _ (l .before .loop .inv) _ (omega (arith, (start l) .pre .1 .0))
     (c .answer-number .ensures ∙ ap answerNumber (c .before .answer-fitting .ensures))
 
 same-length : tie.Need-same-length Inv-loop μ-loop
@@ -82,7 +84,7 @@ same-length c = c .before .loop .inv .same-length
 
 returns : tie.Need-returns Inv-loop μ-loop
 returns c =
-    answering-ends _ _ _ _ (c .before .loop .inv) (let s = c .before .before .before .before .before in
+    answering-ends _ _ _ _ _ (c .before .loop .inv) (let s = c .before .before .before .before .before in
     omega (arith, s .pre .1 .0))
 
 pub answer-pairs-spec : {M : Type 1} → statement M

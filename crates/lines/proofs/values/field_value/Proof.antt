@@ -16,17 +16,17 @@ enum-told : tie.Need-enum-told
 enum-told c = search needs
 
 returns : tie.Need-returns
-returns c = sym (field-none _ (sym (c .before .before .read-value .ensures .0) ∙ c .enum-told .given .1))
+returns c = sym (field-none _ _ (sym (c .before .before .read-value .ensures .0) ∙ c .enum-told .given .1))
 
 returns-2 : tie.Need-returns-2
 returns-2 c =
-    sym (field-whole _
+    sym (field-whole _ _
     (sym (c .before .before .before .before .read-value .ensures .0) ∙ c .before .before .value .given .1)
     (omega arith))
 
 returns-3 : tie.Need-returns-3
 returns-3 c =
-    sym (field-more _
+    sym (field-more _ _
     (sym (c .before .before .before .before .read-value .ensures .0) ∙ c .before .before .value .given .1)
     (omega arith))
 

@@ -1,0 +1,110 @@
+-- Where every mouth is counted, labels do not depend on the test for it: with least 1 they are those of document 01.
+use mathlib.Core.Path.{_≡_, refl, sym, _∙_, ap, fun-ext}
+use mathlib.Core.Bool.{true}
+use mathlib.Core.List.{[], _∷_}
+use Prim.Native.Nat.{ℕ, zero, suc}
+use Rattle.sheet.specs.declared.Next.the-variants.{To}
+use Rattle.sheet.specs.declared.Outcome.the-variants.{Accepted}
+use Rattle.sheet.specs.Sheet.{Sheet}
+use Rattle.sheet.specs.River.{Network, network, heavier, donors, Run, stem, mouth, upstream, riverWithin, river}
+use Rattle.sheet.specs.Unit.{finished, taken, Parts, last, part, prepend, cutAt, parts}
+use Rattle.sheet.specs.Label.{passesIn, holds, placeIn, placeOf, label, number, outlet, outletOf}
+use Rattle.sheet.specs.Refusal.{Lent, outcome, lentAfter}
+use Rattle.claims.specs.Demand.{AllCounted, Inside}
+use Rattle.claims.specs.Lawful.{Lawful}
+use Rattle.claims.specs.Runs.{MouthOf, mouth-here, mouth-there, Headed}
+use Rattle.claims.specs.AsBefore.{everyMouth, digitsBy, AsBefore}
+use Rattle.claims.proofs.Runs.{In}
+use Rattle.claims.proofs.Rivers.{mouth-goes, river-headed, river-covers}
+use Rattle.claims.proofs.Parts.{place-headed, place-holds}
+use Rattle.claims.proofs.Basins.{lawful, drain, own-outlet}
+use Rattle.claims.proofs.Units.{digitsIn}
+use Rattle.claims.proofs.Written.{the-basin, label-from-outlet}
+use Rattle.claims.proofs.Theorems.{counts}
+
+-- the network with every mouth counted
+abbrev all : Network → Network
+all N = record { cells = N .cells; next = N .next; area = N .area; counted = λ v. true; split = N .split }
+
+-- ---- what does not depend on which mouths are counted
+
+module _ (N : Network) where
+  river-same : (n m : ℕ) → riverWithin (all N) n m ≡ riverWithin N n m
+  unfolding riverWithin donors
+  river-same zero m = refl
+  river-same (suc n) m = ap (λ (f : ℕ → Run). stem m ∷ upstream f (donors N m)) (fun-ext (river-same n))
+
+  holds-same : (R : Run) (c : ℕ) → holds (all N) R c ≡ holds N R c
+  unfolding holds passesIn
+  holds-same [] c = refl
+  holds-same (stem s ∷ R) c = rw (holds-same R c)
+  holds-same (mouth v ∷ R) c = rw (holds-same R c)
+
+  place-in-same : (k : ℕ) (P : Parts) (c : ℕ) → placeIn (all N) k P c ≡ placeIn N k P c
+  unfolding placeIn passesIn river
+  place-in-same k (last R) c = refl
+  place-in-same k (part R v P) c =
+      rw (holds-same R c, place-in-same (suc (suc k)) P c, river-same (N .cells) v)
+
+-- ---- runs whose mouths are all counted
+
+abbrev Counted : Network → Run → Type 0
+Counted N R = (v : ℕ) → MouthOf R v → N .counted v ≡ true
+
+module _ (N : Network) where
+  finished-same : (R : Run) → Counted N R → finished (all N) R ≡ finished N R
+  unfolding finished
+  finished-same [] h = refl
+  finished-same (stem s ∷ R) h = finished-same R (λ v m. h v (mouth-there m))
+  finished-same (mouth v ∷ R) h = rw (h v mouth-here)
+
+  cut-same : (R rest : Run) → Counted N rest → cutAt (taken (all N) R) rest ≡ cutAt (taken N R) rest
+  unfolding cutAt taken
+  cut-same R [] h = refl
+  cut-same R (stem s ∷ rest) h = ap (prepend (stem s)) (cut-same R rest (λ v m. h v (mouth-there m)))
+  cut-same R (mouth v ∷ rest) h = rw (h v mouth-here, cut-same R rest (λ u m. h u (mouth-there m)))
+
+  place-same : (R : Run) (c : ℕ) → Counted N R → placeOf (all N) R c ≡ placeOf N R c
+  unfolding placeOf parts
+  place-same R c h = place-in-same N 0 (cutAt (taken (all N) R) R) c ∙ ap (λ (P : Parts). placeIn N 0 P c)
+      (cut-same R R h)
+
+module _ {N : Network} (O : Lawful N (heavier N)) (counts : (v s : ℕ) → N .next v ≡ To s → N .counted v ≡ true) where
+  run-counted : (R : Run) → Headed (N .next) (heavier N) R → Counted N R
+  run-counted R w v m = let g = mouth-goes w m in counts v (g .0) (g .1)
+
+  label-same : (d : ℕ) (R : Run) (c : ℕ) → Headed (N .next) (heavier N) R → In (N .next) R c
+      → label (all N) d R c ≡ label N d R c
+  unfolding label
+  label-same zero R c w i = refl
+  label-same (suc d) R c w i =
+      let h = run-counted R w in
+      rw (
+        finished-same N R h,
+        place-same N R c h,
+        label-same d (placeOf N R c .unit) c (place-headed O R c w i) (place-holds O R c i),
+      )
+
+-- ---- accepted sheets
+
+module _ (S : Sheet) (L : Lent) (accepted : outcome S L ≡ Accepted) where
+  -- the digits by the network of the sheet, and by that in which every mouth is counted
+  digits-same : AllCounted (S .least) → (c : ℕ) → Inside S c
+      → digitsIn (network S) (outlet (S .grid)) (S .depth) c ≡ digitsBy (everyMouth (S .split) S) S c
+  unfolding network everyMouth digitsBy outletOf river
+  digits-same one c i =
+      let B = the-basin S L accepted in
+      let O = lawful (B .forest) in
+      let o = outlet (S .grid) in
+      let same =
+      label-same O (λ v s e. counts S L accepted one v (B .forest .from-inside v s e)) (S .depth)
+      (river (network S) o) c
+      (river-headed O o) (river-covers O o c (drain B c i)) in
+      rw (own-outlet B c i, river-same (network S) (network S .cells) o) (sym same)
+
+  pub as-before : AsBefore S (lentAfter S L .labels)
+  as-before = record {
+    same-labels = λ one four c i.
+        label-from-outlet S L accepted c i
+        ∙ ap number (digits-same one c i ∙ ap (λ (k : ℕ). digitsBy (everyMouth k S) S c) four);
+  }

@@ -1,0 +1,31 @@
+-- Least 1 and split 4 give the labels of document 01: every mouth is counted, and the four heaviest are taken.
+use mathlib.Core.Path.{_≡_}
+use mathlib.Core.Bool.{true}
+use mathlib.Core.List.{List}
+use Prim.Native.Nat.{ℕ}
+use Rattle.sheet.specs.Sheet.{Sheet, cells, next}
+use Rattle.sheet.specs.Area.{area}
+use Rattle.sheet.specs.River.{Network, river}
+use Rattle.sheet.specs.Label.{number, outletOf, label, labelAt}
+use Rattle.claims.specs.Demand.{AllCounted, Inside}
+
+-- the network of a sheet in which every mouth is counted, and so many are taken
+unfoldable pub everyMouth : ℕ → Sheet → Network
+unfolding next area
+everyMouth split S = record {
+  cells = cells (S .grid);
+  next = next (S .grid);
+  area = area S;
+  counted = λ v. true;
+  split = split;
+}
+
+-- the digits of an inside cell's label by that network
+unfoldable pub digitsBy : Network → Sheet → ℕ → List ℕ
+unfolding outletOf river label
+digitsBy N S c = label N (S .depth) (river N (outletOf (S .grid) c)) c
+
+-- the labels of the inside cells that were written for a sheet with least 1 and split 4; those of outside cells are 0
+pub record AsBefore (S : Sheet) (labels : List ℕ) : Type 0 where
+  pub same-labels : AllCounted (S .least) → S .split ≡ 4 → (c : ℕ) → Inside S c
+      → labelAt labels c ≡ number (digitsBy (everyMouth 4 S) S c)

@@ -1,2 +1,3 @@
+pub mod Cases
 pub mod FaultLaws
 pub mod Neither

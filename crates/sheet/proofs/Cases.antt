@@ -1,8 +1,13 @@
 -- The worked cases hold of the definitions, by computation.
 use mathlib.Core.Path.{_≡_, refl}
 use Rattle.sheet.specs.Cases.{cases, listing, refusals, orders, traps, outletFlows, weighted, words}
-use Rattle.sheet.specs.Cases.{splits, nineteens, leastFlows}
+use Rattle.sheet.specs.Cases.{ditch, splits, nineteens, leastFlows}
 use Rattle.sheet.specs.Cases.{allComputed, allStated}
+
+-- a case that is small enough for a refused edit to show what it computes instead
+pub small-ditch : allComputed ditch ≡ allStated ditch
+unfolding ditch
+small-ditch = refl
 
 -- all cases marked * in document 01
 pub all-cases : allComputed cases ≡ allStated cases

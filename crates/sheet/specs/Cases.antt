@@ -184,6 +184,20 @@ weighted =
     ∷ case (refused .areas ++ refused .labels ++ refused .work) (replicate 6 7 ++ replicate 24 0)
     ∷ []
 
+-- a river along the first row, where cells weigh 2, with the mouth 3, of area 1, at its outlet, and the mouth 2, of area
+-- 2, at its next cell. At least 2 the mouth 2 alone is counted, and 3 stays in unit 1
+unfoldable pub ditch : List Case
+unfolding labelOf listFrom
+ditch =
+    case (listFrom (labelOf (record {
+      grid = grid 2 3 (16 ∷ 16 ∷ 16 ∷ 64 ∷ 64 ∷ 16 ∷ []);
+      depth = 2;
+      least = 2;
+      split = 4;
+      weights = 2 ∷ 1 ∷ [];
+    })) 0 6) (1 ∷ 1 ∷ 2 ∷ 1 ∷ 3 ∷ 3 ∷ [])
+    ∷ []
+
 -- Least and split. Sample A at least 2: of the mouths 8, 9, 10, 1 and 3 only 1 counts, whose area is 2; the others stay
 -- in their units, which are finished. At least 3 no mouth counts. By weights its areas are larger: at least 3 mouth 1
 -- counts again. Of the basin of confluences one mouth at a time: 7, then 1 in unit 1 and 6 in unit 3; two at a time: 7

@@ -81,7 +81,7 @@ loop-again-2 : tie.Need-loop-again-2 Inv-loop μ-loop
 loop-again-2 c =
     λ u. passed-skip ((start (c .before .before .before .before .before .before)) .pre .1 .0) u
     (c .before .before .before .before .before .loop-test .taken) (c .before .before .key-at .ensures)
-    (c .before .before .before .if1 .left) (c .if2 .taken)
+    (c .before .before .before .if1 .left) (omega (arith, c .if2 .taken))
     (c .before .before .before .before .before .before .loop .inv u)
 
 with-requires : tie.Need-with-requires Inv-loop μ-loop

@@ -9,15 +9,15 @@ use lib.Dec.{eqb, ltb}
 use lib.ListN.{length}
 use borrow.Author.Tests.{ne-eqb, ltb-true, eqb-true}
 use Rattle.sheet.specs.declared.Flow.{Flow}
-use Rattle.sheet.specs.declared.Flow.the-variants.{Refused}
 use Rattle.sheet.specs.declared.OutletFlow.{OutletFlow}
 use Rattle.sheet.specs.declared.OutletFlow.the-variants.{Same as OutletSame, Yes as OutletYes, No as OutletNo}
 use Rattle.sheet.specs.declared.OutletFlow.the-variants.{Refused as OutletRefused}
 use Rattle.sheet.specs.Label.{digitsOf}
-use Rattle.sheet.specs.Refusal.{both, depthFits, leastFits}
+use Rattle.sheet.specs.Refusal.{depthFits}
 use Rattle.sheet.specs.Flow.{partAt, ruleAt, isLabel, answerAt, answerUnequal, outletFlow}
 use Rattle.sheet.specs.Flow.{stemAlone, cellAnswer, flow, answerNumber, outletAnswerNumber}
 use Rattle.sheet.proofs.Within.{both-true}
+use Rattle.sheet.proofs.Questions.{from-outlet-flow}
 use Rattle.claims.specs.Demand.{AllCounted}
 use Rattle.claims.specs.Flow.{AnswersAgree, QuestionsAgree}
 use Rattle.claims.specs.Parting.{PartAt, RuleAt}
@@ -52,22 +52,6 @@ unfolding stemAlone
 alone-means depth least digits e =
     let b = both-true (eqb least 1) (ltb digits depth) e in
     (omega (arith, eqb-true least 1 (b .0)), ltb-true digits depth (b .1))
-
--- the flow question, from the outlet question, where least fits
-pub from-outlet-flow : (depth least p q : ℕ) → leastFits least ≡ true
-    → flow depth least p q ≡ cellAnswer (stemAlone depth least (length (digitsOf p))) (outletFlow depth p q)
-unfolding flow outletFlow
-from-outlet-flow depth least p q fits =
-    let judged : OutletFlow =
-    cond (both (isLabel depth p) (isLabel depth q)) (cond (eqb p q) OutletSame (answerUnequal p q))
-    (OutletRefused 11) in
-    rw fits (go (depthFits depth) (stemAlone depth least (length (digitsOf p))) judged)
-  where
-    go : (d alone : Bool) (judged : OutletFlow)
-        → cond d (cellAnswer alone (cond d judged (OutletRefused 2))) (Refused 2)
-        ≡ cellAnswer alone (cond d judged (OutletRefused 2))
-    go true alone judged = refl
-    go false alone judged = refl
 
 answers-agree : (alone : Bool) (o : OutletFlow) → AnswersAgree (cellAnswer alone o) o
 answers-agree alone OutletSame = record {

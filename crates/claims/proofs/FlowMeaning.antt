@@ -19,6 +19,7 @@ use Rattle.sheet.specs.Label.{digitsOf, labelAt}
 use Rattle.sheet.specs.Refusal.{outcome, lentAfter, Lent}
 use Rattle.sheet.specs.Flow.{answerUnequal, stemAlone, cellAnswer, answerNumber, outletAnswerNumber}
 use Rattle.sheet.proofs.Within.{least-fits}
+use Rattle.sheet.proofs.Questions.{from-outlet-flow}
 use Rattle.claims.specs.Demand.{OneOutlet, Inside, digitsAt}
 use Rattle.claims.specs.Flow.{asked, FlowMeaning, outletAsked, OutletFlowMeaning}
 use Rattle.claims.specs.Parting.{PartAt, RuleAt, MeetsRule}
@@ -27,7 +28,7 @@ use Rattle.claims.proofs.Units.{drains-passes, begins-all}
 use Rattle.claims.proofs.Written.{checks, is-label}
 use Rattle.claims.proofs.Theorems.{demand-three, outlet-rule}
 use Rattle.claims.proofs.FlowAnswers.{differ, Answered, answered-yes, answered-no, answer-at, good-labels}
-use Rattle.claims.proofs.FlowAnswers.{alone-means, from-outlet-flow}
+use Rattle.claims.proofs.FlowAnswers.{alone-means}
 
 -- the labels of cells p and q, and the answer to the outlet question that they get
 data Judged (labels : List ℕ) (p q : ℕ) : OutletFlow → Type 0 where

@@ -20,7 +20,7 @@ everyMouth split S = record {
   split = split;
 }
 
--- the digits of an inside cell's label by that network
+-- the digits of an inside cell's label by a network
 unfoldable pub digitsBy : Network → Sheet → ℕ → List ℕ
 unfolding outletOf river label
 digitsBy N S c = label N (S .depth) (river N (outletOf (S .grid) c)) c

@@ -23,7 +23,7 @@ pub record OneOutlet (next : ℕ → Next) (inside : ℕ → Type 0) (digits : �
   pub drains : DrainsTo next (Shares inside digits w) cell
   pub only : (c : ℕ) → DrainsTo next (Shares inside digits w) c → c ≡ cell
 
--- every mouth is counted: there is no area below 1
+-- least is 1, so that every mouth is counted: no area is smaller
 abbrev pub AllCounted : ℕ → Type 0
 AllCounted least = least ≡ 1
 

@@ -19,6 +19,7 @@ use Rattle.sheet.specs.Refusal.{both, depthFits, leastFits}
 use Rattle.sheet.specs.Flow.{ruleAt, isLabel, partAt, answerAt, answerUnequal, outletFlow, stemAlone}
 use Rattle.sheet.specs.Flow.{cellAnswer, flow}
 use Rattle.sheet.specs.Flow.{answerNumber, outletAnswerNumber}
+use Rattle.sheet.proofs.Questions.{from-outlet-flow}
 use Rattle.flow.specs.OutletAnswer.{outletAnswer}
 
 -- an answer that is the defined one has its number too
@@ -59,14 +60,10 @@ outlet-of-cell alone (OutletRefused number) = refl
 
 -- the outlet question's answer, from the flow question's where least is 1
 pub outlet-from-flow : (depth p q : ℕ) → outletAnswer (flow depth 1 p q) ≡ outletFlow depth p q
-unfolding flow outletFlow
-outlet-from-flow depth p q = go (depthFits depth) (stemAlone depth 1 (length (digitsOf p))) _
-  where
-    go : (fits alone : Bool) (judged : OutletFlow)
-        → outletAnswer (cond fits (cellAnswer alone (cond fits judged (OutletRefused 2))) (Refused 2))
-        ≡ cond fits judged (OutletRefused 2)
-    go true alone judged = outlet-of-cell alone judged
-    go false alone judged = refl
+unfolding leastFits
+outlet-from-flow depth p q =
+    ap outletAnswer (from-outlet-flow depth 1 p q refl)
+    ∙ outlet-of-cell (stemAlone depth 1 (length (digitsOf p))) (outletFlow depth p q)
 
 pub outlet-answer-number-apart : (a b : OutletFlow) → outletAnswerNumber a ≡ outletAnswerNumber b → a ≡ b
 outlet-answer-number-apart a b e =

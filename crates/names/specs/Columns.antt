@@ -61,8 +61,8 @@ unfoldable pub asOften : Columns → Columns → Column → Bool
 unfolding countColumn
 asOften expected c x = eqb (countColumn c x) (countColumn expected x)
 
--- The columns are the expected ones, in any order. A column stands there as often as it is expected, and
--- Absent in the places that are left: so nothing else does.
+-- The columns are the expected ones, in any order. A column stands there as often as it is expected, and Absent in the
+-- places that are left: so nothing else does.
 unfoldable pub sameColumns : Columns → Columns → Bool
 unfolding asOften
 sameColumns expected c =

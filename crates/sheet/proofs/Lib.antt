@@ -6,3 +6,4 @@ pub mod Digits
 pub mod Within
 pub mod Weights
 pub mod Words
+pub mod Questions

@@ -1,7 +1,8 @@
-/* Times the proved labelling call against the plain C baseline, the same call with a least above 1 against that with
-   least 1, the index call against the labelling call, the levy call against the index call, and check 4 by words
-   against check 4 by bytes, on the same sheets in one run, then the call for many pairs of labels, and prints the
-   ratios. Where nothing else is said, least is 1 and split 4, as in the baseline. */
+/* Times the proved labelling call against the plain C baseline, also with one mouth taken at a time, so that labels get
+   up to 36 digits, the same call with a least above 1 against that with least 1, the index call against the labelling
+   call, the levy call against the index call, and check 4 by words against check 4 by bytes, on the same sheets in one
+   run, then the call for many pairs of labels, and prints the ratios. Where nothing else is said, least is 1 and split
+   4. */
 #include <stdint.h>
 #include <stdio.h>
 #include <stdlib.h>
@@ -14,29 +15,34 @@
 enum { LEAST = 16 }; /* of the call with a least above 1 */
 
 static uint32_t baseline_areas[CELLS], index_areas[CELLS];
-static uint64_t baseline_labels[CELLS], index_labels[CELLS], dues[CELLS];
+static uint64_t baseline_labels[2 * CELLS], index_labels[2 * CELLS], dues[CELLS];
 static const uint64_t total = 100000000000; /* cents, the largest total of the levy call */
 
 static uint64_t proved(int side, int depth) {
     size_t n = (size_t)side * side;
-    return pf_label(side, side, depth, 1, 4, dirs, n, weights, side, areas, n, labels, n, work, 8 * n);
+    return pf_label(side, side, depth, 1, 4, dirs, n, weights, side, areas, n, labels, 2 * n, work, 8 * n);
+}
+
+static uint64_t one_at_a_time(int side, int depth) {
+    size_t n = (size_t)side * side;
+    return pf_label(side, side, depth, 1, 1, dirs, n, weights, side, areas, n, labels, 2 * n, work, 8 * n);
 }
 
 static uint64_t with_least(int side, int depth) {
     size_t n = (size_t)side * side;
-    return pf_label(side, side, depth, LEAST, 4, dirs, n, weights, side, areas, n, labels, n, work, 8 * n);
+    return pf_label(side, side, depth, LEAST, 4, dirs, n, weights, side, areas, n, labels, 2 * n, work, 8 * n);
 }
 
 static uint64_t indexed(int side, int depth) {
     size_t n = (size_t)side * side;
-    return pf_index(side, side, depth, 1, 4, dirs, n, weights, side, index_areas, n, index_labels, n, work, 8 * n,
-                    units, n, outlets, n, counts, n);
+    return pf_index(side, side, depth, 1, 4, dirs, n, weights, side, index_areas, n, index_labels, 2 * n, work, 8 * n,
+                    units, 2 * n, outlets, n, counts, n);
 }
 
 static uint64_t levied(int side, int depth) {
     size_t n = (size_t)side * side;
-    return pf_levy(side, side, depth, 1, 4, dirs, n, weights, side, index_areas, n, index_labels, n, work, 8 * n,
-                   units, n, outlets, n, counts, n, total, dues, n);
+    return pf_levy(side, side, depth, 1, 4, dirs, n, weights, side, index_areas, n, index_labels, 2 * n, work, 8 * n,
+                   units, 2 * n, outlets, n, counts, n, total, dues, n);
 }
 
 /* Of the crate benchmark: the first cell of a sheet whose byte is none of the nine codes, or its number of cells. */
@@ -54,29 +60,38 @@ static uint64_t by_bytes(int side, int depth) {
 }
 
 static uint64_t plain(int side, int depth) {
-    return baseline_label(side, side, depth, dirs, weights, baseline_areas, baseline_labels);
+    return baseline_label(side, side, depth, 4, dirs, weights, baseline_areas, baseline_labels);
+}
+
+static uint64_t plain_one_at_a_time(int side, int depth) {
+    return baseline_label(side, side, depth, 1, dirs, weights, baseline_areas, baseline_labels);
+}
+
+/* Do both labellers give the same for the sheet that was made last? */
+static void check_labellers(const char *name, call_of first, call_of second, int depth) {
+    uint64_t a = first(SIDE, depth), b = second(SIDE, depth);
+    if (a == b && !memcmp(areas, baseline_areas, sizeof areas) && !memcmp(labels, baseline_labels, sizeof labels))
+        return;
+    printf("%s, depth %d: the results differ\n", name, depth);
+    exit(1);
 }
 
 /* Prints the times of both labellers for the sheet that was made last, and gives their ratio. */
 static double ratio_of_labellers(const char *name, int depth) {
     double p, q;
-    uint64_t a = proved(SIDE, depth), b = plain(SIDE, depth);
-    if (a != b || memcmp(areas, baseline_areas, sizeof areas) || memcmp(labels, baseline_labels, sizeof labels)) {
-        printf("%s, depth %d: the results differ\n", name, depth);
-        exit(1);
-    }
+    check_labellers(name, proved, plain, depth);
     least_times(proved, plain, SIDE, depth, &p, &q);
     printf("%-7s depth %2d  ratio %.2f  (%.2f / %.2f)\n", name, depth, p / q, p * 1e3, q * 1e3);
     return p / q;
 }
 
 static void label_against_baseline(void) {
-    static const int depths[] = {1, 3, 18};
+    static const int depths[] = {1, 3, 18, 36};
     double worst = 0;
     printf("time of the proved call / time of the baseline, 256 x 256, weights 1 (milliseconds of each)\n");
     for (size_t s = 0; s < SHAPES; s++) {
         shapes[s].make(SIDE);
-        for (size_t d = 0; d < 3; d++) {
+        for (size_t d = 0; d < 4; d++) {
             double ratio = ratio_of_labellers(shapes[s].name, depths[d]);
             if (ratio > worst) worst = ratio;
         }
@@ -92,6 +107,34 @@ static void weighted_against_baseline(void) {
         ratio_of_labellers(shapes[s].name, 18);
     }
     weights_of_1();
+}
+
+/* The number of digits of the labels of a sheet, for one cell. */
+static double mean_digits(void) {
+    uint64_t digits = 0;
+    for (size_t i = 0; i < 2 * CELLS; i++)
+        for (uint64_t left = labels[i]; left != 0; left /= 10) digits++;
+    return (double)digits / CELLS;
+}
+
+/* Rivers with many mouths, of which each split takes one. */
+static void one_mouth_at_a_time(void) {
+    static const char *const names[] = {"comb", "ditches"};
+    static const int depths[] = {9, 17, 18, 19, 27, 36};
+    printf("\nthe same with split 1, weights 1 (milliseconds of each; nanoseconds a cell of the proved call, the "
+           "digits of a cell's label, and nanoseconds a cell and digit)\n");
+    for (size_t s = 0; s < SHAPES; s++) {
+        if (strcmp(shapes[s].name, names[0]) != 0 && strcmp(shapes[s].name, names[1]) != 0) continue;
+        shapes[s].make(SIDE);
+        for (size_t d = 0; d < 6; d++) {
+            double p, q;
+            check_labellers(shapes[s].name, one_at_a_time, plain_one_at_a_time, depths[d]);
+            double digits = mean_digits();
+            least_times(one_at_a_time, plain_one_at_a_time, SIDE, depths[d], &p, &q);
+            printf("%-7s depth %2d  ratio %.2f  (%.2f / %.2f; %.1f, %.1f, %.2f)\n", shapes[s].name, depths[d], p / q,
+                   p * 1e3, q * 1e3, p * 1e9 / CELLS, digits, p * 1e9 / CELLS / digits);
+        }
+    }
 }
 
 static void least_against_1(void) {
@@ -187,6 +230,7 @@ int main(void) {
     weights_of_1();
     label_against_baseline();
     weighted_against_baseline();
+    one_mouth_at_a_time();
     least_against_1();
     index_and_levy();
     words_against_bytes();

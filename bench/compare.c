@@ -10,27 +10,26 @@
 #include "sheets.h"
 
 static uint32_t new_areas[CELLS];
-static uint64_t new_labels[CELLS];
 
 static uint64_t new_label(int side, int depth) {
     size_t n = (size_t)side * side;
-    return pf_label(side, side, depth, 1, 4, dirs, n, weights, side, areas, n, labels, n, work, 8 * n);
+    return pf_label(side, side, depth, 1, 4, dirs, n, weights, side, areas, n, labels, 2 * n, work, 8 * n);
 }
 
 static uint64_t new_index(int side, int depth) {
     size_t n = (size_t)side * side;
-    return pf_index(side, side, depth, 1, 4, dirs, n, weights, side, areas, n, labels, n, work, 8 * n, units, n,
+    return pf_index(side, side, depth, 1, 4, dirs, n, weights, side, areas, n, labels, 2 * n, work, 8 * n, units, 2 * n,
                     outlets, n, counts, n);
 }
 
 /* Do both calls give the same answer, areas and labels? */
 static int same_results(call_of new_call, call_of old_call, int side, int depth) {
+    memset(labels, 255, sizeof labels), forget_old_labels();
     uint64_t answer = new_call(side, depth);
-    memcpy(new_areas, areas, sizeof areas), memcpy(new_labels, labels, sizeof labels);
-    memset(areas, 0, sizeof areas), memset(labels, 0, sizeof labels);
+    memcpy(new_areas, areas, sizeof areas), memset(areas, 0, sizeof areas);
     size_t n = (size_t)side * side;
     return old_call(side, depth) == answer && memcmp(areas, new_areas, n * sizeof areas[0]) == 0
-           && memcmp(labels, new_labels, n * sizeof labels[0]) == 0;
+           && are_old_labels(labels, n);
 }
 
 /* Prints both times of a call for the sheet that was made last, and gives new / old. */
@@ -41,20 +40,20 @@ static double ratio_of(call_of new_call, call_of old_call, const char *name, con
         exit(1);
     }
     least_times(new_call, old_call, side, depth, &p, &q);
-    printf("%-8s  %-6s  %3d x %-3d  depth %2d  old %7.3f  new %7.3f  new / old %.2f\n", name, shape, side, side, depth,
+    printf("%-8s  %-7s  %3d x %-3d  depth %2d  old %7.3f  new %7.3f  new / old %.2f\n", name, shape, side, side, depth,
            q * 1e3, p * 1e3, p / q);
     return p / q;
 }
 
 static void sheets_old_and_new(void) {
-    static const int sides[] = {64, 256}, depths[] = {1, 3, 18};
+    static const int sides[] = {64, 256}, depths[] = {1, 3, 18, 36};
     double worst = 0, ratio;
     weights_of_1();
     printf("milliseconds of a call, weights 1, least 1 and split 4\n");
     for (size_t s = 0; s < SHAPES; s++)
         for (size_t i = 0; i < 2; i++) {
             shapes[s].make(sides[i]);
-            for (size_t d = 0; d < 3; d++) {
+            for (size_t d = 0; d < 4 && depths[d] <= old_max_depth; d++) {
                 ratio = ratio_of(new_label, old_label, "pf_label", shapes[s].name, sides[i], depths[d]);
                 if (ratio > worst) worst = ratio;
             }
@@ -70,6 +69,7 @@ static void flow_old_and_new(void) {
     printf("\nnanoseconds of a call of pf_flow\n");
     for (int k = 0; k < KINDS; k++) {
         int depth = kinds[k].depth;
+        if (depth > old_max_depth) continue;
         kinds[k].make(depth);
         if (!same_answers(flow_one_by_one, old_flow_one_by_one, depth)) {
             printf("pf_flow, %s, depth %d: the answers differ\n", kinds[k].name, depth);

@@ -5,50 +5,71 @@
 #include "pairs.h"
 #include "pfafstetter.h"
 
-enum { ROUNDS = 100, NEVER = 0 };
+enum { ROUNDS = 100, NEVER = 0, FULL = 18 /* digits of a full number */ };
 
-uint64_t p_labels[PAIRS], q_labels[PAIRS];
+uint64_t p_labels[2 * PAIRS], q_labels[2 * PAIRS];
 uint8_t answers[PAIRS];
+
+/* A label: its first 18 digits, then the next ones. */
+struct label {
+    uint64_t first, rest;
+};
+
+static void put(uint64_t *slice, int place, struct label label) {
+    slice[2 * place] = label.first, slice[2 * place + 1] = label.rest;
+}
 
 /* Whether a unit of the basin is finished before the depth, as one in `one_in` is. This depends on its digits alone, so
    that no label of the basin begins another. */
-static int is_finished(uint64_t digits, int one_in) {
-    return one_in != NEVER && (digits * 0x9e3779b97f4a7c15ull >> 32) % one_in == 0;
+static int is_finished(struct label label, int one_in) {
+    return one_in != NEVER && ((label.first + 31 * label.rest) * 0x9e3779b97f4a7c15ull >> 32) % one_in == 0;
 }
 
 /* A label of the basin that begins with these digits, `count` of them, and goes on; from some place on its digits are
    odd, as along one river. */
-static uint64_t label_from(uint64_t digits, int count, int depth, int one_in) {
+static struct label label_from(struct label label, int count, int depth, int one_in) {
     int odd_from = (int)below(depth);
-    do digits = 10 * digits + (count < odd_from ? 1 + below(9) : 1 + 2 * below(5));
-    while (++count < depth && !is_finished(digits, one_in));
-    return digits;
+    do {
+        uint64_t digit = count < odd_from ? 1 + below(9) : 1 + 2 * below(5), *number;
+        number = count < FULL ? &label.first : &label.rest;
+        *number = 10 * *number + digit;
+    } while (++count < depth && !is_finished(label, one_in));
+    return label;
+}
+
+static struct label any_label(int depth, int one_in) { return label_from((struct label){0, 0}, 0, depth, one_in); }
+
+/* A label without its last digit. */
+static struct label shorter(struct label label) {
+    if (label.rest != 0) label.rest /= 10;
+    else label.first /= 10;
+    return label;
 }
 
 /* The first `count` digits of a label that has `digits`. */
-static uint64_t leading(uint64_t label, int digits, int count) {
-    for (; digits > count; digits--) label /= 10;
+static struct label leading(struct label label, int digits, int count) {
+    for (; digits > count; digits--) label = shorter(label);
     return label;
 }
 
 /* One spill q, with as many digits as the depth, and gauges p that share at least so many first digits with it, by
    chance none to all but the last; the others may agree too. */
 static void one_spill(int depth) {
-    uint64_t spill;
-    do spill = label_from(0, 0, depth, depth);
-    while (leading(spill, depth, 1) == 0); /* it has fewer digits */
+    struct label spill;
+    do spill = any_label(depth, depth);
+    while (leading(spill, depth, 1).first == 0); /* it has fewer digits */
     for (int k = 0; k < PAIRS; k++) {
         int shared = (int)below(depth);
-        p_labels[k] = label_from(leading(spill, depth, shared), shared, depth, depth);
-        q_labels[k] = spill;
+        put(p_labels, k, label_from(leading(spill, depth, shared), shared, depth, depth));
+        put(q_labels, k, spill);
     }
 }
 
 /* Any two labels of the basin. */
 static void any_two(int depth) {
     for (int k = 0; k < PAIRS; k++) {
-        p_labels[k] = label_from(0, 0, depth, depth);
-        q_labels[k] = label_from(0, 0, depth, depth);
+        put(p_labels, k, any_label(depth, depth));
+        put(q_labels, k, any_label(depth, depth));
     }
 }
 
@@ -56,31 +77,46 @@ static void any_two(int depth) {
 static void long_labels(int depth) {
     for (int k = 0; k < PAIRS; k++) {
         int shared = 2 * depth / 3 + (int)below(depth / 3);
-        q_labels[k] = label_from(0, 0, depth, NEVER);
-        p_labels[k] = label_from(leading(q_labels[k], depth, shared), shared, depth, NEVER);
+        struct label q = any_label(depth, NEVER);
+        put(q_labels, k, q);
+        put(p_labels, k, label_from(leading(q, depth, shared), shared, depth, NEVER));
     }
+}
+
+/* A record with one digit more than the depth, in the number that is filled last. */
+static struct label too_long(int depth) {
+    struct label label = any_label(depth, NEVER);
+    uint64_t *last = depth > FULL ? &label.rest : &label.first;
+    *last = 10 * *last + 1;
+    return label;
 }
 
 /* Any two, but one pair in ten is refused. */
 static void some_refused(int depth) {
     any_two(depth);
     for (int k = 0; k < PAIRS; k++) {
+        uint64_t *p = p_labels + 2 * k, *q = q_labels + 2 * k;
         if (below(10) != 0) continue;
         switch (below(3)) {
-        case 0: p_labels[k] *= 10; break;                                /* a 0 in it */
-        case 1: q_labels[k] = label_from(0, 0, depth + 1, NEVER); break; /* too many digits */
-        default: p_labels[k] = q_labels[k] / 10;                         /* it begins the other */
+        case 0: p[0] = p[0] < 10 ? 10 * p[0] : p[0] - p[0] % 10; break; /* a 0 in it */
+        case 1: put(q_labels, k, too_long(depth)); break;
+        default: put(p_labels, k, shorter((struct label){q[0], q[1]})); /* it begins the other */
         }
     }
 }
 
 const struct kind kinds[KINDS] = {{"one spill", 3, one_spill},       {"one spill", 18, one_spill},
-                                  {"any two", 3, any_two},           {"any two", 18, any_two},
-                                  {"long labels", 18, long_labels},  {"some refused", 3, some_refused},
-                                  {"some refused", 18, some_refused}};
+                                  {"one spill", 36, one_spill},      {"any two", 3, any_two},
+                                  {"any two", 18, any_two},          {"any two", 36, any_two},
+                                  {"long labels", 18, long_labels},  {"long labels", 36, long_labels},
+                                  {"some refused", 3, some_refused}, {"some refused", 18, some_refused},
+                                  {"some refused", 36, some_refused}};
 
 uint64_t flow_one_by_one(int depth) {
-    for (int k = 0; k < PAIRS; k++) answers[k] = (uint8_t)pf_flow(depth, 1, p_labels[k], q_labels[k]);
+    for (int k = 0; k < PAIRS; k++) {
+        const uint64_t *p = p_labels + 2 * k, *q = q_labels + 2 * k;
+        answers[k] = (uint8_t)pf_flow(depth, 1, p[0], p[1], q[0], q[1]);
+    }
     return 256 * (uint64_t)PAIRS;
 }
 

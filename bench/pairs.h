@@ -3,10 +3,10 @@
 #define PAIRS_H
 #include <stdint.h>
 
-enum { PAIRS = 100000, KINDS = 7 };
+enum { PAIRS = 100000, KINDS = 11 };
 
-/* The pairs that were made last. */
-extern uint64_t p_labels[PAIRS], q_labels[PAIRS];
+/* The pairs that were made last; two numbers for each label. */
+extern uint64_t p_labels[2 * PAIRS], q_labels[2 * PAIRS];
 
 /* What is lent to a call for its answers. */
 extern uint8_t answers[PAIRS];

@@ -9,7 +9,7 @@ enum { EAST = 1, WEST = 16, NORTHWEST = 32, NORTH = 64, MAX_WEIGHT = 1000 };
 uint8_t dirs[CELLS];
 uint16_t weights[SIDE];
 uint32_t areas[CELLS], work[8 * CELLS], outlets[CELLS], counts[CELLS];
-uint64_t labels[CELLS], units[CELLS];
+uint64_t labels[2 * CELLS], units[2 * CELLS];
 
 /* One river through all cells, row by row, to and fro; its outlet is cell 0. */
 static void snake(int side) {
@@ -58,7 +58,19 @@ static void random_basin(int side) {
     }
 }
 
-const struct shape shapes[SHAPES] = {{"comb", comb}, {"tree", tree}, {"snake", snake}, {"random", random_basin}};
+/* One river through every second row, to and fro, with a ditch of one cell from the row below into each of its cells;
+   its outlet is cell 0. Where a row ends it goes through a cell of the row below. */
+static void ditches(int side) {
+    for (int row = 0; row < side; row++)
+        for (int col = 0; col < side; col++) {
+            int east = row / 2 % 2 == 1; /* where the river flows east */
+            int first = east ? col == side - 1 : col == 0;
+            dirs[row * side + col] = row % 2 == 1 || first ? NORTH : east ? EAST : WEST;
+        }
+}
+
+const struct shape shapes[SHAPES] = {
+    {"comb", comb}, {"tree", tree}, {"snake", snake}, {"random", random_basin}, {"ditches", ditches}};
 
 void weights_of_1(void) {
     for (int row = 0; row < SIDE; row++) weights[row] = 1;

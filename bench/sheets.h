@@ -4,15 +4,15 @@
 #include <stddef.h>
 #include <stdint.h>
 
-enum { SIDE = 256, CELLS = SIDE * SIDE, SHAPES = 4 };
+enum { SIDE = 256, CELLS = SIDE * SIDE, SHAPES = 5 };
 
 /* The directions and the weights of the sheet that was made last. */
 extern uint8_t dirs[CELLS];
 extern uint16_t weights[SIDE];
 
-/* What is lent to a call for its answers. */
+/* What is lent to a call for its answers; two numbers for each label. */
 extern uint32_t areas[CELLS], work[8 * CELLS], outlets[CELLS], counts[CELLS];
-extern uint64_t labels[CELLS], units[CELLS];
+extern uint64_t labels[2 * CELLS], units[2 * CELLS];
 
 extern const struct shape { const char *name; void (*make)(int side); } shapes[SHAPES];
 

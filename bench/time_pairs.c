@@ -11,11 +11,11 @@
 enum { ANSWERS = 5, REFUSED = 128 };
 
 static uint64_t proved(int depth) {
-    return pf_flow_pairs(depth, 1, p_labels, PAIRS, q_labels, PAIRS, answers, PAIRS);
+    return pf_flow_pairs(depth, 1, p_labels, 2 * PAIRS, q_labels, 2 * PAIRS, answers, PAIRS);
 }
 
 static uint64_t plain(int depth) {
-    return plain_flow_pairs(depth, 1, p_labels, PAIRS, q_labels, PAIRS, answers, PAIRS);
+    return plain_flow_pairs(depth, 1, p_labels, 2 * PAIRS, q_labels, 2 * PAIRS, answers, PAIRS);
 }
 
 /* Prints how many of a hundred pairs got each answer. */

@@ -6,15 +6,22 @@
 #include <stdio.h>
 #include "pfafstetter.h"
 
+/* A label is two numbers: its first 18 digits, then the next ones, 0 if there are none. */
+static void print_label(const uint64_t label[2]) {
+  printf("%llu", (unsigned long long)label[0]);
+  if (label[1] != 0)
+    printf("%llu", (unsigned long long)label[1]);
+}
+
 int main(void) {
   enum { ROWS = 3, COLS = 4, N = ROWS * COLS, TOTAL = 1000 /* cents */ };
   enum { LEAST = 1, SPLIT = 4 }; /* all mouths counted, four taken */
   uint8_t dirs[N] = {0, 4, 16, 8, 16, 16, 16, 16, 64, 64, 32, 64};
   uint16_t weights[ROWS] = {3, 2, 1};
   uint32_t areas[N], work[8 * N], outlets[N], counts[N];
-  uint64_t labels[N], units[N], dues[N], sum = 0;
-  uint64_t answer = pf_levy(ROWS, COLS, 3, LEAST, SPLIT, dirs, N, weights, ROWS, areas, N, labels, N, work, 8 * N,
-                            units, N, outlets, N, counts, N, TOTAL, dues, N);
+  uint64_t labels[2 * N], units[2 * N], dues[N], sum = 0; /* two numbers for each label */
+  uint64_t answer = pf_levy(ROWS, COLS, 3, LEAST, SPLIT, dirs, N, weights, ROWS, areas, N, labels, 2 * N, work, 8 * N,
+                            units, 2 * N, outlets, N, counts, N, TOTAL, dues, N);
   if (answer % 256 != 0) {
     printf("refused by %u, place %u\n", (unsigned)(answer % 256), (unsigned)(answer / 256));
     return 1;
@@ -22,7 +29,8 @@ int main(void) {
   size_t count = answer / 256;
   printf("label,cells,cents\n");
   for (size_t k = 0; k < count; k++) {
-    printf("%llu,%u,%llu\n", (unsigned long long)units[k], (unsigned)counts[k], (unsigned long long)dues[k]);
+    print_label(&units[2 * k]);
+    printf(",%u,%llu\n", (unsigned)counts[k], (unsigned long long)dues[k]);
     sum += dues[k];
   }
   printf("sum of the dues %llu, total %d\n", (unsigned long long)sum, TOTAL);

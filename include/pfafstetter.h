@@ -1,6 +1,11 @@
 /* The C interface: Pfafstetter labels of a single river basin. README.md says what the numbers mean.
-   A slice is a pointer and the number of its places; no place beyond that number is touched. The slices of one call
-   must not overlap. */
+   A slice is a pointer and its length; nothing beyond that length is touched. The slices of one call must not overlap.
+
+   A label is a record of two 64-bit numbers: its first 18 digits as one decimal number, then the next ones, the 19th to
+   the 36th, as another, 0 if there are none. No digits at all are 0 and 0. Text shows the digits of both joined. A call
+   takes a single label as two arguments, first and rest. In a slice of labels a record is two neighbouring numbers,
+   first and rest. The length of such a slice (labels_len, units_len, p_len, q_len) counts numbers, so that n labels
+   need 2n; each record is one place, and an odd number at the end is no place: it is neither looked at nor changed. */
 #ifndef PFAFSTETTER_H
 #define PFAFSTETTER_H
 
@@ -11,18 +16,19 @@
 extern "C" {
 #endif
 
-/* Labels a sheet of rows x cols direction codes (1 to 256 each) to a depth of 1 to 18 digits. Each row has a weight, 1
+/* Labels a sheet of rows x cols direction codes (1 to 256 each) to a depth of 1 to 36 digits. Each row has a weight, 1
    to 1000, from row 0. The area of a cell is the sum of the weights of the cells whose water passes it, at most
    65,536,000; with the weight 1 for every row it is their count. A mouth, the last cell of a tributary, is counted in a
    split if its area is not below least, 1 to 65,536,000. Of the counted mouths the heaviest are taken, as many as split
    says, 1 to 4, or all if fewer, and give their tributaries digits of their own. The others stay, with all that drains
    through them, in the stretch of the river that they flow into; a stretch without counted mouths is split no further.
-   With least 1 every mouth is counted. The call needs n = rows x cols directions, areas and labels, one weight for each
-   row, and 8n work places; more may be lent, and what stands past these counts is neither looked at nor changed.
-   Returns 0, and has written the first n areas and labels, or refusal number + 256 x place, and has written none. The
-   refusals are tried in this order: 1, 2, 19 (least or split out of its bounds; place 0), 3, 17 (a weight outside 1 to
-   1000, in any row; place 0), 4, 5, 6, 7. The first 8n work places are 0 afterwards, unless the refusal was 1, 2, 19 or
-   3: then none is written. */
+   With least 1 every mouth is counted. The call needs n = rows x cols directions, areas and labels (labels_len of 2n
+   or more), one weight for each row, and 8n work places; more may be lent, and what stands past these counts is neither
+   looked at nor changed. Returns 0, and has written the first n areas and labels (labels[2c] and labels[2c + 1] for the
+   cell c; 0 and 0 for an outside cell), or refusal number + 256 x place, and has written none. The refusals are tried
+   in this order: 1, 2, 19 (least or split out of its bounds; place 0), 3, 17 (a weight outside 1 to 1000, in any row;
+   place 0), 4, 5, 6, 7. The first 8n work places are 0 afterwards, unless the refusal was 1, 2, 19 or 3: then none is
+   written. */
 uint64_t pf_label(size_t rows, size_t cols, size_t depth, size_t least, size_t split, const uint8_t *dirs,
                   size_t dirs_len, const uint16_t *weights, size_t weights_len, uint32_t *areas, size_t areas_len,
                   uint64_t *labels, size_t labels_len, uint32_t *work, size_t work_len);
@@ -30,11 +36,11 @@ uint64_t pf_label(size_t rows, size_t cols, size_t depth, size_t least, size_t s
 /* Labels a sheet as pf_label does and fills its index: the distinct labels of its inside cells in dictionary order of
    their digits (a label that begins another stands before it), each with its outlet, the cell to which the cells with
    this label drain, and the count of these cells, whatever their weights. units (for the labels), outlets and counts
-   need one place for each unit; rows x cols places are always enough. Accepted, the lowest byte of the answer is 0 and
-   the rest (answer / 256) is the number of units; so many places of the three slices are written, the others keep their
-   values. Otherwise it is refusal number + 256 x place, first those of pf_label, then 3 if one of the three slices is
-   too short, and none of their places is written; with that last refusal areas, labels and work places are as after an
-   accepted pf_label. */
+   need one place for each unit, and a place of units is two numbers; rows x cols places are always enough. Accepted, the lowest
+   byte of the answer is 0 and the rest (answer / 256) is the number of units; so many places of the three slices are
+   written, units[2k] and units[2k + 1] for the label of outlets[k], and the others keep their values. Otherwise it is
+   refusal number + 256 x place, first those of pf_label, then 3 if one of the three slices is too short, and none of
+   their places is written; with that last refusal areas, labels and work places are as after an accepted pf_label. */
 uint64_t pf_index(size_t rows, size_t cols, size_t depth, size_t least, size_t split, const uint8_t *dirs,
                   size_t dirs_len, const uint16_t *weights, size_t weights_len, uint32_t *areas, size_t areas_len,
                   uint64_t *labels, size_t labels_len, uint32_t *work, size_t work_len, uint64_t *units,
@@ -43,7 +49,7 @@ uint64_t pf_index(size_t rows, size_t cols, size_t depth, size_t least, size_t s
 /* Shares a total of whole cents among the units of a sheet's index by the weights of their cells. The call is
    pf_index's with the total, 0 to 100,000,000,000 cents, and a fourth slice, dues, that needs one place for each unit.
    With S(k) the summed weight of the cells of the first k units in the index's order and A that of all inside cells,
-   dues[k - 1], the due of units[k - 1], is the whole part of total x S(k) / A, less the whole part of total x S(k - 1)
+   dues[k - 1], the due of the k-th unit, is the whole part of total x S(k) / A, less the whole part of total x S(k - 1)
    / A. The dues add up to the total, and each lies less than one cent from its exact share, total x (weight of the
    unit's cells) / A. Returns as pf_index does; the refusals are 18 (a larger total; nothing at all is written), then
    those of pf_label, then 3 if one of the four slices is too short. Refused, no place of the four slices is written;
@@ -54,33 +60,37 @@ uint64_t pf_levy(size_t rows, size_t cols, size_t depth, size_t least, size_t sp
                  size_t units_len, uint32_t *outlets, size_t outlets_len, uint32_t *counts, size_t counts_len,
                  uint64_t total, uint64_t *dues, size_t dues_len);
 
-/* Finds the labels that begin with the leading digits (0 for none) in a slice that rises strictly in dictionary order,
-   such as the labels of an index. Returns 0: they are the labels from start on, length of them; where there are none,
-   length is 0 and start is the place that they would take. Or returns a refusal, and start and length are 0: 11 if the
-   leading digits or an entry are no label of up to 18 digits, then 16 if the slice does not rise strictly. start and
-   length each point to one number; these must not overlap each other or the slice. */
-uint32_t pf_lookup(uint64_t leading, const uint64_t *labels, size_t labels_len, size_t *start, size_t *length);
+/* Finds the labels that begin with the leading digits (0 and 0 for none) in a slice that rises strictly in dictionary
+   order, such as the labels of an index. The leading digits stand as those of a label do. Returns 0: they are the
+   labels from start on, length of them, both counted in labels: the first is labels[2 * start] and the number after it.
+   Where there are none, length is 0 and start is the place that they would take. Or returns a refusal, and start and
+   length are 0: 11 if the leading digits or an entry are no label of up to 36 digits, then 16 if the slice does not
+   rise strictly. start and length each point to one number; these must not overlap each other or the slice. */
+uint32_t pf_lookup(uint64_t first, uint64_t rest, const uint64_t *labels, size_t labels_len, size_t *start,
+                   size_t *length);
 
 /* Does water from the label q pass the label p? Depth and least are those that the labels were made with (1 for another
    least can give a false Yes); split does not matter. 0 No, 1 Yes, 2 Same, 3 Undecided, 128 + refusal number. Where the
    digit rule is met the answer is Yes if least is 1 and p has fewer digits than the depth, otherwise Undecided, since
    some cells labelled p may lie in a tributary of the river that the water goes along. Tried in this order: 2, 19
-   (least outside 1 to 65,536,000), 11, Same, 12, and then the rule. */
-uint32_t pf_flow(size_t depth, size_t least, uint64_t p, uint64_t q);
+   (least outside 1 to 65,536,000), 11, Same, 12, and then the rule. 11 is for a digit 0 in either number, for more
+   digits than the depth in both together, for a rest other than 0 beside a first of fewer than 18 digits, and for more
+   than 18 digits in either number. */
+uint32_t pf_flow(size_t depth, size_t least, uint64_t p_first, uint64_t p_rest, uint64_t q_first, uint64_t q_rest);
 
-/* The flow question for many pairs: the labels p[i] and q[i], for each i below the smaller of p_len and q_len. The byte
-   answers[i] becomes the number that pf_flow gives for that pair; a refused pair stops no other. Accepted, the lowest
-   byte of the returned number is 0 and the rest (the number / 256) is the count of pairs; so many bytes are written,
-   the others keep their values. Otherwise it is the refusal's number, and nothing is written: 2 for the depth, then 19
-   for least, then 3 if answers_len is smaller than the count of pairs. (A count of 2^56 or more would be told without
-   its highest bits; no memory holds so many labels.) */
+/* The flow question for many pairs: the i-th label of p (p[2i] and p[2i + 1]) and the i-th of q, for each i below the
+   smaller of p_len / 2 and q_len / 2, whole parts. The byte answers[i] becomes the number that pf_flow gives for that
+   pair; a refused pair stops no other. Accepted, the lowest byte of the returned number is 0 and the rest (the number /
+   256) is the count of pairs; so many bytes are written, the others keep their values. Otherwise it is the refusal's
+   number, and nothing is written: 2 for the depth, then 19 for least, then 3 if answers_len is smaller than the count
+   of pairs. (A count of 2^56 or more would be told without its highest bits; no memory holds so many labels.) */
 uint64_t pf_flow_pairs(size_t depth, size_t least, const uint64_t *p, size_t p_len, const uint64_t *q, size_t q_len,
                        uint8_t *answers, size_t answers_len);
 
 /* Does water from the label q pass the outlet of the unit that the label p names? That outlet is the cell to which the
    cells labelled p drain, as pf_index lists it. The answer is the same for every least and split. 0 No, 1 Yes, 2 Same
    (the water passes the outlet then too), 128 + refusal number; never 3. Tried in this order: 2, 11, Same, 12. */
-uint32_t pf_outlet_flow(size_t depth, uint64_t p, uint64_t q);
+uint32_t pf_outlet_flow(size_t depth, uint64_t p_first, uint64_t p_rest, uint64_t q_first, uint64_t q_rest);
 
 /* Eight directions as one word, the first in its lowest byte: the place, 0 to 7, of the first that is none of the nine
    codes, or 8 if all are codes. */

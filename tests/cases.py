@@ -15,9 +15,11 @@ import pathlib
 import sys
 
 sys.dont_write_bytecode = True
+import long_label_checks
 import split_checks
+from labels import of_units, record, records, slice_of
 from reference import (Intake, first_bad, flow, flow_pairs, index, index_intake, label, label_intake, levy,
-                       levy_intake, lookup, outlet_flow, report, take_end, take_line)
+                       levy_intake, lookup, outlet_flow, report, take_end, take_line, text_of)
 
 CASES = pathlib.Path(__file__).resolve().parent / 'cases'
 INDEX_EXAMPLE = CASES.parent.parent / 'examples' / 'index.out'
@@ -26,7 +28,9 @@ LEVY_EXAMPLE = CASES.parent.parent / 'examples' / 'levy.out'
 ONES = [1] * 256
 SAMPLE_A = bytes([0, 4, 16, 8, 16, 16, 16, 16, 64, 64, 32, 64])
 
-# The calls of the lists below that take least and split are told 1 and 4; split_checks.py has those with others.
+# The calls of the lists below that take least and split are told 1 and 4; split_checks.py has those with others. Labels
+# stand as labels.py says, and lengths of label slices are numbers of labels; long_label_checks.py has labels of more
+# than 18 digits, and slices that end with an odd number.
 NEITHER = [1, 4]
 
 # (name, depth, p, q, answer): does water from q pass p? The outlet question, whether it passes the outlet of p's unit,
@@ -73,16 +77,24 @@ FLOW = [
     ('four digits at depth 3: 11 before 12', 3, 111, 1111, ('Refused', 11)),
     ('depth 18, 19 digits as p', 18, 1111111111111111111, 2, ('Refused', 11)),
     ('depth 18, 19 digits as q', 18, 1, 2222222222222222222, ('Refused', 11)),
+    ('depth 18, 19 digits in the first number, as p', 18, (1111111111111111111, 0), 2, ('Refused', 11)),
+    ('depth 18, 19 digits in the first number, as q', 18, 1, (2222222222222222222, 0), ('Refused', 11)),
     ('depth 0', 0, 1, 3, ('Refused', 2)),
     ('depth 0: 2 before 11', 0, 105, 3, ('Refused', 2)),
     ('depth 0: 2 before Same', 0, 1, 1, ('Refused', 2)),
     ('depth 0, 0 twice: 2 before Same', 0, 0, 0, ('Refused', 2)),
     ('depth 0: 2 before 12', 0, 0, 5, ('Refused', 2)),
-    ('depth 19', 19, 1, 3, ('Refused', 2)),
-    ('depth 19: 2 before 11', 19, 105, 105, ('Refused', 2)),
-    ('depth 19: 2 before Same', 19, 91, 91, ('Refused', 2)),
-    ('depth 19: 2 before 12', 19, 9, 91, ('Refused', 2)),
-    ('depth 19, 19 digits', 19, 1111111111111111111, 2, ('Refused', 2)),
+    ('depth 19', 19, 1, 3, 'Yes'),
+    ('depth 19: 11', 19, 105, 105, ('Refused', 11)),
+    ('depth 19: Same', 19, 91, 91, 'Same'),
+    ('depth 19: 12', 19, 9, 91, ('Refused', 12)),
+    ('depth 19, 19 digits', 19, 1111111111111111111, 2, 'Undecided'),
+    ('depth 36', 36, 1, 3, 'Yes'),
+    ('depth 37', 37, 1, 3, ('Refused', 2)),
+    ('depth 37: 2 before 11', 37, 105, 105, ('Refused', 2)),
+    ('depth 37: 2 before Same', 37, 91, 91, ('Refused', 2)),
+    ('depth 37: 2 before 12', 37, 9, 91, ('Refused', 2)),
+    ('depth 37, 19 digits', 37, 1111111111111111111, 2, ('Refused', 2)),
 ]
 
 # (name, depth, P's labels, Q's labels, places for answers; number, answers): the flow question about many pairs
@@ -94,19 +106,22 @@ PAIRS = [
     ('refused pairs alone', 1, [0, 11], [5, 11], 2, 0, [140, 139]),
     ('one pair, places past it', 1, [1], [3], 9, 0, [3]),
     ('more of P, no labels', 2, [1, 10, 105], [21], 1, 0, [1]),
-    ('more of Q, no labels', 2, [21], [1, 2 ** 64 - 1], 1, 0, [0]),
+    ('more of Q, no labels', 2, [21], [1, (2 ** 64 - 1, 2 ** 64 - 1)], 1, 0, [0]),
     ('no labels of P', 18, [], [1, 2], 0, 0, []),
     ('no labels of Q', 18, [1, 2], [], 5, 0, []),
     ('nothing lent', 18, [], [], 0, 0, []),
-    ('the largest number twice', 18, [2 ** 64 - 1, 10 ** 18 - 1], [2 ** 64 - 1, 10 ** 18 - 1], 2, 0, [139, 2]),
+    ('the largest number twice', 18, [(2 ** 64 - 1, 0), 10 ** 18 - 1], [(2 ** 64 - 1, 0), 10 ** 18 - 1], 2, 0,
+     [139, 2]),
     ('no place', 3, [91], [92], 0, 3, None),
     ('one place too few', 3, [91, 91, 91], [92, 92, 92], 2, 3, None),
     ('one place too few, more of P', 3, [91, 91, 91], [92, 92], 1, 3, None),
     ('one place too few, all pairs refused', 3, [10, 10], [10, 10], 1, 3, None),
     ('depth 0', 0, [91], [92], 1, 2, None),
-    ('depth 19', 19, [91], [92], 1, 2, None),
-    ('depth 19 and nothing lent', 19, [], [], 0, 2, None),
-    ('2 before 3', 19, [91, 91], [92, 92], 1, 2, None),
+    ('depth 19', 19, [91], [92], 1, 0, [1]),
+    ('depth 36', 36, [91], [92], 1, 0, [1]),
+    ('depth 37', 37, [91], [92], 1, 2, None),
+    ('depth 37 and nothing lent', 37, [], [], 0, 2, None),
+    ('2 before 3', 37, [91, 91], [92, 92], 1, 2, None),
 ]
 
 # (name, rows, cols, depth, directions, weights, areas, labels, work places; number, place)
@@ -118,10 +133,15 @@ SHEETS = [
     ('0 rows', 0, 1, 1, bytes([4]), ONES, 1, 1, 8, 1, 0),
     ('0 columns', 1, 0, 1, bytes([4]), ONES, 1, 1, 8, 1, 0),
     ('depth 18', 1, 1, 18, bytes([1]), ONES, 1, 1, 8, 0, 0),
-    ('depth 19', 1, 1, 19, bytes([1]), ONES, 1, 1, 8, 2, 0),
+    ('depth 19', 1, 1, 19, bytes([1]), ONES, 1, 1, 8, 0, 0),
+    ('depth 36', 1, 1, 36, bytes([1]), ONES, 1, 1, 8, 0, 0),
+    ('depth 37', 1, 1, 37, bytes([1]), ONES, 1, 1, 8, 2, 0),
+    ('depth 255', 1, 1, 255, bytes([1]), ONES, 1, 1, 8, 2, 0),
+    ('the largest number as depth', 1, 1, 2 ** 64 - 1, bytes([1]), ONES, 1, 1, 8, 2, 0),
     ('depth 0', 1, 1, 0, bytes([1]), ONES, 1, 1, 8, 2, 0),
-    ('257 rows and depth 19', 257, 1, 19, b'', ONES, 0, 0, 0, 1, 0),
-    ('depth 19 and nothing lent', 1, 1, 19, b'', ONES, 0, 0, 0, 2, 0),
+    ('257 rows and depth 37', 257, 1, 37, b'', ONES, 0, 0, 0, 1, 0),
+    ('depth 37 and nothing lent', 1, 1, 37, b'', ONES, 0, 0, 0, 2, 0),
+    ('depth 36 and nothing lent', 1, 1, 36, b'', ONES, 0, 0, 0, 3, 0),
     ('one direction too few', 3, 4, 2, SAMPLE_A[:11], ONES, 12, 12, 96, 3, 0),
     ('one area too few', 3, 4, 2, SAMPLE_A, ONES, 11, 12, 96, 3, 0),
     ('one label too few', 3, 4, 2, SAMPLE_A, ONES, 12, 11, 96, 3, 0),
@@ -146,7 +166,7 @@ SHEETS = [
     ('weight 65535 in the last row', 3, 4, 2, SAMPLE_A, [1, 1, 65535], 12, 12, 96, 17, 0),
     ('weight 0 in a row without an inside cell', 2, 1, 1, bytes([1, 0]), [1, 0], 2, 2, 16, 17, 0),
     ('1 before 17', 257, 1, 1, bytes([4] * 257), [0] * 257, 257, 257, 2056, 1, 0),
-    ('2 before 17', 1, 1, 19, bytes([1]), [0], 1, 1, 8, 2, 0),
+    ('2 before 17', 1, 1, 37, bytes([1]), [0], 1, 1, 8, 2, 0),
     ('3 before 17', 1, 1, 1, bytes([1]), [0], 1, 1, 7, 3, 0),
     ('17 before 4', 1, 2, 1, bytes([3, 1]), [0], 2, 2, 16, 17, 0),
     ('17 before 5', 1, 2, 1, bytes([0, 0]), [1001], 2, 2, 16, 17, 0),
@@ -211,7 +231,7 @@ LEVIES = [
     ('one cent too much', 1, 1, 1, bytes([1]), ONES, 1, 1, 8, 1, 1, 1, MOST + 1, 1, 18, 0, None),
     ('the largest number', 1, 1, 1, bytes([1]), ONES, 1, 1, 8, 1, 1, 1, 2 ** 64 - 1, 1, 18, 0, None),
     ('18 before 1', 257, 1, 1, bytes([4] * 257), ONES, 257, 257, 2056, 1, 1, 1, MOST + 1, 1, 18, 0, None),
-    ('18 before 2', 1, 1, 19, bytes([1]), ONES, 1, 1, 8, 1, 1, 1, MOST + 1, 1, 18, 0, None),
+    ('18 before 2', 1, 1, 37, bytes([1]), ONES, 1, 1, 8, 1, 1, 1, MOST + 1, 1, 18, 0, None),
     ('18 before 3', 1, 1, 1, b'', [], 0, 0, 0, 0, 0, 0, MOST + 1, 0, 18, 0, None),
     ('18 before 17', 1, 1, 1, bytes([1]), [0], 1, 1, 8, 1, 1, 1, MOST + 1, 1, 18, 0, None),
     ('18 before 7', 1, 2, 1, bytes([16, 1]), ONES, 2, 2, 16, 1, 1, 1, MOST + 1, 1, 18, 0, None),
@@ -247,8 +267,8 @@ LOOKUPS = [
     ('a leading 0 digit', 10, LABELS, 11, 0, 0),
     ('an entry with a 0 digit', 1, [1, 105], 11, 0, 0),
     ('18 digits', 10 ** 18 - 1, [10 ** 18 - 1], 0, 0, 1),
-    ('19 leading digits', 1111111111111111111, [], 11, 0, 0),
-    ('an entry of 19 digits', 0, [1111111111111111111], 11, 0, 0),
+    ('19 leading digits in the first number', (1111111111111111111, 0), [], 11, 0, 0),
+    ('an entry of 19 digits in the first number', 0, [(1111111111111111111, 0)], 11, 0, 0),
     ('11 at the end before 16 at the start', 1, [2, 1, 20], 11, 0, 0),
     ('leading digits by 11 before 16', 20, [2, 1], 11, 0, 0),
 ]
@@ -264,19 +284,23 @@ def file_checks():
 
 
 def told(arguments):
-    """The arguments of a call with least and split straight after the depth."""
-    return [*arguments[:3], *NEITHER, *arguments[3:]]
+    """The arguments of a call as it takes them: with least and split straight after the depth, and with two numbers for
+    each label in the lengths."""
+    rows, cols, depth, dirs, weights, areas, labels, work, *others = arguments
+    others[:1] = [2 * units for units in others[:1]]
+    return [rows, cols, depth, *NEITHER, dirs, weights, areas, 2 * labels, work, *others]
 
 
 def flow_checks():
     for name, depth, p, q, answer in FLOW:
-        yield 'flow: ' + name, flow(depth, 1, p, q), answer
-        yield 'outlet flow: ' + name, outlet_flow(depth, p, q), 'Yes' if answer == 'Undecided' else answer
+        yield 'flow: ' + name, flow(depth, 1, record(p), record(q)), answer
+        outlet_answer = 'Yes' if answer == 'Undecided' else answer
+        yield 'outlet flow: ' + name, outlet_flow(depth, record(p), record(q)), outlet_answer
 
 
 def pair_checks():
-    for name, depth, *arguments, number, answers in PAIRS:
-        yield 'pairs: ' + name, flow_pairs(depth, 1, *arguments), (number, answers)
+    for name, depth, p, q, room, number, answers in PAIRS:
+        yield 'pairs: ' + name, flow_pairs(depth, 1, slice_of(p), slice_of(q), room), (number, answers)
 
 
 def sheet_checks():
@@ -287,7 +311,7 @@ def sheet_checks():
 def index_checks():
     for name, *arguments, number, place, units in INDEXES:
         got = index(*told(arguments))
-        yield 'index: ' + name, (*got[:2], got[4]), (number, place, units)
+        yield 'index: ' + name, (*got[:2], got[4]), (number, place, None if units is None else of_units(units))
         labelled = label(*told(arguments[:-3]))
         yield 'index, areas and labels: ' + name, got[2:4], labelled[2:]
     lines = ['%d,%d,%d,%d' % (label, outlet // 4, outlet % 4, count) for label, outlet, count in SAMPLE_A_UNITS]
@@ -303,16 +327,16 @@ def levy_checks():
         if number == 0:
             yield 'levy, units: ' + name, got[4], index(*told(arguments[:-2]))[4]
             yield 'levy, the sum: ' + name, sum(dues), total
-    units, dues = levy(3, 4, 3, *NEITHER, SAMPLE_A, [3, 2, 1], 12, 12, 96, 12, 12, 12, 1000, 12)[4:]
-    lines = ['%d,%d,%d' % (label, count, due) for (label, outlet, count), due in zip(units, dues)]
+    units, dues = levy(3, 4, 3, *NEITHER, SAMPLE_A, [3, 2, 1], 12, 24, 96, 24, 12, 12, 1000, 12)[4:]
+    lines = ['%s,%d,%d' % (text_of(label), count, due) for (label, outlet, count), due in zip(units, dues)]
     yield 'levy: the example in C', LEVY_EXAMPLE.read_text().splitlines()[1:-1], lines
-    refused = levy(3, 4, 2, *NEITHER, SAMPLE_A, ONES, 12, 12, 96, 9, 9, 9, MOST + 1, 9)
+    refused = levy(3, 4, 2, *NEITHER, SAMPLE_A, ONES, 12, 24, 96, 18, 9, 9, MOST + 1, 9)
     yield 'levy: 18 writes nothing', refused[2:], (None,) * 4
 
 
 def lookup_checks():
     for name, leading, labels, *answer in LOOKUPS:
-        yield 'lookup: ' + name, lookup(leading, labels), tuple(answer)
+        yield 'lookup: ' + name, lookup(record(leading), slice_of(labels)), tuple(answer)
 
 
 def word_checks():
@@ -323,25 +347,27 @@ def word_checks():
 def sample_checks():
     areas = [0, 2, 1, 1, 11, 9, 4, 2, 1, 1, 1, 1]
     # The tributaries of cell 5 stand as 9, 10, 1: they get 4, 6, 8.
-    labels = [0, 8, 8, 92, 1, 3, 91, 93, 2, 4, 6, 93]
-    yield 'label: sample A', label(3, 4, 2, *NEITHER, SAMPLE_A, ONES, 12, 12, 96), (0, 0, areas, labels)
-    cut = [0, 8, 8, 9, 1, 3, 9, 9, 2, 4, 6, 9]
-    yield 'label: sample A at depth 1', label(3, 4, 1, *NEITHER, SAMPLE_A, ONES, 12, 12, 96), (0, 0, areas, cut)
-    yield 'label: 1 by 1, code 1', label(1, 1, 1, *NEITHER, bytes([1]), ONES, 1, 1, 8), (0, 0, [1], [0])
+    labels = records([0, 8, 8, 92, 1, 3, 91, 93, 2, 4, 6, 93])
+    for depth in (2, 18, 19, 36):
+        got = label(3, 4, depth, *NEITHER, SAMPLE_A, ONES, 12, 24, 96)
+        yield 'label: sample A at depth %d' % depth, got, (0, 0, areas, labels)
+    cut = records([0, 8, 8, 9, 1, 3, 9, 9, 2, 4, 6, 9])
+    yield 'label: sample A at depth 1', label(3, 4, 1, *NEITHER, SAMPLE_A, ONES, 12, 24, 96), (0, 0, areas, cut)
+    yield 'label: 1 by 1, code 1', label(1, 1, 1, *NEITHER, bytes([1]), ONES, 1, 2, 8), (0, 0, [1], [(0, 0)])
 
 
 def weight_checks():
     def labelled(weights):
-        return label(3, 4, 1, *NEITHER, NORTH_AND_SOUTH, weights, 12, 12, 96)[2:]
+        return label(3, 4, 1, *NEITHER, NORTH_AND_SOUTH, weights, 12, 24, 96)[2:]
 
-    north = [0, 3, 3, 3, 1, 0, 0, 0, 0, 2, 2, 0]  # the river comes from the north
-    south = [0, 2, 2, 2, 1, 0, 0, 0, 0, 3, 3, 0]
+    north = records([0, 3, 3, 3, 1, 0, 0, 0, 0, 2, 2, 0])  # the river comes from the north
+    south = records([0, 2, 2, 2, 1, 0, 0, 0, 0, 3, 3, 0])
     yield 'weights: counts', labelled([1, 1, 1]), ([0, 3, 2, 1, 6, 0, 0, 0, 0, 2, 1, 0], north)
     yield 'weights: fewer cells', labelled([1, 9, 2]), ([0, 3, 2, 1, 16, 0, 0, 0, 0, 4, 2, 0], south)
     yield 'weights: equal areas', labelled([2, 5, 3]), ([0, 6, 4, 2, 17, 0, 0, 0, 0, 6, 3, 0], south)
     yield 'weights: one more', labelled([201, 5, 300]), ([0, 603, 402, 201, 1208, 0, 0, 0, 0, 600, 300, 0], north)
     comb = bytes([16] * 256 + [64] * 65280)
-    areas = label(256, 256, 1, *NEITHER, comb, [1000] * 256, 65536, 65536, 8 * 65536)[2]
+    areas = label(256, 256, 1, *NEITHER, comb, [1000] * 256, 65536, 2 * 65536, 8 * 65536)[2]
     yield 'weights: the largest area', areas[0], 65536000
     stored = [(CASES / (name + '.out')).read_bytes() for name in ('sample_a', 'weights_all_1')]
     yield 'weights: all 1, the listing of none', *stored
@@ -357,16 +383,16 @@ def intake_checks():
     yield 'intake: labelling before the end', label_intake(cells, dirs, weights, 0, 0, 0), (15, 0, None, None)
     yield ('intake: an index before the end', index_intake(cells, dirs, weights, 0, 0, 0, 0, 0, 0),
            (15, 0, None, None, None))
-    yield ('intake: an index after the end', index_intake(ended, bytes([1, 7]), [5], 1, 1, 8, 1, 1, 1),
-           (0, 0, [5], [0], [(0, 0, 1)]))
+    yield ('intake: an index after the end', index_intake(ended, bytes([1, 7]), [5], 1, 2, 8, 2, 1, 1),
+           (0, 0, [5], [(0, 0)], [((0, 0), 0, 1)]))
     yield ('intake: a levy before the end', levy_intake(cells, dirs, weights, 0, 0, 0, 0, 0, 0, MOST, 0),
            (15, 0, None, None, None, None))
     yield ('intake: a larger total before the end', levy_intake(cells, dirs, weights, 0, 0, 0, 0, 0, 0, MOST + 1, 0),
            (18, 0, None, None, None, None))
-    yield ('intake: a levy after the end', levy_intake(ended, bytes([1, 7]), [5], 1, 1, 8, 1, 1, 1, 7, 1),
-           (0, 0, [5], [0], [(0, 0, 1)], [7]))
-    yield 'intake: labelling with no weights lent', label_intake(ended, bytes([1]), [], 1, 1, 8), (3, 0, None, None)
-    yield 'intake: labelling with a bad weight', label_intake(ended, bytes([1]), [0], 1, 1, 8), (17, 0, None, None)
+    yield ('intake: a levy after the end', levy_intake(ended, bytes([1, 7]), [5], 1, 2, 8, 2, 1, 1, 7, 1),
+           (0, 0, [5], [(0, 0)], [((0, 0), 0, 1)], [7]))
+    yield 'intake: labelling with no weights lent', label_intake(ended, bytes([1]), [], 1, 2, 8), (3, 0, None, None)
+    yield 'intake: labelling with a bad weight', label_intake(ended, bytes([1]), [0], 1, 2, 8), (17, 0, None, None)
     yield 'intake: byte 10 in a line', take_line(Intake(), b'rows,cols,depth\n', dirs, weights), (8, Intake())
     yield 'intake: nothing lent, 3 before 8', take_line(cells, b'', bytearray(), weights), (3, cells)
     yield 'intake: no weights lent, 3 before 8', take_line(cells, b'', dirs, []), (3, cells)
@@ -396,7 +422,8 @@ def intake_weight_checks():
         for line in (b'', b'1', b'0', b'weight', b'row,col,dir', b'1\n', b'1' * 81):
             yield 'intake: waits for row %d' % row, take_line(outside, line, dirs, weights), (9, outside)
         yield 'intake: 1 before 9', take_line(outside._replace(rows=0), b'1', dirs, weights)[0], 1
-        yield 'intake: 2 before 9', take_line(outside._replace(depth=19), b'1', dirs, weights)[0], 2
+        yield 'intake: 2 before 9', take_line(outside._replace(depth=37), b'1', dirs, weights)[0], 2
+        yield 'intake: depth 36, and 9', take_line(outside._replace(depth=36), b'1', dirs, weights)[0], 9
         yield 'intake: 3 before 9, directions', take_line(outside, b'1', dirs[:1], weights)[0], 3
         yield 'intake: 3 before 9, weights', take_line(outside, b'1', dirs, weights[:1])[0], 3
         yield 'intake: an end, waiting for row %d' % row, take_end(outside), (14, outside)
@@ -427,7 +454,7 @@ def main():
     checks = files + [('there are stored cases', len(files) > 0, True)]
     checks += [*flow_checks(), *pair_checks(), *sheet_checks(), *word_checks(), *sample_checks(), *weight_checks()]
     checks += [*index_checks(), *levy_checks(), *lookup_checks(), *intake_checks(), *intake_weight_checks()]
-    checks += [*intake_withdrawal_checks(), *split_checks.checks()]
+    checks += [*intake_withdrawal_checks(), *split_checks.checks(), *long_label_checks.checks()]
     failures = [check for check in checks if check[1] != check[2]]
     for name, got, expected in failures:
         print(f'{name}: expected {expected!r:.200}, got {got!r:.200}')

@@ -1,9 +1,10 @@
 #!/usr/bin/env python3
 """Compares the program with tests/reference.py, byte for byte, on made sheets and damaged files.
 
-First two small files for each of the 120 orders of the names rows, cols, depth, least and split; then --files random
-ones. The input goes through a pipe in pieces cut at odd places. Seeded: the same --seed and --files make the same
-files. Prints each difference with the file that shows it, and at the end 'N passed, M failed'."""
+First two small files for each of the 120 orders of the names rows, cols, depth, least and split, and some whose labels
+have 17, 18, 19, 35 and 36 digits; then --files random ones. The input goes through a pipe in pieces cut at odd places.
+Seeded: the same --seed and --files make the same files. Prints each difference with the file that shows it, and at the
+end 'N passed, M failed'."""
 import argparse
 import collections
 import os
@@ -14,6 +15,7 @@ import time
 
 sys.dont_write_bytecode = True
 sys.path.insert(0, os.path.dirname(os.path.abspath(__file__)))
+import long_labels
 import reference
 import size_lines
 import splits
@@ -92,6 +94,17 @@ def snake(rng, rows, cols):
     return dirs
 
 
+def ditches(rng, rows, cols):
+    """A river to and fro along every second row, with a ditch of one cell from the row below into each of its cells."""
+    dirs = []
+    for row in range(rows):
+        for col in range(cols):
+            east = row // 2 % 2 == 1  # where the river flows east
+            first = col == (cols - 1 if east else 0)
+            dirs.append(64 if row % 2 == 1 or first else 1 if east else 16)
+    return dirs
+
+
 def northwest(rng, rows, cols):
     """Each cell flows west, northwest or north, by chance."""
     return [16 if cell < cols else 64 if cell % cols == 0 else rng.choice([16, 32, 64]) for cell in range(rows * cols)]
@@ -124,14 +137,15 @@ def spoiled(rng, rows, cols):
     return dirs
 
 
-SHAPES = [grown, grown, grown, comb, snake, northwest, flat, by_chance, spoiled, spoiled]
+SHAPES = [grown, grown, grown, comb, snake, ditches, northwest, flat, by_chance, spoiled, spoiled]
 
 
 # Files.
 
 # Fields that are put in place of others, good and bad.
-ODD_FIELDS = [b'0', b'00', b'01', b'19', b'256', b'257', b'99999', b'100000', b'3', b'128', b'255', b'', b'-1', b'+1',
-              b'1 ', b' 1', b' ', b'        99999', b'         1', b'        100000', b' 00', b' 01', b'\t1']
+ODD_FIELDS = [b'0', b'00', b'01', b'36', b'37', b'256', b'257', b'99999', b'100000', b'3', b'128', b'255', b'',
+              b'-1', b'+1', b'1 ', b' 1', b' ', b'        99999', b'         1', b'        100000', b' 00', b' 01',
+              b'\t1']
 ODD_WEIGHTS = [b'0', b'1', b'1000', b'1001', b'65535', b'65536', b'65537', b'66536', b'99999', b'100000', b'00001',
                b'01', b'1,1', b'1,', b',1', b'', b'-1', b'1.5', b'1 ', b' 1', b'        1000', b'         1000',
                b'        1001', b'        0', b'1\t', WEIGHT]
@@ -154,9 +168,35 @@ def sides(rng):
     return rows, cols
 
 
+def any_depth(rng):
+    """In one of thirty out of bounds."""
+    if rng.random() < 1 / 30:
+        return rng.choice([0, 37, 37, 38, 99, 255, 256 + 36, 65536 + 3, 99999])
+    return rng.choice([1, 2, 3, 4, 6, 18, 19, 36, rng.randint(1, reference.MAX_DEPTH)])
+
+
+def cell_lines(cell_names, cells):
+    return [line(cell_names)] + [line(cell[name] for name in cell_names) for cell in cells]
+
+
+def long_label_lines(rng, sheet, cell_names=CELL_NAMES):
+    """The lines of a sheet of tests/long_labels.py; least, split and weights may be left out where they are the ones
+    that a file without them has."""
+    rows, cols, depth, least, split, dirs, row_weights = sheet
+    named = (least, split) != splits.NEITHER or rng.random() < 0.5
+    names = rng.choice(size_lines.ORDERS) if named else rng.sample(size_lines.NAMES, 3)
+    lines = size_lines.lines(names, size_lines.values_of(rows, cols, depth, least, split))
+    if set(row_weights) != {1} or rng.random() < 0.5:
+        lines += [WEIGHT] + [b'%d' % weight for weight in row_weights]
+    cells = [dict(zip(CELL_NAMES, (*divmod(cell, cols), code))) for cell, code in enumerate(dirs) if code != 0]
+    return lines + cell_lines(cell_names, cells)
+
+
 def sheet_lines(rng):
+    if rng.random() < 0.12:
+        return long_label_lines(rng, long_labels.by_chance(rng), rng.sample(CELL_NAMES, 3))
     rows, cols = sides(rng)
-    depth = rng.choice([1, 2, 3, 4, 6, 18, rng.randint(1, 18)])
+    depth = any_depth(rng)
     dirs = rng.choice(SHAPES)(rng, rows, cols)
     row_weights = weights.made(rng, rows, cols, dirs) if rng.random() < 0.45 else None
     cell_names = rng.sample(CELL_NAMES, 3)
@@ -170,7 +210,7 @@ def sheet_lines(rng):
         cells = with_withdrawals(rng, cells)
     before = size_lines.made(rng, rows, cols, depth,
                              lambda: splits.mouth_areas(rows, cols, dirs, row_weights or [1] * rows))
-    after = [line(cell_names)] + [line(cell[name] for name in cell_names) for cell in cells]
+    after = cell_lines(cell_names, cells)
     return before + after if row_weights is None else with_weights(rng, before, row_weights, after)
 
 
@@ -186,6 +226,11 @@ def files_by_order(rng):
         rest += [line((cell // cols, cell % cols, code)) for cell, code in enumerate(dirs)]
         for sizes in (values, size_lines.with_odd_value(rng, values)):
             yield b'\n'.join(size_lines.lines(names, sizes) + rest) + b'\n'
+
+
+def files_of_long_labels(rng):
+    for sheet in long_labels.of_digits(rng):
+        yield b'\n'.join(long_label_lines(rng, sheet)) + b'\n'
 
 
 def with_withdrawals(rng, cells):
@@ -352,6 +397,12 @@ LISTING_KINDS = ['listings', 'with blanks', 'with weights', 'equal areas by weig
                  'another heaviest donor by weights', 'with a withdrawn cell', 'with one listed again',
                  'with least and split', 'other labels by least', 'other labels by split', 'by least with weights']
 REFUSED_AGAIN = '10 for a withdrawn cell'
+LONGEST = 'longest label of %d digits'
+
+
+def longest_label(answer):
+    """The number of digits of the longest label in a listing; that of the label 0 is taken as 1."""
+    return max(len(text.rsplit(b',', 1)[1]) for text in answer.split(b'\n')[1:-1])
 
 
 def withdrawals(data):
@@ -375,12 +426,12 @@ def withdrawals(data):
 
 
 def kinds_of(data, answer):
-    """What is counted of a file: its answer; of a listing also blanks, withdrawals, weights, least and split, and what
-    these change; of 10 also whether it was for a cell that had been withdrawn."""
+    """What is counted of a file: its answer; of a listing also the longest label, blanks, withdrawals, weights, least
+    and split, and what these change; of 10 also whether it was for a cell that had been withdrawn."""
     if answer.startswith(b'refused'):
         number = answer.split(b'\n')[1].split(b',')[0].decode()
         return [number] + [REFUSED_AGAIN] * (number == '10' and withdrawals(data)[2])
-    kinds = ['listings']
+    kinds = ['listings', LONGEST % longest_label(answer)]
     some, again, _ = withdrawals(data)
     kinds += ['with a withdrawn cell'] * some + ['with one listed again'] * again
     if b' ' in data:
@@ -401,10 +452,12 @@ def kinds_of(data, answer):
 
 
 def files(count, seed):
-    """All files, each with a source of chance for the rest: those by order, and so many random ones."""
+    """All files, each with a source of chance for the rest: those by order, those of long labels, and so many random
+    ones."""
     rng = random.Random(seed)
-    for data in files_by_order(rng):
-        yield rng, data
+    for made in (files_by_order, files_of_long_labels):
+        for data in made(rng):
+            yield rng, data
     for number in range(count):
         rng = random.Random(seed * 1000003 + number)
         yield rng, a_file(rng)
@@ -437,8 +490,11 @@ def main():
     print('refusals: ' + ', '.join('%d: %d' % (number, counts[str(number)]) for number in refusals))
     print(', '.join('%s: %d' % (kind, counts[kind]) for kind in [REFUSED_AGAIN] + LISTING_KINDS))
     print('orders of the five names in listed files: %d' % len(orders))
+    long = {length: counts[LONGEST % length] for length in long_labels.LENGTHS}
+    print('listed files by the digits of their longest label: ' + ', '.join('%d: %d' % item for item in long.items()))
     print('%d passed, %d failed' % (passed, failed))
-    return 0 if failed == 0 and passed > 0 and len(orders) == len(size_lines.ORDERS) else 1
+    complete = len(orders) == len(size_lines.ORDERS) and min(long.values()) > 0
+    return 0 if failed == 0 and passed > 0 and complete else 1
 
 
 if __name__ == '__main__':

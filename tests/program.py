@@ -13,6 +13,7 @@ PROGRAM = os.path.join(HERE, '..', 'target', 'bin', 'pfafstetter')
 OPEN = [
     ('81 bytes without a line feed', bytes(81), b'refused,place\n8,1\n'),
     ('sizes out of bounds', b'rows,cols,depth\n0,4,2\n', b'refused,place\n1,2\n'),
+    ('depth 37', b'rows,cols,depth\n3,4,37\n', b'refused,place\n2,2\n'),
     ('a name alone', b'rows,cols,depth,least\n', b'refused,place\n8,1\n'),
     ('least out of bounds', b'split,least,rows,cols,depth\n4,0,3,4,2\n', b'refused,place\n19,2\n'),
     ('a weight out of bounds', b'rows,cols,depth\n3,4,2\nweight\n1001\n', b'refused,place\n17,4\n'),

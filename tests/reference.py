@@ -9,7 +9,9 @@ from typing import NamedTuple
 STEPS = {1: (0, 1), 2: (1, 1), 4: (1, 0), 8: (1, -1), 16: (0, -1), 32: (-1, -1), 64: (-1, 0), 128: (-1, 1)}
 OUTSIDE = 0
 MAX_SIDE = 256
-MAX_DEPTH = 18
+MAX_DEPTH = 36
+MAX_DIGITS = 18  # of each of the two numbers of a label
+RECORD = 2  # numbers of a label in a slice
 MAX_LEAST = 65_536_000  # the largest area
 MAX_SPLIT = 4  # mouths taken from a unit
 LEAST, SPLIT = 1, 4  # where a file names neither
@@ -81,6 +83,46 @@ def upstream(donors, cells):
         found.extend(donors[cell])
     return found
 
+# Labels. A label is its digits as text, or a record of two numbers: the first 18 digits, then the next ones. A slice of
+# labels is a list of numbers, two neighbouring ones for each label; an odd one at the end is no place.
+
+def number_of(digits):
+    return int(digits) if digits else 0
+
+def digits_of_number(number):
+    return str(number) if number != 0 else ''
+
+def record_of(digits):
+    return number_of(digits[:MAX_DIGITS]), number_of(digits[MAX_DIGITS:])
+
+def digits_of(record):
+    """The digits of a label as text, whose order is dictionary order."""
+    first, rest = record
+    return digits_of_number(first) + digits_of_number(rest)
+
+def text_of(record):
+    """A label as it is listed."""
+    return digits_of(record) or '0'
+
+def is_label(record, depth):
+    """A record for which this does not hold gives 11."""
+    first, rest = map(digits_of_number, record)
+    if rest and len(first) < MAX_DIGITS:
+        return False
+    return max(len(first), len(rest)) <= MAX_DIGITS and len(first + rest) <= depth and '0' not in first + rest
+
+def places(length):
+    """The labels for which a slice of so many numbers has room."""
+    return length // RECORD
+
+def records_of(numbers):
+    """The labels of a slice."""
+    return [(numbers[RECORD * place], numbers[RECORD * place + 1]) for place in range(places(len(numbers)))]
+
+def numbers_of(records):
+    """The slice that holds these labels."""
+    return [number for record in records for number in record]
+
 # Areas, rivers, units.
 
 def areas_of(cols, weights, donors, drained):
@@ -118,32 +160,37 @@ def unit_cells(donors, unit):
     return stem + upstream(donors, [cell for cell, is_mouth in unit if is_mouth])
 
 def labels_of(donors, areas, depth, least, split, outlet):
-    """The label of each cell; 0 for outside cells. Of the mouths of a unit whose area is at least `least` the heaviest
-    are taken, `split` of them, or all if fewer."""
+    """The label of each cell, as a record; no digits for outside cells. Of the mouths of a unit whose area is at least
+    `least` the heaviest are taken, `split` of them, or all if fewer."""
     def order(cell):  # heavier: the larger area, then the larger cell number
         return areas[cell], cell
     donors = [sorted(cells, key=order) for cells in donors]
-    labels = [0] * len(donors)
-    units = [(river_list(donors, outlet), 0, 0)]  # (unit, its digits as one number, count of digits)
+    labels = [record_of('')] * len(donors)
+    units = [(river_list(donors, outlet), '')]  # (unit, its digits)
     while units:
-        unit, digits, count = units.pop()
+        unit, digits = units.pop()
         counted = [cell for cell, is_mouth in unit if is_mouth and areas[cell] >= least]
-        if not counted or count == depth:
+        if not counted or len(digits) == depth:
+            record = record_of(digits)
             for cell in unit_cells(donors, unit):
-                labels[cell] = digits
+                labels[cell] = record
             continue
         runs, mouths = runs_between(unit, set(sorted(counted, key=order)[-split:]))
         for place, run in enumerate(runs):
-            units.append((run, 10 * digits + 2 * place + 1, count + 1))
+            units.append((run, digits + str(2 * place + 1)))
         for place, mouth in enumerate(mouths):
-            units.append((river_list(donors, mouth), 10 * digits + 2 * place + 2, count + 1))
+            units.append((river_list(donors, mouth), digits + str(2 * place + 2)))
     return labels
 
+def lengths_for(n):
+    """The lengths of areas, labels and work places that n cells need."""
+    return [n, RECORD * n, WORK * n]
+
 def label(rows, cols, depth, least, split, dirs, weights, areas_len, labels_len, work_len):
-    """Direct labelling: (number, place, areas, labels). Refused, areas and labels are None."""
+    """Direct labelling: (number, place, areas, labels), the labels as records. Refused, areas and labels are None."""
     number = size_refusal(rows, cols, depth, least, split, len(dirs), len(weights))
     n = rows * cols
-    if number == 0 and (areas_len < n or labels_len < n or work_len < WORK * n):
+    if number == 0 and (areas_len < n or places(labels_len) < n or work_len < WORK * n):
         number = 3
     if number != 0:
         return number, 0, None, None
@@ -166,12 +213,9 @@ def label(rows, cols, depth, least, split, dirs, weights, areas_len, labels_len,
 
 # The index of units, and the lookup in it.
 
-def digits_of(number):
-    """The digits of a label as text, whose order is dictionary order; the label 0 has none."""
-    return str(number) if number != 0 else ''
-
 def units_of(rows, cols, dirs, labels):
-    """Triples (label, outlet cell, count of cells) of an accepted sheet, in dictionary order of the digits."""
+    """Triples (label, outlet cell, count of cells) of an accepted sheet, in dictionary order of the digits; the labels
+    are records."""
     cells_with = {}
     for cell in range(rows * cols):
         if dirs[cell] != OUTSIDE:
@@ -190,7 +234,7 @@ def index_after(labelled, rows, cols, dirs, units_len, outlets_len, counts_len):
     if number != 0:
         return number, place, areas, labels, None
     units = units_of(rows, cols, dirs, labels)
-    if min(units_len, outlets_len, counts_len) < len(units):
+    if min(places(units_len), outlets_len, counts_len) < len(units):
         return 3, 0, areas, labels, None
     return 0, 0, areas, labels, units
 
@@ -202,10 +246,12 @@ def index(rows, cols, depth, least, split, dirs, weights, areas_len, labels_len,
     return index_after(labelled, rows, cols, dirs, units_len, outlets_len, counts_len)
 
 def lookup(leading, labels):
-    """Where the labels stand that begin with the leading digits: (number, start, length)."""
-    leading, *entries = (digits_of(number) for number in [leading, *labels])
-    if any('0' in digits or len(digits) > MAX_DEPTH for digits in [leading, *entries]):
+    """Where the labels of a slice stand that begin with the leading digits, which are a record: (number, start,
+    length), counted in labels."""
+    records = [leading, *records_of(labels)]
+    if not all(is_label(record, MAX_DEPTH) for record in records):
         return 11, 0, 0
+    leading, *entries = map(digits_of, records)
     if entries != sorted(set(entries)):
         return 16, 0, 0
     found = [place for place, digits in enumerate(entries) if digits.startswith(leading)]
@@ -246,7 +292,7 @@ def levy(rows, cols, depth, least, split, dirs, weights, areas_len, labels_len, 
     labelled = label(rows, cols, depth, least, split, dirs, weights, areas_len, labels_len, work_len)
     return levy_after(labelled, rows, cols, dirs, weights, units_len, outlets_len, counts_len, total, dues_len)
 
-# The flow question and the outlet question.
+# The flow question and the outlet question. The labels p and q are records.
 
 ANSWERS = {'No': 0, 'Yes': 1, 'Same': 2, 'Undecided': 3}
 
@@ -254,9 +300,9 @@ def outlet_flow(depth, p, q):
     """Does water from label q pass the outlet of label p's unit: 'Same', 'Yes', 'No' or ('Refused', number)."""
     if not is_depth(depth):
         return 'Refused', 2
-    p, q = digits_of(p), digits_of(q)
-    if '0' in p + q or max(len(p), len(q)) > depth:
+    if not (is_label(p, depth) and is_label(q, depth)):
         return 'Refused', 11
+    p, q = digits_of(p), digits_of(q)
     if p == q:
         return 'Same'
     if p.startswith(q) or q.startswith(p):
@@ -282,15 +328,16 @@ def answer_number(answer):
     return 128 + answer[1] if isinstance(answer, tuple) else ANSWERS[answer]
 
 def flow_pairs(depth, least, ps, qs, room):
-    """The flow question about each label of P and the label of Q at the same place, with room for so many answers:
+    """The flow question about each label of the slice P and that of Q at the same place, with room for so many answers:
     (number, answers). Refused, answers are None."""
     if not is_depth(depth):
         return 2, None
     if not is_least(least):
         return 19, None
-    if room < min(len(ps), len(qs)):
+    pairs = list(zip(records_of(ps), records_of(qs)))
+    if room < len(pairs):
         return 3, None
-    return 0, [answer_number(flow(depth, least, p, q)) for p, q in zip(ps, qs)]
+    return 0, [answer_number(flow(depth, least, p, q)) for p, q in pairs]
 
 # The intake.
 
@@ -421,8 +468,8 @@ def refusal(number, place):
 
 def listing(cols, dirs, areas, labels):
     cells = [cell for cell in range(len(areas)) if dirs[cell] != OUTSIDE]
-    lines = [b'%d,%d,%d,%d\n' % (cell // cols, cell % cols, areas[cell], labels[cell]) for cell in cells]
-    return b'row,col,area,label\n' + b''.join(lines)
+    lines = ['%d,%d,%d,%s\n' % (cell // cols, cell % cols, areas[cell], text_of(labels[cell])) for cell in cells]
+    return ('row,col,area,label\n' + ''.join(lines)).encode()
 
 def read_file(data, lent=LENT):
     """Takes the lines of a file and its end: (number, place, state, direction bytes, weights)."""
@@ -439,7 +486,7 @@ def report(data, lent=LENT):
     number, place, state, dirs, weights = read_file(data, lent)
     if number != 0:
         return refusal(number, place)
-    number, place, areas, labels = label_intake(state, dirs, weights, lent, lent, WORK * lent)
+    number, place, areas, labels = label_intake(state, dirs, weights, lent, RECORD * lent, WORK * lent)
     return refusal(number, place) if number != 0 else listing(state.cols, dirs, areas, labels)
 
 if __name__ == '__main__':

@@ -15,8 +15,8 @@ ODD_LEASTS = [b'0', b'1', b'2', b'9999999', b'10000000', b'65536000', b'65536001
               b'        65536001', b'        100000000', b'        0']
 ODD_SPLITS = [b'0', b'1', b'4', b'5', b'9', b'99999', b'100000', b'10000000', b'256', b'260', b'65540', b'04', b'',
               b' ', b'4 ', b'4\r', b'        4', b'         4', b'        100000']
-ODD_SIZES = [b'0', b'1', b'257', b'19', b'99999', b'100000', b'10000000', b'00003', b'', b'        99999',
-             b'        100000']
+ODD_SIZES = [b'0', b'1', b'257', b'19', b'36', b'37', b'99999', b'100000', b'10000000', b'00003', b'',
+             b'        99999', b'        100000']
 
 
 def lines(names, values):
@@ -42,7 +42,7 @@ def out_of_bounds(rng, values):
         values[name] = b'%d' % (splits.bad_least(rng) if name == b'least' else splits.bad_split(rng))
     if rng.random() < 0.6:
         too_large = {b'rows': b'33', b'cols': b'64'}  # for the program
-        values.update(rng.choice([{b'depth': b'0'}, {b'depth': b'19'}, {b'rows': b'0'}, {b'cols': b'257'}, too_large,
+        values.update(rng.choice([{b'depth': b'0'}, {b'depth': b'37'}, {b'rows': b'0'}, {b'cols': b'257'}, too_large,
                                   {b'rows': b'256', b'cols': b'256'}]))
     return values
 

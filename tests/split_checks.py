@@ -1,5 +1,6 @@
 """Checks of least and split by direct call, for tests/cases.py: sheets, refusal 19 and its order, both flow questions,
 the index, the levy and the intake. What is expected was worked out by hand."""
+from labels import of_units, record, records, slice_of
 from reference import (Intake, flow, flow_pairs, index, label, label_intake, levy, levy_intake, outlet_flow, take_end,
                        take_line)
 
@@ -35,7 +36,7 @@ SHEETS = [
     ('split 1', 1, 1, 1, 1, 1, bytes([1]), ONES, 1, 1, 8, 0, 0),
     ('split 5', 1, 1, 1, 1, 5, bytes([1]), ONES, 1, 1, 8, 19, 0),
     ('1 before 19', 257, 1, 1, 0, 0, bytes([4] * 257), ONES, 257, 257, 2056, 1, 0),
-    ('2 before 19', 1, 1, 19, 0, 5, bytes([1]), ONES, 1, 1, 8, 2, 0),
+    ('2 before 19', 1, 1, 37, 0, 5, bytes([1]), ONES, 1, 1, 8, 2, 0),
     ('19 before 3', 1, 1, 18, 0, 4, b'', [], 0, 0, 0, 19, 0),
     ('19 before 3 of the work places', 3, 4, 2, 2, 5, SAMPLE_A, ONES, 12, 12, 95, 19, 0),
     ('19 before 17', 1, 1, 1, 0, 4, bytes([1]), [0], 1, 1, 8, 19, 0),
@@ -63,7 +64,7 @@ FLOW = [
     ('least 0', 2, 0, 1, 3, ('Refused', 19)),
     ('one more than the largest least', 2, MOST + 1, 1, 3, ('Refused', 19)),
     ('least 0: 2 before 19', 0, 0, 1, 3, ('Refused', 2)),
-    ('the largest number: 2 before 19', 19, 2 ** 64 - 1, 1, 3, ('Refused', 2)),
+    ('the largest number: 2 before 19', 37, 2 ** 64 - 1, 1, 3, ('Refused', 2)),
     ('least 0: 19 before 11', 3, 0, 105, 105, ('Refused', 19)),
     ('least 0: 19 before Same', 3, 0, 91, 91, ('Refused', 19)),
     ('least 0: 19 before 12', 3, 0, 9, 91, ('Refused', 19)),
@@ -79,7 +80,7 @@ PAIRS = [
     ('least 0', 3, 0, [91], [92], 1, 19, None),
     ('one more than the largest least', 3, MOST + 1, [91], [92], 1, 19, None),
     ('least 0 and nothing lent', 3, 0, [], [], 0, 19, None),
-    ('2 before 19', 19, 0, [91], [92], 1, 2, None),
+    ('2 before 19', 37, 0, [91], [92], 1, 2, None),
     ('19 before 3', 3, 0, [91, 91], [92, 92], 1, 19, None),
     ('19 before 11', 3, 0, [105], [105], 1, 19, None),
     ('3 with least 2', 3, 2, [91, 91], [92, 92], 1, 3, None),
@@ -89,29 +90,29 @@ PAIRS += [('least %d' % huge, 3, huge, [91], [92], 1, 19, None) for huge in HUGE
 
 def label_checks():
     for name, depth, least, split, weights, labels in LABELS:
-        got = label(3, 4, depth, least, split, SAMPLE_A, weights, 12, 12, 96)
-        yield 'least and split: ' + name, (*got[:2], got[3]), (0, 0, labels)
-    for name, *arguments, number, place in SHEETS:
-        yield 'least and split: ' + name, label(*arguments)[:2], (number, place)
+        got = label(3, 4, depth, least, split, SAMPLE_A, weights, 12, 24, 96)
+        yield 'least and split: ' + name, (*got[:2], got[3]), (0, 0, records(labels))
+    for name, *arguments, areas, places, work, number, place in SHEETS:
+        yield 'least and split: ' + name, label(*arguments, areas, 2 * places, work)[:2], (number, place)
 
 
 def flow_checks():
     for name, depth, least, p, q, answer in FLOW:
-        yield 'flow: ' + name, flow(depth, least, p, q), answer
-    yield 'outlet flow: it is not told least', outlet_flow(2, 1, 3), 'Yes'
-    for name, *arguments, number, answers in PAIRS:
-        yield 'pairs: ' + name, flow_pairs(*arguments), (number, answers)
+        yield 'flow: ' + name, flow(depth, least, record(p), record(q)), answer
+    yield 'outlet flow: it is not told least', outlet_flow(2, record(1), record(3)), 'Yes'
+    for name, depth, least, p, q, room, number, answers in PAIRS:
+        yield 'pairs: ' + name, flow_pairs(depth, least, slice_of(p), slice_of(q), room), (number, answers)
 
 
 def unit_checks():
     """Sample A at least 2 has three units: of cells 4, 5, 8, 9 and 10; 1 and 2; 3, 6, 7 and 11."""
-    units = [(1, 4, 5), (2, 1, 2), (3, 6, 4)]
-    rooms = [12, 12, 96, 3, 3, 3]
+    units = of_units([(1, 4, 5), (2, 1, 2), (3, 6, 4)])
+    rooms = [12, 24, 96, 6, 3, 3]
     sheet = [3, 4, 2, 2, 4, SAMPLE_A, ONES]
     yield 'index: least 2', index(*sheet, *rooms)[4], units
-    yield 'index: 19', index(3, 4, 2, 0, 4, SAMPLE_A, ONES, 12, 12, 96, 0, 0, 0), (19, 0, None, None, None)
+    yield 'index: 19', index(3, 4, 2, 0, 4, SAMPLE_A, ONES, 12, 24, 96, 0, 0, 0), (19, 0, None, None, None)
     yield 'levy: least 2', levy(*sheet, *rooms, 110, 3)[4:], (units, [50, 20, 40])
-    refused = [3, 4, 2, 0, 4, SAMPLE_A, ONES, 12, 12, 96, 0, 0, 0]
+    refused = [3, 4, 2, 0, 4, SAMPLE_A, ONES, 12, 24, 96, 0, 0, 0]
     yield 'levy: 19', levy(*refused, 100, 0), (19, 0, None, None, None, None)
     yield 'levy: 18 before 19', levy(*refused, 10 ** 11 + 1, 0), (18, 0, None, None, None, None)
 

@@ -8,7 +8,7 @@ MOST = reference.MAX_LEAST
 def mouth_areas(rows, cols, dirs, lent):
     """The areas of the mouths of tributaries, with these weights; none if labelling refuses the sheet."""
     n = rows * cols
-    areas = reference.label(rows, cols, 1, *NEITHER, dirs, lent, n, n, reference.WORK * n)[2]
+    areas = reference.label(rows, cols, 1, *NEITHER, dirs, lent, *reference.lengths_for(n))[2]
     return mouth_areas_by(rows, cols, dirs, areas) if areas is not None else []
 
 
@@ -60,5 +60,5 @@ def changes(sizes, dirs, lent, labels):
     rows, cols, depth, least, split = sizes
     n = rows * cols
     other_sizes = (rows, cols, depth, reference.LEAST, split), (rows, cols, depth, least, reference.SPLIT)
-    return [other != sizes and reference.label(*other, dirs, lent, n, n, reference.WORK * n)[3] != labels
+    return [other != sizes and reference.label(*other, dirs, lent, *reference.lengths_for(n))[3] != labels
             for other in other_sizes]

@@ -88,7 +88,7 @@ def made(rng, rows, cols, dirs):
 def plain_areas(rows, cols, dirs):
     """The areas of a sheet without weights; None if it is refused."""
     n = rows * cols
-    return reference.label(rows, cols, 1, 1, 4, dirs, [1] * rows, n, n, reference.WORK * n)[2]
+    return reference.label(rows, cols, 1, 1, 4, dirs, [1] * rows, *reference.lengths_for(n))[2]
 
 
 def effects(rows, cols, dirs, areas):

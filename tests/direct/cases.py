@@ -2,7 +2,8 @@
 """Writes cases for tests/direct/direct.c to standard output: calls with what tests/reference.py expects of
 them, and both questions about the labels of a sheet with what the water does.
 
-A case is a byte that names its call, then numbers of 8 bytes, lowest byte first, and slices.
+A case is a byte that names its call, then numbers of 8 bytes, lowest byte first, and slices. A label is two numbers,
+and the length of a slice of labels counts numbers.
 'L', labelling: rows, cols, depth, least, split and the lengths of directions, weights, areas, labels and work places;
 these slices before the call; the answer (0, or refusal number + 256 x place); areas, labels and work places after it.
 Directions and weights must stay as they are.
@@ -10,7 +11,7 @@ Directions and weights must stay as they are.
 256 x the number of units.
 'V', the levy: the total, then the same as for the index with one slice more, the dues of units.
 'P', a lookup: the leading digits, the length of the label slice, the slice, start and length before; the answer, start
-and length after.
+and length after, which count labels.
 'F', the flow question: depth, least, p, q, the answer.
 'O', the outlet question: depth, p, q, the answer.
 'S', both questions about every two labels of a sheet: depth, least, the number of labels, the labels; the answers to
@@ -31,11 +32,14 @@ from array import array
 
 sys.dont_write_bytecode = True
 sys.path.insert(0, os.path.join(os.path.dirname(os.path.abspath(__file__)), '..'))
+import depths
 import flows
 import fuzz
+import lent_labels
 import lent_splits
 import lent_weights
 import levies
+import long_labels
 import lookups
 import outlets
 import pairs
@@ -43,6 +47,7 @@ import reference
 import splits
 import weights
 import words
+from reference import numbers_of, places
 
 PLACE = 256  # an answer is number + 256 x place
 LABEL_WIDTHS = [4, 8, 4]  # bytes of a place of areas, labels, work places
@@ -59,11 +64,14 @@ tally = {
     'pf_label': dict.fromkeys(LABEL_KINDS, 0),
     'pf_index': dict.fromkeys(INDEX_KINDS, 0),
     'pf_levy': dict.fromkeys(levies.KINDS, 0),
+    'labels': dict.fromkeys(lent_labels.KINDS, 0),
+    'labels of units': dict.fromkeys(lent_labels.UNIT_KINDS, 0),
     'weights': dict.fromkeys(lent_weights.KINDS, 0),
     'least and split': dict.fromkeys(lent_splits.KINDS, 0),
     'pf_lookup': dict.fromkeys(lookups.KINDS, 0),
     'pf_flow': dict.fromkeys(flows.KINDS, 0),
     'pf_outlet_flow': dict.fromkeys(flows.OUTLET_KINDS, 0),
+    'labels of both questions': dict.fromkeys(flows.LABEL_KINDS, 0),
     'outlets': dict.fromkeys(outlets.KINDS, 0),
     'pf_first_bad': dict.fromkeys(words.KINDS, 0),
     'directions': dict.fromkeys(words.SHEET_KINDS, 0),
@@ -96,10 +104,16 @@ def labelled_places(sheet, labelled, areas, labels, work):
     """The slices of labelling after a call in which it gave `labelled`."""
     number, place, new_areas, new_labels = labelled
     if number == 0:
-        areas, labels = written(areas, new_areas), written(labels, new_labels)
+        areas, labels = written(areas, new_areas), written(labels, numbers_of(new_labels))
     if number not in (1, 2, 19, 3):
         work = written(work, [0] * (reference.WORK * sheet[0] * sheet[1]))
     return [areas, labels, work]
+
+
+def unit_values(units):
+    """What a call writes to the slices of an index."""
+    labels, outlet_cells, counts = zip(*units)
+    return [numbers_of(labels), outlet_cells, counts]
 
 
 def write_case(out, call, sheet, dirs, lent, before, answer, after):
@@ -114,6 +128,8 @@ def label_case(out, rng, sheet, dirs, lent, lengths, labelled):
     before = rubbish(rng, LABEL_WIDTHS, lengths)
     write_case(out, b'L', sheet, dirs, lent, before, number + PLACE * place, labelled_places(sheet, labelled, *before))
     tally['pf_label'][REFUSED % number if number else ACCEPTED] += 1
+    for kind in lent_labels.kinds(sheet, dirs, lengths[1], labelled):
+        tally['labels'][kind] += 1
 
 
 def index_case(out, rng, sheet, dirs, lent, lengths, index_lengths, labelled):
@@ -122,18 +138,25 @@ def index_case(out, rng, sheet, dirs, lent, lengths, index_lengths, labelled):
     before = rubbish(rng, LABEL_WIDTHS + INDEX_WIDTHS, [*lengths, *index_lengths])
     after = labelled_places(sheet, labelled, *before[:3]) + before[3:]
     if number == 0:
-        after[3:] = [written(places, values) for places, values in zip(before[3:], zip(*units))]
+        after[3:] = [written(slice_, values) for slice_, values in zip(before[3:], unit_values(units))]
     answer = PLACE * len(units) if number == 0 else number + PLACE * place
     write_case(out, b'I', sheet, dirs, lent, before, answer, after)
+    count_index(dirs, index_lengths, labelled, number)
+
+
+def count_index(dirs, index_lengths, labelled, number):
     kinds = tally['pf_index']
+    rooms = [places(index_lengths[0]), *index_lengths[1:]]
+    count = len({label for label, code in zip(labelled[3], dirs) if code != 0}) if labelled[0] == 0 else 0
     if labelled[0] == 0 and number == 3:
-        count = len({label for label, code in zip(labels, dirs) if code != 0})
-        short = [length < count for length in index_lengths]
+        short = [room < count for room in rooms]
         kinds['short ' + ('slices' if sum(short) > 1 else ('labels', 'outlets', 'counts')[short.index(True)])] += 1
     else:
         kinds[REFUSED % number if number else ACCEPTED] += 1
-        kinds['longer slices'] += number == 0 and min(index_lengths) > len(units)
-        kinds['short slices unseen'] += number != 0 and max(index_lengths) == 0
+        kinds['longer slices'] += number == 0 and min(rooms) > count
+        kinds['short slices unseen'] += number != 0 and max(rooms) == 0
+    for kind in lent_labels.unit_kinds(index_lengths[0], count, number) if labelled[0] == 0 else []:
+        tally['labels of units'][kind] += 1
 
 
 def sheet_cases(out, rng, sheet, dirs, lent, lengths=None, index_lengths=None):
@@ -141,9 +164,8 @@ def sheet_cases(out, rng, sheet, dirs, lent, lengths=None, index_lengths=None):
     lengths the slices of labelling are exact; without index lengths those of the index are chosen. Returns the labels
     of the inside cells and those of the units, none if labelling refused."""
     rows, cols = sheet[:2]
-    n = rows * cols
     sheet = sheet if len(sheet) == 5 else (*sheet, *splits.NEITHER)
-    dirs, lengths = bytes(dirs), lengths or [n, n, reference.WORK * n]
+    dirs, lengths = bytes(dirs), lengths or reference.lengths_for(rows * cols)
     labelled = reference.label(*sheet, dirs, lent, *lengths)
     for kind in lent_splits.kinds(sheet, dirs, lent, lengths, labelled):
         tally['least and split'][kind] += 1
@@ -165,10 +187,16 @@ def chosen_lengths(rng, count):
     none."""
     if count == 0:
         return rng.choice([[0, 0, 0], [rng.randint(0, 9) for _ in range(3)]])
-    lengths = [count + rng.choice([0, 0, 0, 1, rng.randint(0, 60)]) for _ in range(3)]
+    wanted = rooms_for(count)
+    lengths = [needed + rng.choice([0, 0, 0, 1, rng.randint(0, 60)]) for needed in wanted]
     for short in rng.sample(range(3), rng.choice([0, 0, 0, 0, 0, 0, 1, 1, 2, 3])):
-        lengths[short] = rng.choice([0, count - 1, count - 1, rng.randrange(count)])
+        lengths[short] = rng.choice([0, wanted[short] - 1, wanted[short] - 1, rng.randrange(wanted[short])])
     return lengths
+
+
+def rooms_for(count):
+    """The lengths of the index's slices that so many units need."""
+    return [reference.RECORD * count, count, count]
 
 
 def length(rng, wanted):
@@ -186,10 +214,10 @@ def random_sheets(out, rng, count):
         if rng.random() < 0.1:
             dirs[rng.randrange(len(dirs))] = rng.randrange(256)
         n = rows * cols
-        depth = rng.choice([1, 2, 3, 18, rng.randint(1, 18)])
+        depth = depths.by_chance(rng)
         lent, lengths = lent_weights.chosen(rng, rows, cols, dirs), None
         if rng.random() < 0.4:
-            lengths = [length(rng, n), length(rng, n), length(rng, 8 * n)]
+            lengths = [length(rng, wanted) for wanted in reference.lengths_for(n)]
             dirs = dirs[:length(rng, n)] + [rng.randrange(256) for _ in range(max(0, length(rng, n) - n))]
         inside, units = sheet_cases(out, rng, (rows, cols, depth), dirs, lent, lengths)
         for _ in range(3 if inside else 0):
@@ -199,19 +227,42 @@ def random_sheets(out, rng, count):
     return indexes
 
 
+def long_label_sheets(out, rng, count):
+    """Sheets with labels of each length that is counted, and so many random ones; with the labels' slice exact, or with
+    an odd number at its end. Returns the label slices of their indexes."""
+    sheets = [*long_labels.of_digits(rng), *(long_labels.by_chance(rng) for _ in range(count))]
+    indexes = []
+    for *sheet, dirs, lent in sheets:
+        lengths = reference.lengths_for(sheet[0] * sheet[1])
+        lengths[1] += rng.choice([0, 0, 1, 2])
+        indexes.append(sheet_cases(out, rng, tuple(sheet), dirs, lent, lengths)[1])
+    return indexes
+
+
+def label_lengths(out, rng):
+    """Every number of numbers that matters for the labels of a sheet, and for those of its units."""
+    for rows, cols, dirs in [(1, 1, [1]), (3, 4, SAMPLE_A), (2, 40, fuzz.comb(rng, 2, 40))]:
+        sheet, lent, (areas, exact, work) = (rows, cols, 36, 1, 1), [1] * rows, reference.lengths_for(rows * cols)
+        for numbers_lent in lent_labels.edges(rows * cols):
+            units = sheet_cases(out, rng, sheet, dirs, lent, [areas, numbers_lent, work])[1]
+        for numbers_lent in lent_labels.edges(len(units)):
+            rooms = [numbers_lent, len(units), len(units)]
+            sheet_cases(out, rng, sheet, dirs, lent, [areas, exact, work], rooms)
+
+
 def size_boundaries(out, rng):
-    for rows, cols, depth in [(0, 1, 1), (1, 0, 1), (257, 1, 1), (1, 257, 1), (256, 1, 1), (1, 256, 18), (1, 1, 0),
-                              (1, 1, 19), (1, 1, 1), (2 ** 64 - 1, 1, 1), (1, 2 ** 64 - 1, 1), (2 ** 32, 2 ** 32, 1),
-                              (1, 1, 2 ** 64 - 1), (257, 1, 19), (0, 0, 0)]:
+    for rows, cols, depth in [(0, 1, 1), (1, 0, 1), (257, 1, 1), (1, 257, 1), (256, 1, 1), (1, 256, 18), (1, 256, 36),
+                              (2 ** 64 - 1, 1, 1), (1, 2 ** 64 - 1, 1), (2 ** 32, 2 ** 32, 1), (257, 1, 37), (0, 0, 0),
+                              *[(1, 1, depth) for depth in depths.EDGES + depths.BAD]]:
         n = rows * cols if rows <= 256 and cols <= 256 else 300
         dirs = [16 if cols and cell < cols else 64 for cell in range(n)]
         for weight in (1, 0):
-            sheet_cases(out, rng, (rows, cols, depth), dirs, [weight] * min(rows, 300), [n, n, 8 * n])
+            sheet_cases(out, rng, (rows, cols, depth), dirs, [weight] * min(rows, 300), reference.lengths_for(n))
     for missing in range(5):
-        lengths = [12, 3, 12, 12, 96]
+        lengths = [12, 3, 12, 24, 96]
         lengths[missing] -= 1
         for weight in (500, 1001):
-            for index_lengths in ([0, 0, 0], [9, 9, 9], [12, 12, 12]):
+            for index_lengths in ([0, 0, 0], rooms_for(9), rooms_for(12)):
                 dirs, lent = SAMPLE_A[:lengths[0]], [weight] * lengths[1]
                 sheet_cases(out, rng, (3, 4, 2), dirs, lent, lengths[2:], index_lengths)
 
@@ -220,10 +271,10 @@ def weight_boundaries(out, rng):
     for rows in (1, 2, 3, 6):
         dirs = fuzz.comb(rng, rows, 4)
         for lent in lent_weights.edges(rng, rows, 4, dirs):
-            sheet_cases(out, rng, (rows, 4, 18), dirs, lent)
+            sheet_cases(out, rng, (rows, 4, rng.choice([18, 36])), dirs, lent)
         dirs[-4:] = [0] * 4  # the last row has no inside cell
         for lent in lent_weights.edges(rng, rows, 4, dirs):
-            sheet_cases(out, rng, (rows, 4, 18), dirs, lent)
+            sheet_cases(out, rng, (rows, 4, rng.choice([18, 36])), dirs, lent)
 
 
 def confluences(out, rng, count):
@@ -232,7 +283,7 @@ def confluences(out, rng, count):
         rows, cols = rng.randint(3, 20), rng.randint(3, 20)
         dirs = rng.choice([fuzz.grown, fuzz.northwest])(rng, rows, cols)
         lent = weights.equal_areas(rng, rows, cols, dirs)
-        sheet_cases(out, rng, (rows, cols, rng.choice([1, 2, 3, 18])), dirs, lent)
+        sheet_cases(out, rng, (rows, cols, rng.choice([1, 2, 3, 18, 36])), dirs, lent)
 
 
 def refused_sheets(out, rng):
@@ -244,17 +295,18 @@ def refused_sheets(out, rng):
             for dirs in ([1, 16], [16, 1], [0, 0], [5, 0], [0, 5]):
                 sheet_cases(out, rng, (1, 2, 1), dirs, [weight], None, index_lengths)
             sheet_cases(out, rng, (257, 1, 1), [4] * 257, [weight] * 257, None, index_lengths)
-            sheet_cases(out, rng, (1, 1, 19), [4], [weight], None, index_lengths)
+            sheet_cases(out, rng, (1, 1, 37), [4], [weight], None, index_lengths)
 
 
 def index_boundaries(out, rng):
-    for depth, count in [(1, 7), (2, 9), (18, 9)]:  # sample A, whose rows weigh the same, and its number of units
+    for depth, count in [(1, 7), (2, 9), (36, 9)]:  # sample A, whose rows weigh the same, and its number of units
         lent = [rng.choice([1, 7, 1000])] * 3
-        for index_lengths in ([count] * 3, [count + 1] * 3, [count - 1] * 3, [0] * 3):
+        for index_lengths in map(rooms_for, (count, count + 1, count - 1, 0)):
             sheet_cases(out, rng, (3, 4, depth), SAMPLE_A, lent, None, index_lengths)
         for place in range(3):
-            for other in (0, 1, count - 1, count + 1, 5 * count):
-                index_lengths = [count] * 3
+            needed = rooms_for(count)[place]
+            for other in (0, 1, needed - 1, needed + 1, 5 * needed):
+                index_lengths = rooms_for(count)
                 index_lengths[place] = other
                 sheet_cases(out, rng, (3, 4, depth), SAMPLE_A, lent, None, index_lengths)
 
@@ -264,10 +316,10 @@ def large_sheets(out, rng):
     kinds = [weights.all_largest, weights.any_weights, weights.equal_areas, weights.all_one]
     indexes = []
     for at, shape in enumerate([fuzz.snake, fuzz.comb, fuzz.northwest, fuzz.grown, fuzz.by_chance]):
-        for turn, depth in enumerate((1, 3, 18)):
+        for turn, depth in enumerate((1, 3, rng.choice([18, 36]))):
             dirs = shape(rng, 256, 256)
             lent = kinds[(at + turn) % len(kinds)](rng, 256, 256, dirs)
-            inside, units = sheet_cases(out, rng, (256, 256, depth), dirs, lent, None, [256 * 256] * 3)
+            inside, units = sheet_cases(out, rng, (256, 256, depth), dirs, lent, None, rooms_for(256 * 256))
             indexes += [units] if len(units) > lookups.LARGE else []
     return indexes
 
@@ -283,15 +335,15 @@ def split_sheets(out, rng, count):
 def levy_case(out, rng, call):
     sheet, dirs, lent, lengths, labelled = call.sheet[:5]
     rows, cols = sheet[:2]
-    *rooms, dues_room = call.rooms
+    *rooms, dues_room = call.lengths()
     number, place, areas, labels, units, dues = reference.levy_after(labelled, rows, cols, dirs, lent, *rooms,
                                                                      call.total, dues_room)
-    before = rubbish(rng, LABEL_WIDTHS + INDEX_WIDTHS + [DUES_WIDTH], [*lengths, *call.rooms])
+    before = rubbish(rng, LABEL_WIDTHS + INDEX_WIDTHS + [DUES_WIDTH], [*lengths, *call.lengths()])
     after = before if number == 18 else labelled_places(sheet, labelled, *before[:3]) + before[3:]
     answer = number + PLACE * place
     if number == 0:
         answer = PLACE * len(units)
-        after[3:] = [written(places, values) for places, values in zip(before[3:], [*zip(*units), dues])]
+        after[3:] = [written(slice_, values) for slice_, values in zip(before[3:], [*unit_values(units), dues])]
     write_case(out, b'V' + numbers([call.total]), sheet, dirs, lent, before, answer, after)
     for kind in levies.kinds(call, number, dues):
         tally['pf_levy'][kind] += 1
@@ -308,12 +360,14 @@ def flow_cases(out, depth, leasts, p, q):
     """The flow question, told each of these numbers as least, and the outlet question."""
     for least in leasts:
         answer = reference.flow(depth, least, p, q)
-        out.write(b'F' + numbers([depth, least, p, q, reference.answer_number(answer)]))
+        out.write(b'F' + numbers([depth, least, *p, *q, reference.answer_number(answer)]))
         for kind in flows.kinds(depth, least, p, q, answer):
             tally['pf_flow'][kind] += 1
     answer = reference.outlet_flow(depth, p, q)
-    out.write(b'O' + numbers([depth, p, q, reference.answer_number(answer)]))
+    out.write(b'O' + numbers([depth, *p, *q, reference.answer_number(answer)]))
     tally['pf_outlet_flow'][flows.name_of(answer)] += 1
+    for kind in flows.label_kinds(depth, p, q, answer):
+        tally['labels of both questions'][kind] += 1
 
 
 def flow_questions(out, rng, count):
@@ -325,32 +379,33 @@ def outlet_questions(out, rng, count):
     """Both questions about every two labels of sheets, answered by the water, with a labelling case of each."""
     for asked in outlets.questions(rng, count):
         rows, cols, depth, least, split = asked.sheet
-        lengths = [rows * cols, rows * cols, reference.WORK * rows * cols]
+        lengths = reference.lengths_for(rows * cols)
         label_case(out, rng, asked.sheet, asked.dirs, asked.lent, lengths, asked.labelled)
-        out.write(b'S' + numbers([depth, least, len(asked.labels), *asked.labels]))
+        out.write(b'S' + numbers([depth, least, len(asked.labels), *numbers_of(asked.labels)]))
         out.write(bytes(asked.outlet_answers) + bytes(asked.flow_answers))
         for kind, number in asked.counts.items():
             tally['outlets'][kind] += number
 
 
 def lookup_questions(out, rng, count, indexes, large_indexes):
-    for leading, labels in lookups.questions(rng, count, indexes, large_indexes):
-        answer = reference.lookup(leading, labels)
+    for leading, labels, odd in lookups.questions(rng, count, indexes, large_indexes):
+        lent = numbers_of(labels) + odd
+        answer = reference.lookup(leading, lent)
         before = [rng.choice([0, 1, rng.getrandbits(64)]) for _ in range(2)]
-        out.write(b'P' + numbers([leading, len(labels), *labels, *before, *answer]))
-        for kind in lookups.kinds(leading, labels, answer):
+        out.write(b'P' + numbers([*leading, len(lent), *lent, *before, *answer]))
+        for kind in lookups.kinds(leading, labels, odd, answer):
             tally['pf_lookup'][kind] += 1
 
 
 def pair_questions(out, rng, count, indexes):
     for call in pairs.questions(rng, count, indexes):
-        number, answers = reference.flow_pairs(*call)
+        p, q = call.slices()
+        number, answers = reference.flow_pairs(call.depth, call.least, p, q, call.room)
         before = rng.randbytes(call.room)
         answer, after = number, before
         if number == 0:
             answer, after = PLACE * len(answers), bytes(answers) + before[len(answers):]
-        lengths = len(call.p), len(call.q), call.room
-        out.write(b'M' + numbers([call.depth, call.least, *lengths, *call.p, *call.q]) + before)
+        out.write(b'M' + numbers([call.depth, call.least, len(p), len(q), call.room, *p, *q]) + before)
         out.write(numbers([answer]) + after)
         for kind, times in pairs.counts(call, number, answers).items():
             tally['pf_flow_pairs'][kind] += times
@@ -369,14 +424,15 @@ def word_questions(out, rng, count):
 
 def word_sheets(out, rng):
     for rows, cols, dirs in words.sheets(rng):
-        sheet_cases(out, rng, (rows, cols, rng.choice([1, 2, 18])), dirs, [1] * rows)
+        sheet_cases(out, rng, (rows, cols, rng.choice([1, 2, 18, 36])), dirs, [1] * rows)
 
 
 def main():
     parser = argparse.ArgumentParser(description=__doc__, formatter_class=argparse.RawDescriptionHelpFormatter)
     parser.add_argument('--sheets', type=int, default=2000,
-                        help='random sheets, each for pf_label and for pf_index; as many with least and split; twice '
-                             'as many, at four depths each, for both questions about every two labels')
+                        help='random sheets, each for pf_label and for pf_index; as many with least and split; an '
+                             'eighth as many with long labels; twice as many, at five depths each, for both questions '
+                             'about every two labels')
     parser.add_argument('--lookups', type=int, default=20000, help='random lookups')
     parser.add_argument('--words', type=int, default=20000, help='random words')
     parser.add_argument('--pairs', type=int, default=200000, help='random pairs of labels, of calls with many pairs')
@@ -386,10 +442,10 @@ def main():
     options = parser.parse_args()
     rng = random.Random(options.seed)
     out = sys.stdout.buffer
-    for part in (size_boundaries, weight_boundaries, refused_sheets, index_boundaries):
+    for part in (size_boundaries, label_lengths, weight_boundaries, refused_sheets, index_boundaries):
         part(out, rng)
     large_indexes = large_sheets(out, rng)
-    indexes = random_sheets(out, rng, options.sheets)
+    indexes = random_sheets(out, rng, options.sheets) + long_label_sheets(out, rng, options.sheets // 8)
     confluences(out, rng, options.sheets // 4)
     split_sheets(out, rng, options.sheets)
     flow_questions(out, rng, options.sheets)

@@ -1,6 +1,7 @@
 /* Calls pf_label, pf_index, pf_levy, pf_lookup, pf_flow, pf_flow_pairs, pf_outlet_flow and pf_first_bad on the cases
-   that come on standard input, and compares the answer and every place of every lent slice afterwards with what is
-   expected; also the dues of pf_levy with the total and with the weights of the cells. The cases are made by
+   that come on standard input, and compares the answer and every number of every lent slice afterwards with what is
+   expected; also the dues of pf_levy with the total and with the weights of the cells. Where a slice of labels ends
+   with an odd number, the call is made a second time with another number there. The cases are made by
    tests/direct/cases.py, which also says how they are laid out. */
 #include <inttypes.h>
 #include <stdint.h>
@@ -9,12 +10,13 @@
 #include <string.h>
 #include "pfafstetter.h"
 
-/* A lent slice, and what it must hold after the call. */
+/* A lent slice; what it holds before the call, and what it must hold after it. */
 struct lent {
     const char *name;
     size_t width;
+    int of_labels;
     uint64_t length;
-    void *places, *expected;
+    void *before, *places, *expected;
 };
 
 enum { TOLD = 5 }; /* differences of one case that are told */
@@ -42,20 +44,67 @@ static void *slice(size_t size) {
     return places;
 }
 
-static void *copy(const void *places, size_t size) {
-    void *copied = malloc(size == 0 ? 1 : size);
-    if (copied == NULL) exit(2);
-    if (size != 0) memcpy(copied, places, size);
-    return copied;
+static size_t size_of(const struct lent *lent) { return lent->width * lent->length; }
+
+/* Takes the slices as they are before the call. */
+static void take_slices(struct lent *lent, int count) {
+    for (int i = 0; i < count; i++) {
+        lent[i].before = slice(size_of(&lent[i]));
+        lent[i].places = malloc(size_of(&lent[i]) + (size_of(&lent[i]) == 0));
+        if (lent[i].places == NULL) exit(2);
+    }
 }
 
-/* Compares a slice with what it must hold, and frees both. */
-static int as_expected(uint64_t which, struct lent *lent) {
-    size_t size = lent->width * lent->length;
-    int good = size == 0 || memcmp(lent->places, lent->expected, size) == 0;
-    if (!good) printf("case %" PRIu64 ": %s differ\n", which, lent->name);
-    free(lent->places), free(lent->expected);
+/* Takes what the slices must hold after the call; the first `read_only` must stay as they are. */
+static void take_expected(struct lent *lent, int count, int read_only) {
+    for (int i = 0; i < count; i++) lent[i].expected = i < read_only ? lent[i].before : slice(size_of(&lent[i]));
+}
+
+static void lend(struct lent *lent, int count) {
+    for (int i = 0; i < count; i++)
+        if (lent[i].length != 0) memcpy(lent[i].places, lent[i].before, size_of(&lent[i]));
+}
+
+/* Do the slices hold what they must? */
+static int as_expected(uint64_t which, const struct lent *lent, int count) {
+    int good = 1;
+    for (int i = 0; i < count; i++) {
+        if (lent[i].length == 0 || memcmp(lent[i].places, lent[i].expected, size_of(&lent[i])) == 0) continue;
+        printf("case %" PRIu64 ": %s differ\n", which, lent[i].name);
+        good = 0;
+    }
     return good;
+}
+
+/* Changes the odd number at the end of each slice of labels that has one. Were there any? */
+static int change_odd(struct lent *lent, int count) {
+    int changed = 0;
+    for (int i = 0; i < count; i++) {
+        if (!lent[i].of_labels || lent[i].length % 2 == 0) continue;
+        uint64_t *before = lent[i].before, *expected = lent[i].expected, last = lent[i].length - 1;
+        uint64_t other = ~before[last];
+        before[last] = expected[last] = other;
+        changed = 1;
+    }
+    return changed;
+}
+
+static void release(struct lent *lent, int count) {
+    for (int i = 0; i < count; i++) {
+        if (lent[i].expected != lent[i].before) free(lent[i].expected);
+        free(lent[i].before), free(lent[i].places);
+    }
+}
+
+/* The text of a record of two numbers. */
+struct text {
+    char bytes[64];
+};
+
+static struct text text_of(uint64_t first, uint64_t rest) {
+    struct text text;
+    snprintf(text.bytes, sizeof text.bytes, "%" PRIu64 " %" PRIu64, first, rest);
+    return text;
 }
 
 /* The slices that are lent with a sheet: those of pf_label, then three of pf_index, then one of pf_levy. */
@@ -70,31 +119,33 @@ struct sheet {
     struct lent lent[OF_LEVY];
 };
 
-/* A unit, the summed weight of its cells and its due. */
+/* A unit, with both numbers of its label, the summed weight of its cells and its due. */
 struct share {
-    uint64_t label, weight, due;
+    uint64_t first, rest, weight, due;
 };
 
-static int by_label(const void *first, const void *second) {
-    uint64_t a = ((const struct share *)first)->label, b = ((const struct share *)second)->label;
-    return (a > b) - (a < b);
+static int by_label(const void *one, const void *other) {
+    const struct share *a = one, *b = other;
+    return a->first != b->first ? (a->first > b->first) - (a->first < b->first)
+                                : (a->rest > b->rest) - (a->rest < b->rest);
 }
 
 /* The units that a call wrote, so many of them, with their dues, and with their weights by the labels that it wrote; in
-   rising order of the labels as numbers. Also the weight of all inside cells. */
+   rising order of the labels as pairs of numbers. Also the weight of all inside cells. */
 static struct share *shares_of(const struct sheet *sheet, uint64_t count, uint64_t *whole) {
-    const uint8_t *dirs = sheet->lent[DIRS].expected;
-    const uint16_t *weights = sheet->lent[WEIGHTS].expected;
+    const uint8_t *dirs = sheet->lent[DIRS].before;
+    const uint16_t *weights = sheet->lent[WEIGHTS].before;
     const uint64_t *labels = sheet->lent[LABELS].places, *units = sheet->lent[UNITS].places;
     const uint64_t *dues = sheet->lent[DUES].places;
     struct share *shares = malloc(count * sizeof *shares);
     if (shares == NULL) exit(2);
-    for (uint64_t k = 0; k < count; k++) shares[k] = (struct share){.label = units[k], .due = dues[k]};
+    for (uint64_t k = 0; k < count; k++)
+        shares[k] = (struct share){.first = units[2 * k], .rest = units[2 * k + 1], .due = dues[k]};
     qsort(shares, count, sizeof *shares, by_label);
     *whole = 0;
     for (uint64_t cell = 0; cell < sheet->rows * sheet->cols; cell++) {
         if (dirs[cell] == 0) continue;
-        struct share sought = {.label = labels[cell]};
+        struct share sought = {.first = labels[2 * cell], .rest = labels[2 * cell + 1]};
         struct share *found = bsearch(&sought, shares, count, sizeof *shares, by_label);
         if (found != NULL) found->weight += weights[cell / sheet->cols];
         *whole += weights[cell / sheet->cols];
@@ -113,8 +164,9 @@ static int shares_good(uint64_t which, const struct sheet *sheet, uint64_t count
         unsigned __int128 exact = (unsigned __int128)sheet->total * shares[k].weight;
         sum += shares[k].due;
         if ((due > exact ? due - exact : exact - due) < whole || differences++ >= TOLD) continue;
-        printf("case %" PRIu64 ", pf_levy: label %" PRIu64 " of weight %" PRIu64 " in %" PRIu64 " owes %" PRIu64
-               " of %" PRIu64 "\n", which, shares[k].label, shares[k].weight, whole, shares[k].due, sheet->total);
+        printf("case %" PRIu64 ", pf_levy: label %s of weight %" PRIu64 " in %" PRIu64 " owes %" PRIu64 " of %" PRIu64
+               "\n", which, text_of(shares[k].first, shares[k].rest).bytes, shares[k].weight, whole, shares[k].due,
+               sheet->total);
     }
     if (sum != sheet->total) printf("case %" PRIu64 ", pf_levy: the dues do not add up to the total\n", which);
     free(shares);
@@ -135,76 +187,105 @@ static uint64_t call_with(struct sheet *sheet, int slices) {
                    LENT(UNITS), LENT(OUTLETS), LENT(COUNTS), sheet->total, LENT(DUES));
 }
 
-/* A call of pf_label, pf_index or pf_levy, told by its number of slices. Directions and weights must stay as they
-   are. */
-static int sheet_case(uint64_t which, int slices) {
-    struct sheet sheet = {.lent = {{.name = "directions", .width = 1}, {.name = "weights", .width = 2},
-                                   {.name = "areas", .width = 4}, {.name = "labels", .width = 8},
-                                   {.name = "work places", .width = 4}, {.name = "labels of units", .width = 8},
-                                   {.name = "outlets of units", .width = 4}, {.name = "counts of units", .width = 4},
-                                   {.name = "dues of units", .width = 8}}};
-    struct lent *lent = sheet.lent;
-    if (slices == OF_LEVY) sheet.total = number();
-    sheet.rows = number(), sheet.cols = number(), sheet.depth = number(), sheet.least = number();
-    sheet.split = number();
-    for (int i = 0; i < slices; i++) lent[i].length = number();
-    for (int i = 0; i < slices; i++) lent[i].places = slice(lent[i].width * lent[i].length);
-    uint64_t expected = number();
-    for (int i = 0; i < READ_ONLY; i++) lent[i].expected = copy(lent[i].places, lent[i].width * lent[i].length);
-    for (int i = READ_ONLY; i < slices; i++) lent[i].expected = slice(lent[i].width * lent[i].length);
-    uint64_t answer = call_with(&sheet, slices);
+/* One call with the slices as they are before it. */
+static int sheet_call(uint64_t which, struct sheet *sheet, int slices, uint64_t expected) {
+    lend(sheet->lent, slices);
+    uint64_t answer = call_with(sheet, slices);
     int good = answer == expected;
-    if (good && slices == OF_LEVY && answer % 256 == 0) good = shares_good(which, &sheet, answer / 256);
-    for (int i = 0; i < slices; i++) good &= as_expected(which, &lent[i]);
+    if (good && slices == OF_LEVY && answer % 256 == 0) good = shares_good(which, sheet, answer / 256);
+    good &= as_expected(which, sheet->lent, slices);
     if (good) return 1;
     const char *call = slices == OF_LABEL ? "pf_label" : slices == OF_INDEX ? "pf_index" : "pf_levy";
     printf("case %" PRIu64 ", %s: %" PRIu64 " x %" PRIu64 ", depth %" PRIu64 ", least %" PRIu64 ", split %" PRIu64
-           ": answer %" PRIu64 ", expected %" PRIu64 "\n", which, call, sheet.rows, sheet.cols, sheet.depth,
-           sheet.least, sheet.split, answer, expected);
-    if (slices == OF_LEVY) printf("case %" PRIu64 ": the total is %" PRIu64 "\n", which, sheet.total);
+           ": answer %" PRIu64 ", expected %" PRIu64 "\n", which, call, sheet->rows, sheet->cols, sheet->depth,
+           sheet->least, sheet->split, answer, expected);
+    if (slices == OF_LEVY) printf("case %" PRIu64 ": the total is %" PRIu64 "\n", which, sheet->total);
     return 0;
 }
 
-static int lookup_case(uint64_t which) {
-    uint64_t leading = number();
-    struct lent labels = {.name = "looked-up labels", .width = 8, .length = number()};
-    labels.places = slice(8 * labels.length);
-    labels.expected = copy(labels.places, 8 * labels.length);
-    size_t start = number(), length = number();
-    uint64_t expected = number(), expected_start = number(), expected_length = number();
-    uint32_t answer = pf_lookup(leading, labels.places, labels.length, &start, &length);
-    int good = answer == expected && start == expected_start && length == expected_length;
-    if (!good)
-        printf("case %" PRIu64 ", pf_lookup: %" PRIu64 " in %" PRIu64 " labels: answer %" PRIu32 ", start %zu, length "
-               "%zu, expected %" PRIu64 ", %" PRIu64 ", %" PRIu64 "\n", which, leading, labels.length, answer, start,
-               length, expected, expected_start, expected_length);
-    return good & as_expected(which, &labels);
+/* A case of pf_label, pf_index or pf_levy, told by its number of slices. Directions and weights must stay as they
+   are. */
+static int sheet_case(uint64_t which, int slices) {
+    struct sheet sheet = {.lent = {{.name = "directions", .width = 1}, {.name = "weights", .width = 2},
+                                   {.name = "areas", .width = 4}, {.name = "labels", .width = 8, .of_labels = 1},
+                                   {.name = "work places", .width = 4},
+                                   {.name = "labels of units", .width = 8, .of_labels = 1},
+                                   {.name = "outlets of units", .width = 4}, {.name = "counts of units", .width = 4},
+                                   {.name = "dues of units", .width = 8}}};
+    if (slices == OF_LEVY) sheet.total = number();
+    sheet.rows = number(), sheet.cols = number(), sheet.depth = number(), sheet.least = number();
+    sheet.split = number();
+    for (int i = 0; i < slices; i++) sheet.lent[i].length = number();
+    take_slices(sheet.lent, slices);
+    uint64_t expected = number();
+    take_expected(sheet.lent, slices, READ_ONLY);
+    int good = sheet_call(which, &sheet, slices, expected);
+    if (change_odd(sheet.lent, slices)) good &= sheet_call(which, &sheet, slices, expected);
+    release(sheet.lent, slices);
+    return good;
 }
 
-/* A call of pf_flow, or of pf_outlet_flow. */
+/* A lookup: the leading digits, start and length before the call, and what it must give. */
+struct lookup {
+    uint64_t first, rest, start, length, answer, expected_start, expected_length;
+};
+
+static int lookup_call(uint64_t which, const struct lookup *lookup, struct lent *labels) {
+    size_t start = lookup->start, length = lookup->length;
+    lend(labels, 1);
+    uint32_t answer = pf_lookup(lookup->first, lookup->rest, labels->places, labels->length, &start, &length);
+    int good = answer == lookup->answer && start == lookup->expected_start && length == lookup->expected_length;
+    if (!good)
+        printf("case %" PRIu64 ", pf_lookup: %s in %" PRIu64 " numbers: answer %" PRIu32 ", start %zu, length %zu, "
+               "expected %" PRIu64 ", %" PRIu64 ", %" PRIu64 "\n", which, text_of(lookup->first, lookup->rest).bytes,
+               labels->length, answer, start, length, lookup->answer, lookup->expected_start, lookup->expected_length);
+    return good & as_expected(which, labels, 1);
+}
+
+static int lookup_case(uint64_t which) {
+    struct lookup lookup = {.first = number()};
+    struct lent labels = {.name = "looked-up labels", .width = 8, .of_labels = 1};
+    lookup.rest = number(), labels.length = number();
+    take_slices(&labels, 1), take_expected(&labels, 1, 1);
+    lookup.start = number(), lookup.length = number(), lookup.answer = number();
+    lookup.expected_start = number(), lookup.expected_length = number();
+    int good = lookup_call(which, &lookup, &labels);
+    if (change_odd(&labels, 1)) good &= lookup_call(which, &lookup, &labels);
+    release(&labels, 1);
+    return good;
+}
+
+/* A call of pf_flow, or of pf_outlet_flow, about the records p and q. */
+static uint32_t ask(int to_outlet, uint64_t depth, uint64_t least, const uint64_t p[2], const uint64_t q[2]) {
+    return to_outlet ? pf_outlet_flow(depth, p[0], p[1], q[0], q[1]) : pf_flow(depth, least, p[0], p[1], q[0], q[1]);
+}
+
 static int flow_case(uint64_t which, int to_outlet) {
-    uint64_t depth = number(), least = to_outlet ? 0 : number(), p = number(), q = number(), expected = number();
-    uint32_t answer = to_outlet ? pf_outlet_flow(depth, p, q) : pf_flow(depth, least, p, q);
+    uint64_t depth = number(), least = to_outlet ? 0 : number(), p[2], q[2];
+    take(p, sizeof p), take(q, sizeof q);
+    uint64_t expected = number();
+    uint32_t answer = ask(to_outlet, depth, least, p, q);
     if (answer == expected) return 1;
     printf("case %" PRIu64 ", %s: depth %" PRIu64 ", ", which, to_outlet ? "pf_outlet_flow" : "pf_flow", depth);
     if (!to_outlet) printf("least %" PRIu64 ", ", least);
-    printf("from %" PRIu64 " past %" PRIu64 ": answer %" PRIu32 ", expected %" PRIu64 "\n", q, p, answer, expected);
+    printf("from %s past %s: answer %" PRIu32 ", expected %" PRIu64 "\n", text_of(q[0], q[1]).bytes,
+           text_of(p[0], p[1]).bytes, answer, expected);
     return 0;
 }
 
 /* Every two labels of a sheet, by pf_outlet_flow and by pf_flow. The first few differences are told. */
 static int labels_case(uint64_t which) {
     uint64_t depth = number(), least = number(), count = number(), differences = 0;
-    uint64_t *labels = slice(8 * count);
+    uint64_t *labels = slice(2 * 8 * count);
     uint8_t *to_outlet = slice(count * count), *to_cells = slice(count * count);
     for (uint64_t i = 0; i < count * count; i++) {
-        uint64_t p = labels[i / count], q = labels[i % count];
-        uint32_t answer = pf_outlet_flow(depth, p, q), flow = pf_flow(depth, least, p, q);
+        const uint64_t *p = labels + 2 * (i / count), *q = labels + 2 * (i % count);
+        uint32_t answer = ask(1, depth, least, p, q), flow = ask(0, depth, least, p, q);
         if (answer == to_outlet[i] && flow == to_cells[i]) continue;
         if (differences++ < TOLD)
-            printf("case %" PRIu64 ", labels of a sheet: depth %" PRIu64 ", least %" PRIu64 ", from %" PRIu64 " past %"
-                   PRIu64 ": pf_outlet_flow %" PRIu32 ", expected %d; pf_flow %" PRIu32 ", expected %d\n", which, depth,
-                   least, q, p, answer, to_outlet[i], flow, to_cells[i]);
+            printf("case %" PRIu64 ", labels of a sheet: depth %" PRIu64 ", least %" PRIu64 ", from %s past %s: "
+                   "pf_outlet_flow %" PRIu32 ", expected %d; pf_flow %" PRIu32 ", expected %d\n", which, depth, least,
+                   text_of(q[0], q[1]).bytes, text_of(p[0], p[1]).bytes, answer, to_outlet[i], flow, to_cells[i]);
     }
     if (differences > TOLD)
         printf("case %" PRIu64 ": %" PRIu64 " of %" PRIu64 " pairs differ\n", which, differences, count * count);
@@ -230,46 +311,52 @@ static int words_case(uint64_t which) {
     return differences == 0;
 }
 
+/* The lent slices of pf_flow_pairs. */
+enum { P, Q, ANSWERS, OF_PAIRS };
+
 /* Tells the first few answers that differ, with the labels at their place. */
-static void tell_answers(uint64_t which, uint64_t depth, uint64_t least, const struct lent *p, const struct lent *q,
-                         const struct lent *answers) {
-    const uint64_t *ps = p->expected, *qs = q->expected;
-    const uint8_t *given = answers->places, *expected = answers->expected;
+static void tell_answers(uint64_t which, uint64_t depth, uint64_t least, const struct lent *lent) {
+    const uint64_t *p = lent[P].before, *q = lent[Q].before;
+    const uint8_t *given = lent[ANSWERS].places, *expected = lent[ANSWERS].expected;
     uint64_t differences = 0;
-    for (uint64_t i = 0; i < answers->length; i++) {
+    for (uint64_t i = 0; i < lent[ANSWERS].length; i++) {
         if (given[i] == expected[i] || differences++ >= TOLD) continue;
         printf("case %" PRIu64 ", pf_flow_pairs: depth %" PRIu64 ", least %" PRIu64 ", place %" PRIu64 ", ", which,
                depth, least, i);
-        if (i < p->length && i < q->length)
-            printf("from %" PRIu64 " past %" PRIu64 ": ", qs[i], ps[i]);
+        if (i < lent[P].length / 2 && i < lent[Q].length / 2)
+            printf("from %s past %s: ", text_of(q[2 * i], q[2 * i + 1]).bytes, text_of(p[2 * i], p[2 * i + 1]).bytes);
         else
             printf("past the last pair: ");
         printf("%d, expected %d\n", given[i], expected[i]);
     }
     if (differences > TOLD)
-        printf("case %" PRIu64 ": %" PRIu64 " of %" PRIu64 " places differ\n", which, differences, answers->length);
+        printf("case %" PRIu64 ": %" PRIu64 " of %" PRIu64 " places differ\n", which, differences,
+               lent[ANSWERS].length);
 }
 
-/* A call of pf_flow_pairs. The labels must stay as they are. */
-static int pairs_case(uint64_t which) {
-    enum { P, Q, ANSWERS, SLICES };
-    struct lent lent[] = {{.name = "labels of P", .width = 8}, {.name = "labels of Q", .width = 8},
-                          {.name = "answers", .width = 1}};
-    uint64_t depth = number(), least = number(), expected, answer;
-    for (int i = 0; i < SLICES; i++) lent[i].length = number();
-    for (int i = 0; i < SLICES; i++) lent[i].places = slice(lent[i].width * lent[i].length);
-    expected = number();
-    for (int i = P; i < ANSWERS; i++) lent[i].expected = copy(lent[i].places, lent[i].width * lent[i].length);
-    lent[ANSWERS].expected = slice(lent[ANSWERS].length);
-    answer = pf_flow_pairs(depth, least, lent[P].places, lent[P].length, lent[Q].places, lent[Q].length,
-                           lent[ANSWERS].places, lent[ANSWERS].length);
-    int good = answer == expected;
-    if (!good)
+static int pairs_call(uint64_t which, uint64_t depth, uint64_t least, struct lent *lent, uint64_t expected) {
+    lend(lent, OF_PAIRS);
+    uint64_t answer = pf_flow_pairs(depth, least, LENT(P), LENT(Q), LENT(ANSWERS));
+    if (answer != expected)
         printf("case %" PRIu64 ", pf_flow_pairs: depth %" PRIu64 ", least %" PRIu64 ", %" PRIu64 " and %" PRIu64
-               " labels, %" PRIu64 " places: answer %" PRIu64 ", expected %" PRIu64 "\n", which, depth, least,
+               " numbers, %" PRIu64 " places: answer %" PRIu64 ", expected %" PRIu64 "\n", which, depth, least,
                lent[P].length, lent[Q].length, lent[ANSWERS].length, answer, expected);
-    tell_answers(which, depth, least, &lent[P], &lent[Q], &lent[ANSWERS]);
-    for (int i = 0; i < SLICES; i++) good &= as_expected(which, &lent[i]);
+    tell_answers(which, depth, least, lent);
+    return as_expected(which, lent, OF_PAIRS) & (answer == expected);
+}
+
+/* A case of pf_flow_pairs. The labels must stay as they are. */
+static int pairs_case(uint64_t which) {
+    struct lent lent[] = {{.name = "labels of P", .width = 8, .of_labels = 1},
+                          {.name = "labels of Q", .width = 8, .of_labels = 1}, {.name = "answers", .width = 1}};
+    uint64_t depth = number(), least = number();
+    for (int i = 0; i < OF_PAIRS; i++) lent[i].length = number();
+    take_slices(lent, OF_PAIRS);
+    uint64_t expected = number();
+    take_expected(lent, OF_PAIRS, ANSWERS);
+    int good = pairs_call(which, depth, least, lent, expected);
+    if (change_odd(lent, OF_PAIRS)) good &= pairs_call(which, depth, least, lent, expected);
+    release(lent, OF_PAIRS);
     return good;
 }
 

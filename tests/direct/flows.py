@@ -1,7 +1,10 @@
 """Makes the single questions about flow of tests/direct/cases.py: a depth, numbers for least and two labels, good and
-bad; tells of which kinds they are."""
+bad; tells of which kinds they are. Labels are records."""
+import depths
+import no_labels
 import reference
 import splits
+from reference import digits_of, record_of
 
 MOST = splits.MOST
 GOOD_LEASTS = [1, 2, 3, MOST - 1, MOST]
@@ -20,6 +23,15 @@ KINDS = ([*reference.ANSWERS] + [REFUSED % number for number in (2, 19, 11, 12)]
          + ['accepted with least %d' % least for least in GOOD_LEASTS]
          + ['19 for least %d' % least for least in BAD_LEASTS])
 OUTLET_KINDS = ['No', 'Yes', 'Same'] + [REFUSED % number for number in (2, 11, 12)]
+
+# What is counted of the two labels, for each of the two questions.
+FAULT = '11 for %s: %s'
+PAST = ' after 18 digits'
+LABEL_KINDS = (depths.KINDS + [FAULT % (name, kind) for name in 'pq' for kind in no_labels.KINDS]
+               + ['%s with labels that part' % answer + PAST for answer in ('No', 'Yes')]
+               + ['12' + PAST, '12 between 18 and 19 digits', 'Same with more than 18 digits',
+                  'No by an even digit' + PAST, 'other first numbers, equal second ones',
+                  'equal records that are no labels'])
 
 
 def name_of(answer):
@@ -46,31 +58,88 @@ def kinds(depth, least, p, q, answer):
 def kinds_by_least(depth, least, p, answer):
     """Of a question with a good least."""
     if answer == 'Undecided':
-        whole = len(reference.digits_of(p)) < depth
+        whole = len(digits_of(p)) < depth
         yield UNDECIDED[0 if least == 1 else 1 if whole else 2]
     elif least > 1:
         yield '%s with least above 1' % (answer[1] if isinstance(answer, tuple) else answer)
 
 
+def label_kinds(depth, p, q, answer):
+    """What is counted of the labels of an outlet question; the flow question is asked about the same."""
+    yield from depths.kinds(depth)
+    if answer == ('Refused', 11):
+        bad = [not reference.is_label(label, depth) for label in (p, q)]
+        if sum(bad) == 1:
+            name, record = ('p', p) if bad[0] else ('q', q)
+            yield from (FAULT % (name, kind) for kind in no_labels.kinds(record, depth))
+        if p == q:
+            yield 'equal records that are no labels'
+        return
+    texts = digits_of(p), digits_of(q)
+    alike = p[0] == q[0] and min(map(len, texts)) >= reference.MAX_DIGITS  # in the first 18 digits
+    if answer in ('No', 'Yes') and alike:
+        yield '%s with labels that part' % answer + PAST
+    if answer == ('Refused', 12) and alike:
+        yield '12 between 18 and 19 digits' if sorted(map(len, texts)) == [18, 19] else '12' + PAST
+    if answer == 'Same' and p[1] != 0:
+        yield 'Same with more than 18 digits'
+    if answer == 'No' and p[0] != q[0] and reference.outlet_flow(depth, (p[0], 0), (q[0], 0)) == 'Yes':
+        yield 'No by an even digit' + PAST
+    if answer in ('No', 'Yes') and p[0] != q[0] and p[1] == q[1] != 0:
+        yield 'other first numbers, equal second ones'
+
+
 # Depth, p and q of questions that are always asked.
 ALWAYS = [(3, 91, 92), (3, 92, 91), (3, 21, 3), (3, 131, 14), (3, 9, 91), (3, 105, 9), (3, 0, 0), (3, 0, 5), (0, 1, 2),
           (19, 1, 2), (18, 10 ** 18 - 1, 1), (18, 111111111111111111, 2), (18, 1111111111111111111, 2),
-          (2 ** 64 - 1, 1, 1), (18, 2 ** 64 - 1, 2 ** 64 - 1), (1, 1, 3), (2, 1, 3), (2, 91, 92), (2, 93, 91),
-          (2, 21, 22), (4, 2485, 2486), (3, 12, 3), (3, 121, 3), (3, 311, 199), (4, 1313, 1428),
-          (18, 111111111111111112, 2), (18, 888888888888888887, 888888888888888889)]
+          (2 ** 64 - 1, 1, 1), (1, 1, 3), (2, 1, 3), (2, 91, 92), (2, 93, 91), (2, 21, 22), (4, 2485, 2486), (3, 12, 3),
+          (3, 121, 3), (3, 311, 199), (4, 1313, 1428), (18, 111111111111111112, 2),
+          (18, 888888888888888887, 888888888888888889)]
 # Numbers that are equal, or of which one begins the other, or that are no labels, at good and bad depths.
-ALWAYS += [(depth, p, q) for depth in (0, 2, 19) for p, q in [(0, 0), (91, 91), (9, 91), (91, 0), (105, 105), (1, 105),
+ALWAYS += [(depth, p, q) for depth in (0, 2, 37) for p, q in [(0, 0), (91, 91), (9, 91), (91, 0), (105, 105), (1, 105),
                                                               (0, 10), (1111, 1111), (111, 1111)]]
+ALWAYS = [(depth, *(record_of(str(label) if label else '') for label in (p, q))) for depth, p, q in ALWAYS]
+
+# Labels on both sides of the border between the two numbers of a record, and at its end.
+BORDER = ['1' * count for count in (0, 1, 16, 17, 18, 19, 20, 34, 35, 36)]
+BORDER += ['1' * count + digits for count in (16, 17, 18, 19) for digits in ('2', '3', '31', '32', '9' * 16)]
+BORDER += ['1' * 35 + digit for digit in '239'] + ['2' * 18, '2' * 18 + '1', '2' * 18 + '2', '3' + '1' * 17 + '5',
+                                                  '1' * 18 + '5', '9' * 36, '9' * 18, '9' * 19]
+
+
+def near(rng, text):
+    """Digits that begin as these do, and some that differ past the first 18."""
+    cut = rng.choice([17, 18, 18, 19, 35, rng.randint(0, reference.MAX_DEPTH)])
+    return (text[:cut] + no_labels.some_digits(rng, rng.choice([0, 1, 1, 18])))[:reference.MAX_DEPTH]
+
+
+def made(rng, depth):
+    """Two labels, mostly good, by chance."""
+    digits = rng.choice(['123456789', '13579', '1234567890', '12'])
+    most = rng.choice([2, 4, depths.good(depth), reference.MAX_DEPTH])
+    p, q = (''.join(rng.choices(digits, k=rng.choice([most, rng.randint(1, most)]))) for _ in range(2))
+    if rng.random() < 0.5:
+        q = near(rng, p) if rng.random() < 0.6 else p[:rng.randint(1, most)] + q
+    records = [record_of(text[:reference.MAX_DEPTH]) for text in (p, q)]
+    if rng.random() < 0.1:
+        at = rng.randrange(2)
+        records[at] = no_labels.made(rng, depths.good(depth), '')
+    return records
 
 
 def questions(rng, count):
-    """As (depth, leasts, p, q): a fixed number, told every least, and so many random ones, told 1 and another."""
+    """As (depth, leasts, p, q): some that are always asked, told every least, then with labels of each length and with
+    records that are no labels at each depth; and so many random ones, told 1 and another."""
     for depth, p, q in ALWAYS:
         yield depth, LEASTS, p, q
+    for depth in depths.EDGES + depths.BAD:
+        for record in no_labels.EDGES + [record_of(text) for text in BORDER]:
+            other = record_of(rng.choice(BORDER)[:depths.good(depth)])
+            for p, q in [(record, other), (other, record), (record, record)]:
+                yield depth, [rng.choice(GOOD_LEASTS)], p, q
+    for p in BORDER:
+        for q in BORDER:
+            yield rng.choice([19, 35, 36, 36]), [1], record_of(p), record_of(q)
     for _ in range(count):
-        digits = rng.choice(['123456789', '13579', '1234567890', '12'])
-        p, q = (int(''.join(rng.choices(digits, k=rng.randint(1, rng.choice([2, 4, 19]))))) for _ in range(2))
-        if rng.random() < 0.3:
-            q = int(str(p)[:rng.randint(1, 19)] + str(q)) % 2 ** 64
-        depth = rng.choice([1, 2, 3, 4, 18, rng.randint(0, 20)])
-        yield depth, [1, rng.choice(LEASTS + [rng.randint(2, MOST), rng.getrandbits(64)])], p, q
+        depth = rng.choice([1, 2, 3, 4, 18, 36, 36, rng.choice(depths.EDGES), rng.randint(0, 40)])
+        yield depth, [1, rng.choice(LEASTS + [rng.randint(2, MOST), rng.getrandbits(64)])], *made(rng, depth)

@@ -1,7 +1,9 @@
 """Makes the sheets of tests/direct/cases.py that are labelled with least and split, good and bad; tells of which kinds
 these are."""
+import depths
 import fuzz
 import lent_weights
+import long_labels
 import other_splits
 import reference
 import splits
@@ -15,7 +17,7 @@ BAD_LEASTS = [0, MOST + 1, 99999999, 2 ** 31, 2 ** 32 - 1, 2 ** 32, 2 ** 32 + 1,
 BAD_SPLITS = [0, 5, 6, 255, 256, 256 + 4, 65536 + 4, 2 ** 32, 2 ** 32 + 1, 2 ** 32 + 4, 2 ** 63 + 4, LARGEST]
 SPLITS = range(1, reference.MAX_SPLIT + 1)
 REFUSALS = [3, 17, 4, 5, 6, 7]  # of labelling, after 19
-SMALL = 400  # cells of a sheet that is labelled in other ways too
+SMALL = 400  # cells of a sheet with short labels that is labelled in other ways too
 SAMPLE_A = [0, 4, 16, 8, 16, 16, 16, 16, 64, 64, 32, 64]
 
 # What is counted of a sheet: refused,
@@ -29,7 +31,8 @@ LEAST_KINDS = ['least 1', 'least 2', 'least 65536000', 'the area of a mouth as l
                'one more than the area of a mouth', 'least over 65536', 'least of 8 digits with a counted mouth']
 CHANGE_KINDS = ['neither changes a label', 'other labels than with least 1', 'other labels than with split 4',
                 'other labels than with each', 'no mouth counted', 'some mouths counted',
-                'weighted, some mouths counted', '18 digits with split 1']
+                'weighted, some mouths counted']
+CHANGE_KINDS += ['%d digits with split %d' % (digits, split) for digits in (18, 36) for split in (1, 2, 3)]
 UNLIKE = 'unlike %s'
 KINDS = (REFUSED_KINDS + ['accepted with split %d' % split for split in SPLITS] + LEAST_KINDS + CHANGE_KINDS
          + [UNLIKE % name for name in other_splits.NAMES])
@@ -71,10 +74,12 @@ def kinds_of_accepted(sheet, dirs, lent, labelled):
             'one more than the area of a mouth': least - 1 in found, 'least over 65536': least > 65536,
             'least of 8 digits with a counted mouth': least >= 10 ** 7 and max(found, default=0) >= least,
             'no mouth counted': found != [] and max(found) < least, 'some mouths counted': some,
-            'weighted, some mouths counted': some and len(set(lent[:rows])) > 1,
-            '18 digits with split 1': split == 1 and max(labelled[3]) >= 10 ** 17}
+            'weighted, some mouths counted': some and len(set(lent[:rows])) > 1}
     yield from (kind for kind, holds in told.items() if holds)
-    if rows * cols <= SMALL:
+    longest = long_labels.longest(labelled[3])
+    if longest in (18, 36) and split < 4:
+        yield '%d digits with split %d' % (longest, split)
+    if rows * cols <= SMALL and longest <= reference.MAX_DIGITS:
         yield from kinds_of_small(sheet, dirs, lent, labelled[3])
 
 
@@ -90,7 +95,7 @@ def kinds_of_small(sheet, dirs, lent, labels):
 # least, split).
 
 def exact(rows, cols):
-    return [rows * cols, rows * cols, reference.WORK * rows * cols]
+    return reference.lengths_for(rows * cols)
 
 
 def refusable():
@@ -99,13 +104,13 @@ def refusable():
     yield (3, 4, 2), SAMPLE_A, [1, 1, 1], exact(3, 4)
     yield (257, 1, 2), [4] * 257, [1] * 257, exact(257, 1)
     yield (0, 0, 0), [], [], [0, 0, 0]
-    yield (3, 4, 19), SAMPLE_A, [1, 1, 1], exact(3, 4)
+    yield (3, 4, 37), SAMPLE_A, [1, 1, 1], exact(3, 4)
     yield (3, 4, 0), SAMPLE_A, [1, 1, 1], exact(3, 4)
     for missing in range(5):
-        lengths = [12, 3, 12, 12, 96]
+        lengths = [12, 3, 12, 24, 96]
         lengths[missing] -= 1
         yield (3, 4, 2), SAMPLE_A[:lengths[0]], [1, 1, 1][:lengths[1]], lengths[2:]
-    yield (3, 4, 18), [], [], [0, 0, 0]
+    yield (3, 4, 36), [], [], [0, 0, 0]
     yield (3, 4, 2), SAMPLE_A, [1, 1, 1001], exact(3, 4)
     for dirs in ([5, 0], [0, 0], [1, 16], [16, 1]):
         yield (1, 2, 1), dirs, [1], exact(1, 2)
@@ -121,14 +126,15 @@ def boundaries(rng):
             yield (*sizes, least, split), dirs, lent, lengths
 
 
-def long_labels(rng):
-    """Rivers along row 0 with a tributary of one cell for each of their cells, or of some. With few taken at a time
-    labels get many digits."""
-    for cols in (12, 25, 60):
-        for split in SPLITS:
-            for least in (1, 2):
-                dirs = fuzz.comb(rng, 2, cols)
-                yield (2, cols, 18, least, split), dirs, rng.choice([[1, 1], [1, 2], [2, 1]]), exact(2, cols)
+def many_mouths(rng):
+    """Rivers along row 0 with a tributary of one cell for each of their cells. With few taken at a time labels get many
+    digits."""
+    for split in SPLITS:
+        for depth in (18, 36):
+            for cols in (12, 25, split * depth + 3):
+                for least in (1, 2):
+                    dirs = fuzz.comb(rng, 2, cols)
+                    yield (2, cols, depth, least, split), dirs, rng.choice([[1, 1], [1, 2], [2, 1]]), exact(2, cols)
 
 
 def two_halves(rng, rows, cols):
@@ -143,7 +149,7 @@ def large(rng):
         lent = kind(rng, 256, 256, dirs)
         found = sorted(set(splits.mouth_areas(256, 256, dirs, lent)))
         least = found[int(share * (len(found) - 1))]  # the area of the heaviest mouth, or of one in the middle
-        yield (256, 256, 18, least, splits.good_split(rng)), dirs, lent, exact(256, 256)
+        yield (256, 256, rng.choice([18, 36]), least, splits.good_split(rng)), dirs, lent, exact(256, 256)
 
 
 def random_sides(rng):
@@ -164,12 +170,12 @@ def by_chance(rng, count):
         lengths = exact(rows, cols)
         if rng.random() < 0.1:
             lengths = [max(0, wanted + rng.choice([-1, 0, 0, 1, 7])) for wanted in lengths]
-        yield (rows, cols, rng.choice([1, 2, 3, 4, 18, rng.randint(1, 18)]), least, split), dirs, lent, lengths
+        yield (rows, cols, depths.by_chance(rng), least, split), dirs, lent, lengths
 
 
 def sheets(rng, count):
     """A fixed number of sheets, and so many random ones."""
     yield from boundaries(rng)
-    yield from long_labels(rng)
+    yield from many_mouths(rng)
     yield from large(rng)
     yield from by_chance(rng, count)

@@ -49,8 +49,7 @@ def kinds_of_refused(sheet, dirs, lent, bad):
             yield '17 in a row without an inside cell'
     if len(bad) == 1 and rows > 2:
         yield '17 in the %s row' % ('first' if bad == [0] else 'last' if bad == [rows - 1] else 'middle')
-    n = rows * cols
-    number = reference.label(*sheet, dirs, [1] * rows, n, n, reference.WORK * n)[0]
+    number = reference.label(*sheet, dirs, [1] * rows, *reference.lengths_for(rows * cols))[0]
     if number != 0:
         yield '17 before %d' % number
 

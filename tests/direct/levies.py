@@ -4,9 +4,11 @@ import math
 from itertools import accumulate
 from typing import NamedTuple
 
+import depths
 import fuzz
 import lent_splits
 import lent_weights
+import long_labels
 import other_dues
 import reference
 import splits
@@ -41,14 +43,17 @@ REFUSED_KINDS = ([FIRST % number for number in REFUSALS] + ['18 before short sli
 ALONE = ['short %s', '%s short by one', 'no place for %s', 'longer %s', 'longer slices but %s']
 ROOM_KINDS = ([kind % name for name in SLICES for kind in ALONE]
               + ['two short slices', 'three short slices', 'four short slices', 'no place for units', 'exact slices',
-                 'longer slices', 'many places more', 'a place for each cell'])
+                 'longer slices', 'many places more', 'a place for each cell', 'an odd number past the units',
+                 'an odd number past longer labels', 'one number too few for the labels'])
 
 # its sheet, if it is accepted,
 SHEET_KINDS = ['one cell', 'one unit of several cells', 'three units', 'more than 256 units', 'more than 10000 units',
                'outside cells', 'all weights 1', 'equal weights over 1', 'unequal weights',
                'a unit of unequal weights', 'a weight of a unit over 65535', 'more lent for labelling',
                '256 x 256', 'whole weight 65536000 with the total 10^11', 'least above 1', 'split below 4',
-               'other units than with least 1 and split 4']
+               'other units than with least 1 and split 4', 'units alike in the first 18 digits']
+LONGEST = 'longest label of %d digits'
+SHEET_KINDS += [LONGEST % length for length in long_labels.LENGTHS]
 
 # and its dues.
 UNLIKE = 'unlike %s'
@@ -56,7 +61,7 @@ DUE_KINDS = ['a due of 0', 'a due of 0 for the first unit', 'one unit owes all',
              'a due over 2^32', 'unequal dues of equal weights', 'a sum of whole cents',
              'a sum hardly above a whole cent', 'a sum hardly below a whole cent']
 DUE_KINDS += [UNLIKE % name for name in other_dues.NAMES]
-KINDS = TOTAL_KINDS + REFUSED_KINDS + ROOM_KINDS + SHEET_KINDS + DUE_KINDS
+KINDS = TOTAL_KINDS + REFUSED_KINDS + ROOM_KINDS + SHEET_KINDS + DUE_KINDS + depths.KINDS
 
 
 class Sheet(NamedTuple):
@@ -75,6 +80,11 @@ class Call(NamedTuple):
     sheet: Sheet
     rooms: list  # places for labels, outlets, counts and dues of units
     total: int
+    odd: int = 0  # numbers past the places for labels, 0 or 1
+
+    def lengths(self):
+        """Of the four slices."""
+        return [reference.RECORD * self.rooms[0] + self.odd, *self.rooms[1:]]
 
 
 # What is counted.
@@ -108,7 +118,8 @@ def short_kinds(call):
         place, = short
         missing = count - call.rooms[place]
         return {'short %s' % SLICES[place]: True, '%s short by one' % SLICES[place]: missing == 1,
-                'no place for %s' % SLICES[place]: missing == count}
+                'no place for %s' % SLICES[place]: missing == count,
+                'one number too few for the labels': call.odd == missing == 1 and place == 0}
     number = {2: 'two', 3: 'three', 4: 'four'}[len(short)]
     return {'%s short slices' % number: True, 'no place for units': max(call.rooms) == 0}
 
@@ -120,7 +131,9 @@ def room_kinds(call):
     longer = [room > count for room in call.rooms]
     found = {'exact slices': not any(longer), 'longer slices': all(longer),
              'many places more': min(call.rooms) > count + 9,
-             'a place for each cell': call.rooms == [rows * cols] * 4 and rows * cols > count}
+             'a place for each cell': call.rooms == [rows * cols] * 4 and rows * cols > count,
+             'an odd number past the units': call.odd and not longer[0],
+             'an odd number past longer labels': call.odd and longer[0]}
     if longer.count(True) == 1:
         found['longer %s' % SLICES[longer.index(True)]] = True
     if longer.count(False) == 1:
@@ -146,7 +159,14 @@ def sheet_kinds(call):
             '256 x 256': rows == cols == reference.MAX_SIDE,
             'whole weight 65536000 with the total 10^11': (whole, call.total) == (65536000, MOST),
             'least above 1': least > 1, 'split below 4': split < 4,
-            'other units than with least 1 and split 4': sheet.other_units}
+            'other units than with least 1 and split 4': sheet.other_units,
+            'units alike in the first 18 digits': alike_units(sheet.units),
+            LONGEST % long_labels.longest(label for label, outlet, cells in sheet.units): True}
+
+
+def alike_units(units):
+    """Have two neighbours equal first numbers?"""
+    return any(a[0][0] == b[0][0] for a, b in zip(units, units[1:]))
 
 
 def due_kinds(call, dues):
@@ -169,13 +189,15 @@ def due_kinds(call, dues):
 def kinds(call, number, dues):
     """The kinds that a call belongs to, once it has given its refusal number, or 0, and the dues."""
     found = dict.fromkeys(outcome_kinds(call, number), True)
+    if number not in (18, 1):
+        found.update(dict.fromkeys(depths.kinds(call.sheet.sizes[2]), True))
     if number == 0:
         found.update(**room_kinds(call), **sheet_kinds(call))
         if call.total > 0 and len(dues) > 1:
             found.update(due_kinds(call, dues))
     elif number == 3 and call.sheet.labelled[0] == 0:
         found.update(short_kinds(call))
-    return [kind for kind, holds in found.items() if holds]
+    return [kind for kind, holds in found.items() if holds and kind in KINDS]
 
 
 # Totals.
@@ -245,7 +267,7 @@ def edge_rooms(count):
 def sheet_of(rows, cols, depth, dirs, lent, lengths=None, named=splits.NEITHER):
     """Without lengths the slices of labelling are exact; `named` are least and split."""
     n, dirs = rows * cols, bytes(dirs)
-    lengths = lengths or [n, n, reference.WORK * n]
+    lengths = lengths or reference.lengths_for(n)
     labelled = reference.label(rows, cols, depth, *named, dirs, lent, *lengths)
     units, summed, other_units = [], [], False
     if labelled[0] == 0:
@@ -269,7 +291,7 @@ def small_sheets(rng):
     yield sheet_of(1, 5, 18, [16] * 5, [7])
     yield sheet_of(5, 1, 18, [64] * 5, [1, 10, 100, 1000, 1])
     yield sheet_of(2, 2, 1, [16, 16, 64, 64], [1, 1])
-    yield sheet_of(3, 4, 2, SAMPLE_A + [3, 1], [8, 9, 10, 0, 65535], [13, 20, 100])
+    yield sheet_of(3, 4, 2, SAMPLE_A + [3, 1], [8, 9, 10, 0, 65535], [13, 33, 100])
     for lent in ([1, 1, 1], [2, 5, 3], [1, 9, 2], [201, 5, 300], [1000, 1000, 1000]):
         yield sheet_of(3, 4, 1, NORTH_AND_SOUTH, lent)
         yield sheet_of(3, 4, 2, SAMPLE_A, lent)
@@ -279,10 +301,10 @@ def small_sheets(rng):
 
 def bad_sizes():
     for rows, cols, depth in [(0, 1, 1), (1, 0, 1), (257, 1, 1), (1, 257, 1), (2 ** 64 - 1, 1, 1), (1, 2 ** 64 - 1, 1),
-                              (2 ** 32, 2 ** 32, 1), (257, 1, 19), (0, 0, 0), (1, 1, 0), (1, 1, 19),
-                              (1, 1, 2 ** 64 - 1), (256, 1, 2 ** 32 + 1)]:
+                              (2 ** 32, 2 ** 32, 1), (257, 1, 37), (0, 0, 0), (256, 1, 2 ** 32 + 1),
+                              *[(1, 1, depth) for depth in depths.BAD]]:
         n = rows * cols if rows <= 256 and cols <= 256 else 300
-        yield sheet_of(rows, cols, depth, [16] * n, [1] * min(rows, 300), [n, n, reference.WORK * n])
+        yield sheet_of(rows, cols, depth, [16] * n, [1] * min(rows, 300), reference.lengths_for(n))
 
 
 def bad_splits(rng):
@@ -302,7 +324,7 @@ def refused_sheets(rng):
     yield from bad_sizes()
     yield from bad_splits(rng)
     for missing in range(5):
-        lengths = [12, 3, 12, 12, 96]
+        lengths = [12, 3, 12, 24, 96]
         for fewer in (1, lengths[missing]):
             lengths[missing] -= fewer
             for weight in (1, 1001):
@@ -311,26 +333,29 @@ def refused_sheets(rng):
     for weight in (1, 1000, 0, 1001, 65535):
         for dirs in ([1, 16], [16, 1], [0, 0], [5, 0], [0, 255]):
             yield sheet_of(1, 2, 1, dirs, [weight])
-            yield sheet_of(1, 2, 18, dirs + [rng.randrange(256)], [weight, 0], [3, 4, 20])
+            yield sheet_of(1, 2, 36, dirs + [rng.randrange(256)], [weight, 0], [3, 5, 20])
     for row in range(3):
         yield sheet_of(3, 4, 2, SAMPLE_A, [1001 if at == row else 1 for at in range(3)])
 
 
 def random_sheet(rng):
     """Often accepted; of any shape, with any weights, mostly with least 1 and split 4, and sometimes with more or too
-    few places for labelling."""
+    few places for labelling; some with long labels."""
+    if rng.random() < 0.08:
+        rows, cols, depth, least, split, dirs, lent = long_labels.by_chance(rng)
+        return sheet_of(rows, cols, depth, dirs, lent, None, (least, split))
     side = rng.choice([3, 6, 12, 24, 40])
     rows, cols = rng.choice(4 * [(rng.randint(1, side), rng.randint(1, side))] + [(rng.randint(1, 256), 3)])
     n, dirs = rows * cols, rng.choice(fuzz.SHAPES)(rng, rows, cols)
     if rng.random() < 0.05:
         dirs[rng.randrange(n)] = rng.randrange(256)
-    lengths = [n, n, reference.WORK * n]
+    lengths = reference.lengths_for(n)
     if rng.random() < 0.4:
         dirs += [rng.randrange(256) for _ in range(rng.randint(0, MANY))]
         lengths = [wanted + rng.choice([0, 1, rng.randint(0, MANY)]) for wanted in lengths]
         if rng.random() < 0.2:
             lengths[rng.randrange(3)] = rng.randrange(n)
-    depth = rng.choice([1, 2, 3, 18, rng.randint(1, 18)])
+    depth = depths.by_chance(rng)
     lent, named = lent_weights.chosen(rng, rows, cols, dirs), splits.NEITHER
     if rng.random() < 0.4:
         named = splits.chosen(rng, splits.mouth_areas(rows, cols, dirs, lent))
@@ -339,8 +364,8 @@ def random_sheet(rng):
 
 def large_sheets(rng):
     for shape, depth, kind in [(fuzz.northwest, 18, weights.all_largest), (fuzz.comb, 2, weights.all_largest),
-                               (fuzz.snake, 1, weights.all_largest), (fuzz.grown, 18, weights.any_weights),
-                               (fuzz.northwest, 3, weights.in_degrees), (fuzz.comb, 18, weights.all_one)]:
+                               (fuzz.snake, 1, weights.all_largest), (fuzz.grown, 36, weights.any_weights),
+                               (fuzz.northwest, 3, weights.in_degrees), (fuzz.comb, 36, weights.all_one)]:
         dirs = shape(rng, 256, 256)
         yield sheet_of(256, 256, depth, dirs, kind(rng, 256, 256, dirs))
 
@@ -366,10 +391,11 @@ def of_close(rng):
 
 def of_rooms(rng):
     """Every number of places that matters, for sample A."""
-    for depth in (1, 2, 18):
+    for depth in (1, 2, 36):
         sheet = sheet_of(3, 4, depth, SAMPLE_A, rng.choice([[1, 1, 1], [3, 1000, 20], [999, 999, 999]]))
         for rooms in edge_rooms(len(sheet.units)):
-            yield Call(sheet, rooms, good_total(rng))
+            for odd in (0, 1):
+                yield Call(sheet, rooms, good_total(rng), odd)
             yield Call(sheet, rooms, too_large_total(rng))
 
 
@@ -395,17 +421,30 @@ def by_chance(rng, count):
         rows, cols = sheet.sizes[:2]
         units = len(sheet.units)
         for total in six_totals(rng):
-            yield Call(sheet, enough(rng, units) if units else any_rooms(rng, rows * cols), total)
+            yield Call(sheet, enough(rng, units) if units else any_rooms(rng, rows * cols), total, rng.randint(0, 1))
         if units:
             yield Call(sheet, [rows * cols] * 4, good_total(rng))
             yield Call(sheet, enough(rng, units), close_total(rng, sheet.summed))
-            yield Call(sheet, too_few(rng, units), rng.choice(4 * [good_total(rng)] + [too_large_total(rng)]))
+            yield Call(sheet, too_few(rng, units), rng.choice(4 * [good_total(rng)] + [too_large_total(rng)]),
+                       rng.randint(0, 1))
             count -= 1
+
+
+def of_long(rng):
+    """Sheets with labels of each length that is counted, and sample A at each depth that is."""
+    for sheet in long_labels.of_digits(rng):
+        if sheet.split < 3:
+            made = sheet_of(*sheet[:3], sheet.dirs, sheet.weights, None, (sheet.least, sheet.split))
+            yield Call(made, enough(rng, len(made.units)), good_total(rng), rng.randint(0, 1))
+    for depth in depths.EDGES:
+        made = sheet_of(3, 4, depth, SAMPLE_A, [1, 2, 3])
+        yield Call(made, enough(rng, len(made.units)), good_total(rng))
 
 
 def questions(rng, count):
     """A fixed number of calls, and random ones for so many sheets that labelling accepts."""
     yield from of_small(rng)
+    yield from of_long(rng)
     yield from of_close(rng)
     yield from of_rooms(rng)
     yield from of_refused(rng)

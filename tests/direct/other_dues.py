@@ -10,7 +10,8 @@ NAMES = ['shares rounded down', 'shares rounded up', 'shares rounded to the near
          'shares rounded down, a cent more from the first unit on',
          'shares rounded down, a cent more for the largest parts of a cent',
          'sums rounded up', 'sums rounded to the nearest', 'sums of double precision',
-         'sums in reading order of outlets', 'sums in order of labels as numbers', 'counts of cells as weights',
+         'sums in reading order of outlets', 'sums in order of labels as numbers',
+         'sums in order of the first 18 digits alone', 'counts of cells as weights',
          'areas of outlets as weights', 'all cells of a unit weighed as its outlet', 'the count of cells as the whole',
          'outside cells in the whole', 'the due of the unit before']
 
@@ -85,12 +86,14 @@ def of_sums(total, summed, sheet):
     (rows, cols), lent, areas = sheet.sizes[:2], sheet.lent, sheet.labelled[2]
     labels, outlets, counts = zip(*sheet.units)
     whole = sum(summed)
+    first_digits = [(reference.digits_of((first, 0)), outlet) for (first, rest), outlet in zip(labels, outlets)]
     as_outlets = [count * lent[outlet // cols] for outlet, count in zip(outlets, counts)]
     return {'sums rounded up': by_sums(total, summed, whole, up),
             'sums rounded to the nearest': by_sums(total, summed, whole, nearest),
             'sums of double precision': by_sums(total, summed, whole, by_double),
             'sums in reading order of outlets': in_order(total, summed, outlets),
             'sums in order of labels as numbers': in_order(total, summed, labels),
+            'sums in order of the first 18 digits alone': in_order(total, summed, first_digits),
             'counts of cells as weights': reference.dues_of(total, counts),
             'areas of outlets as weights': reference.dues_of(total, [areas[outlet] for outlet in outlets]),
             'all cells of a unit weighed as its outlet': reference.dues_of(total, as_outlets),

@@ -113,20 +113,22 @@ def finish(basin, labels, unit, digits):
 def small_with_the_next_digit(basin, labels, unit, digits):
     finish(basin, labels, unit, digits)
     for cell in reference.upstream(basin.donors, [cell for cell, is_mouth in unit if is_mouth]):
-        labels[cell] = digits + 1
+        labels[cell] = digits[:-1] + str(int(digits[-1:] or '0') + 1)
 
 
 def mouth_alone(basin, labels, unit, digits):
-    """What flows to a mouth that is not taken keeps the label 0."""
+    """What flows to a mouth that is not taken keeps the label of no digits."""
     for cell, is_mouth in unit:
         labels[cell] = digits
 
 
 def labels_by(basin, depth, least, split, rule, parts=None, finished=finish, taken_of_all=False):
-    labels = [0] * len(basin.donors)
-    units = [(reference.river_list(basin.donors, basin.outlet), 0, 0)]
+    """The digits of each cell."""
+    labels = [''] * len(basin.donors)
+    units = [(reference.river_list(basin.donors, basin.outlet), '')]
     while units:
-        unit, digits, count = units.pop()
+        unit, digits = units.pop()
+        count = len(digits)
         mouths = [cell for cell, is_mouth in unit if is_mouth]
         counted = [mouth for mouth in mouths if rule.counted(basin, mouth, least, count)]
         if count == depth or rule.finished(mouths, counted, split):
@@ -135,7 +137,7 @@ def labels_by(basin, depth, least, split, rule, parts=None, finished=finish, tak
         taken = rule.taken(basin, mouths if taken_of_all else counted, split, count)
         runs, mouths = reference.runs_between(unit, set(taken))
         made = parts(basin, least, runs, mouths) if parts else parts_of(basin, runs, mouths)
-        units += [(part, 10 * digits + digit, count + 1) for digit, part in made]
+        units += [(part, digits + str(digit)) for digit, part in made]
     return labels
 
 
@@ -161,6 +163,6 @@ def labellings(basin, depth, least, split):
 def names_unlike(sheet, dirs, lent, labels):
     """The names of those that give an accepted sheet other labels than these."""
     rows, cols, depth, least, split = sheet
-    basin = basin_of(rows, cols, dirs, lent)
+    basin, labels = basin_of(rows, cols, dirs, lent), list(map(reference.digits_of, labels))
     assert labels_by(basin, depth, least, split, RIGHT) == labels, 'other labels by the right rule'
     return [name for name, other in labellings(basin, depth, least, split).items() if other != labels]

@@ -1,15 +1,16 @@
-"""Makes small sheets for tests/direct/cases.py, and answers for every two labels of each both questions: whether water
-from the one passes the outlet of the other's unit, and whether it passes the other's cells. The answers come from the
-water itself: of the digits of a label they look at no more than how many there are. Also checks that the cells that
-share leading digits drain to one of them."""
+"""Makes small sheets for tests/direct/cases.py, some of them with long labels, and answers for every two labels of each
+both questions: whether water from the one passes the outlet of the other's unit, and whether it passes the other's
+cells. The answers come from the water itself: of the digits of a label they look at no more than how many there are.
+Also checks that the cells that share leading digits drain to one of them."""
 from typing import NamedTuple
 
 import fuzz
+import long_labels
 import reference
 import splits
 import weights
 
-DEPTHS = [1, 2, 3, 18]
+DEPTHS = [1, 2, 3, 18, 36]
 NO, YES, SAME, UNDECIDED = 0, 1, 2, 3
 
 # What is counted of a sheet at a depth.
@@ -17,14 +18,19 @@ AT_DEPTH, OUTLET_ALONE = 'depth %d', 'outlet alone passed at depth %d'
 WHOLE_YES, WHOLE_ALL = 'pairs Yes with a whole label', 'pairs Undecided with a whole label, all cells passed'
 WHOLE_SOME = 'pairs Undecided with a whole label, some cells not passed'
 EQUAL, SHARED = 'equal areas of unequal counts', 'leading digits of several labels'
+SHARED_LONG = 'more than 18 leading digits of several labels'
+LONG_YES = 'pairs Yes with a whole label of more than 18 digits'
+LONGEST = 'longest label of %d digits'
+PART_LATE = ['pairs %s that part after 18 digits' % answer for answer in ('No', 'Yes')]
 KINDS = ([AT_DEPTH % depth for depth in DEPTHS] + [OUTLET_ALONE % depth for depth in DEPTHS]
          + ['weighted', EQUAL, 'one unit', 'units of several cells', 'least above 1',
             'split below 4', 'other labels than with least 1', 'other labels than with split 4', 'pairs No',
-            'pairs Yes', 'pairs Same', 'pairs Yes for Undecided', WHOLE_YES, WHOLE_ALL, WHOLE_SOME, SHARED])
+            'pairs Yes', 'pairs Same', 'pairs Yes for Undecided', WHOLE_YES, WHOLE_ALL, WHOLE_SOME, SHARED,
+            SHARED_LONG, LONG_YES, *PART_LATE] + [LONGEST % length for length in long_labels.LENGTHS])
 
 
 class Unit(NamedTuple):
-    label: int
+    label: tuple
     outlet: int
     cells: set
 
@@ -90,11 +96,14 @@ def units_of(rows, cols, dirs, labels):
 
 
 class Pair(NamedTuple):
-    """The answers for a unit p and a unit q; has p's label fewer digits than the depth, and does all water of q pass
-    every cell of p? An answer is None where the water does what none of the answers says."""
+    """The answers for a unit p and a unit q; has p's label fewer digits than the depth, has it more than 18, are both
+    labels alike in the first 18, and does all water of q pass every cell of p? An answer is None where the water does
+    what none of the answers says."""
     outlet: int
     flow: int
     whole: bool
+    long: bool
+    alike: bool
     all_passed: bool
 
 
@@ -123,17 +132,17 @@ def pairs_with(passing, depth, least, p, units):
     for q in units:
         all_passed = q.cells <= all_pass
         flow = flow_answer(p, q, some_pass, all_passed, whole and least == 1)
-        yield Pair(outlet_answer(passing, p, q), flow, whole, all_passed)
+        yield Pair(outlet_answer(passing, p, q), flow, whole, p.label[1] != 0, p.label[0] == q.label[0], all_passed)
 
 
 def groups_of(dirs, labels):
-    """The inside cells that share leading digits, for each of those that occur."""
+    """For each leading digits that occur, the inside cells that share them."""
     groups = {}
     for cell, code in enumerate(dirs):
         digits = reference.digits_of(labels[cell])
         for count in range(len(digits) + 1 if code != reference.OUTSIDE else 0):
             groups.setdefault(digits[:count], set()).add(cell)
-    return list(groups.values())
+    return groups
 
 
 def drain_to_one(rows, cols, dirs, cells):
@@ -151,25 +160,44 @@ def chosen_splits(rng, found):
 def asked_of(sheet, dirs, lent, passing, equal):
     """The questions about one sheet at a depth; `equal` says that it has equal areas of unequal counts."""
     rows, cols, depth, least, split = sheet
-    n = rows * cols
-    labelled = reference.label(*sheet, dirs, lent, n, n, reference.WORK * n)
+    labelled = reference.label(*sheet, dirs, lent, *reference.lengths_for(rows * cols))
     units, groups = units_of(rows, cols, dirs, labelled[3]), groups_of(dirs, labelled[3])
     pairs = [pair for p in units for pair in pairs_with(passing, depth, least, p, units)]
     outlet_answers, flow_answers = [pair.outlet for pair in pairs], [pair.flow for pair in pairs]
-    drained = all(drain_to_one(rows, cols, dirs, cells) for cells in groups)
+    drained = all(drain_to_one(rows, cols, dirs, cells) for cells in groups.values())
     if not drained or None in outlet_answers or None in flow_answers:
         raise AssertionError('the water does otherwise: %s' % [sheet, list(dirs), lent, labelled[3]])
+    shared = [len(digits) for digits, cells in groups.items() if len({labelled[3][cell] for cell in cells}) > 1]
     counts = {**sheet_counts(sheet, dirs, lent, labelled, units), EQUAL: equal, **pair_counts(depth, pairs),
-              SHARED: sum(len({labelled[3][cell] for cell in cells}) > 1 for cells in groups)}
+              SHARED: len(shared), SHARED_LONG: sum(count > reference.MAX_DIGITS for count in shared)}
     labels = [unit.label for unit in units]
     return Questions(sheet, dirs, lent, labelled, labels, outlet_answers, flow_answers, counts)
 
 
+def long_sheets(rng, count):
+    """Sheets with labels of each length that is counted, few tributaries taken at a time, and so many random ones."""
+    for sheet in long_labels.of_digits(rng):
+        if sheet.split == 1 or sheet.split == 2 and sheet.depth == 19:
+            yield sheet
+    for _ in range(count):
+        sheet = long_labels.by_chance(rng)
+        if sheet.rows * sheet.cols < 200:
+            yield sheet
+
+
 def questions(rng, count):
-    """Questions about so many sheets, at each of the depths, with least 1 and split 4 and with others."""
+    """Questions about so many sheets, at each of the depths, with least 1 and split 4 and with others; then about
+    sheets with long labels, an eighth as many and some more."""
+    yield from small_questions(rng, count)
+    for rows, cols, depth, least, split, dirs, lent in long_sheets(rng, count // 8):
+        dirs = bytes(dirs)
+        yield asked_of((rows, cols, depth, least, split), dirs, lent, passing_cells(rows, cols, dirs), False)
+
+
+def small_questions(rng, count):
     for rows, cols, dirs, lent in sheets(rng, count):
         n, passing = rows * cols, passing_cells(rows, cols, dirs)
-        areas = reference.label(rows, cols, 1, *splits.NEITHER, dirs, lent, n, n, reference.WORK * n)[2]
+        areas = reference.label(rows, cols, 1, *splits.NEITHER, dirs, lent, *reference.lengths_for(n))[2]
         equal, found = weights.effects(rows, cols, dirs, areas)[0], splits.mouth_areas_by(rows, cols, dirs, areas)
         for depth in DEPTHS:
             for least, split in chosen_splits(rng, found):
@@ -181,7 +209,9 @@ def questions(rng, count):
 def sheet_counts(sheet, dirs, lent, labelled, units):
     rows, cols, depth, least, split = sheet
     by_least, by_split = splits.changes(sheet, dirs, lent, labelled[3])
-    return {AT_DEPTH % depth: 1, 'weighted': len(set(lent)) > 1, 'one unit': len(units) == 1,
+    longest = LONGEST % long_labels.longest(unit.label for unit in units)
+    return {**({longest: 1} if longest in KINDS else {}), **({AT_DEPTH % depth: 1} if depth in DEPTHS else {}),
+            'weighted': len(set(lent)) > 1, 'one unit': len(units) == 1,
             'units of several cells': sum(len(unit.cells) > 1 for unit in units),
             'least above 1': least > 1, 'split below 4': split < 4, 'other labels than with least 1': by_least,
             'other labels than with split 4': by_split}
@@ -193,8 +223,11 @@ def pair_counts(depth, pairs):
     counts = {'pairs No': outlet_answers.count(NO), 'pairs Yes': outlet_answers.count(YES),
               'pairs Same': outlet_answers.count(SAME), 'pairs Yes for Undecided': len(undecided),
               WHOLE_YES: sum(pair.flow == YES for pair in pairs),
+              LONG_YES: sum(pair.flow == YES and pair.long for pair in pairs),
+              PART_LATE[0]: sum(pair.outlet == NO and pair.alike for pair in pairs),
+              PART_LATE[1]: sum(pair.outlet == YES and pair.alike for pair in pairs),
               WHOLE_ALL: sum(pair.whole and pair.all_passed for pair in undecided),
               WHOLE_SOME: sum(pair.whole and not pair.all_passed for pair in undecided)}
-    if not all(pair.all_passed for pair in undecided):
+    if depth in DEPTHS and not all(pair.all_passed for pair in undecided):
         counts[OUTLET_ALONE % depth] = 1
     return counts

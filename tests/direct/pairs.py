@@ -1,42 +1,51 @@
 """Makes the calls of tests/direct/cases.py that ask the flow question about many pairs: a depth, least, the labels of P
-and of Q and a number of places for the answers, good and bad; tells of which kinds they are."""
+and of Q, as records, a number of places for the answers, and odd numbers at the ends of the slices, good and bad; tells
+of which kinds they are."""
 from collections import Counter
 from typing import NamedTuple
 
+import depths
 import flows
-import lookups
+import no_labels
 import reference
+from reference import digits_of, numbers_of, record_of
 
-DEPTHS = [1, 2, 3, 4, 18]
-BAD_DEPTHS = [0, 19, 20, 256 + 3, 2 ** 32 + 3, 2 ** 64 - 1]
+DEPTHS = sorted([*depths.EDGES, 2, 3, 4])
+BAD_DEPTHS = depths.BAD
 LENGTHS = [0, 1, 2, 3, 7, 8, 9, 100, 1000]  # numbers of pairs
 GAUGES = 100000  # compared with one spill
 MANY = 60  # places more than are needed
 SHEETS = 100  # whose labels are compared
 ODD, DIGITS = '13579', '123456789'
-MOST_DIGITS = 20  # of a 64-bit number
 
-# Labels of each length that matters and numbers that are none; they are compared with each other.
-EDGES = [0, 1, 2, 3, 9, 10, 11, 12, 13, 19, 20, 21, 22, 91, 92, 93, 99, 100, 101, 111, 112, 131, 14, 105, 901, 999,
-         1111, 1313, 1428, 9999, 11111, int('1' * 17), int('1' * 18), int('1' * 17 + '2'), int('1' * 17 + '3'),
-         int('9' * 18), *lookups.NO_LABELS]
+# Labels of each length that matters and records that are none; they are compared with each other.
+SHORT = [(number, 0) for number in (0, 1, 2, 3, 9, 10, 11, 12, 13, 19, 20, 21, 22, 91, 92, 93, 99, 100, 101, 111, 112,
+                                    131, 14, 105, 901, 999, 1111, 1313, 1428, 9999, 11111)]
+EDGES = SHORT[:8] + [record_of(text) for text in flows.BORDER] + no_labels.EDGES
 
 # What is counted of a pair, and of a call.
 REFUSED_PAIRS = ['pairs refused by 11 for ' + name for name in ('p', 'q', 'both')]
 BEGUN = ['pairs refused by 12 where p begins q', 'pairs refused by 12 where q begins p']
-PAIR_KINDS = ['pairs ' + answer for answer in reference.ANSWERS] + REFUSED_PAIRS + BEGUN
+LONG_KINDS = ['pairs %s that part after 18 digits' % answer for answer in ('No', 'Yes', 'Undecided')]
+LONG_KINDS += ['pairs Same of more than 18 digits', 'pairs refused by 12 after 18 digits']
+FAULT = 'pairs refused by 11 for %s: %s'
+FAULT_KINDS = [FAULT % (name, kind) for name in 'pq' for kind in no_labels.KINDS]
+PAIR_KINDS = ['pairs ' + answer for answer in reference.ANSWERS] + REFUSED_PAIRS + BEGUN + LONG_KINDS + FAULT_KINDS
 AT_DEPTH, AT_LEAST = 'depth %d', 'least %d'
 ROOM_KINDS = ['as many places as pairs', 'one place more', 'many places more', 'as many places as the longer slice',
               'fewer places than the longer slice', 'one place too few', 'several places too few', 'no place']
 LENGTH_KINDS = ['nothing lent', 'P alone empty', 'Q alone empty', 'as many of P as of Q', 'one more of P',
-                'many more of P', 'one more of Q', 'many more of Q', 'numbers past the last pair that are no labels']
+                'many more of P', 'one more of Q', 'many more of Q', 'records past the last pair that are no labels']
+ODD_KINDS = ['an odd number at the end of %s' % name for name in ('P', 'Q', 'both')]
+ODD_KINDS += ['an odd number alone in %s' % name for name in ('P', 'Q', 'both')]
+ODD_KINDS += ['an odd number beside a record', 'an odd number and one place too few', 'refused by 2 with an odd number']
 PLACE_KINDS = ['first pair refused', 'pair between refused', 'last pair refused', 'only the first pair refused',
                'only the last pair refused', 'all pairs refused', 'no pair refused']
 REFUSED_KINDS = ['refused by 2', 'refused by 19', 'refused by 3', '2 before 19', '2 before 3', '19 before 3',
                  'refused by 2 with nothing lent', 'refused by 19 with nothing lent', '3 with least above 1']
 LEAST_KINDS = ['another answer with least 1', 'refused pairs with least above 1', 'Same or No with least above 1']
 KINDS = (['accepted'] + REFUSED_KINDS + LEAST_KINDS + [AT_DEPTH % depth for depth in DEPTHS + BAD_DEPTHS]
-         + [AT_LEAST % least for least in flows.LEASTS] + ROOM_KINDS + LENGTH_KINDS + PLACE_KINDS
+         + [AT_LEAST % least for least in flows.LEASTS] + ROOM_KINDS + LENGTH_KINDS + ODD_KINDS + PLACE_KINDS
          + ['one label as Q', 'more than 65535 pairs with one label as Q', 'one label as P',
             'another answer with P and Q exchanged'] + PAIR_KINDS)
 
@@ -47,6 +56,11 @@ class Call(NamedTuple):
     p: list
     q: list
     room: int  # places for answers
+    p_odd: list = []  # an odd number at the end of P's slice, or none
+    q_odd: list = []
+
+    def slices(self):
+        return numbers_of(self.p) + self.p_odd, numbers_of(self.q) + self.q_odd
 
 
 # What is counted.
@@ -58,16 +72,35 @@ def is_refused(answer):
 def pair_kind(depth, p, q, answer):
     """The kind of a refused pair."""
     if answer == 128 + 12:
-        return BEGUN[reference.digits_of(p).startswith(reference.digits_of(q))]
-    bad = [reference.flow(depth, 1, label, label) == ('Refused', 11) for label in (p, q)]
+        return BEGUN[digits_of(p).startswith(digits_of(q))]
+    bad = [not reference.is_label(label, depth) for label in (p, q)]
     return REFUSED_PAIRS[2 if all(bad) else bad.index(True)]
+
+
+def long_kinds(depth, p, q, answer):
+    """What the second numbers of a pair, or the parts of 11, make of it."""
+    if answer == 128 + 11:
+        bad = [not reference.is_label(label, depth) for label in (p, q)]
+        if not all(bad):
+            at = bad.index(True)
+            yield from (FAULT % ('pq'[at], kind) for kind in no_labels.kinds((p, q)[at], depth))
+    elif p[0] == q[0]:
+        if answer == 2 and p[1] != 0:
+            yield 'pairs Same of more than 18 digits'
+        elif answer == 128 + 12 and p[1] != q[1]:
+            yield 'pairs refused by 12 after 18 digits'
+        elif answer in (0, 1, 3):
+            yield LONG_KINDS[(0, 1, 3).index(answer)]
 
 
 def pair_counts(call, answers):
     counted = Counter(answers)
     found = Counter({'pairs ' + name: counted[number] for name, number in reference.ANSWERS.items()})
-    found.update(pair_kind(call.depth, p, q, answer) for p, q, answer in zip(call.p, call.q, answers)
-                 if is_refused(answer))
+    for p, q, answer in zip(call.p, call.q, answers):
+        if is_refused(answer):
+            found[pair_kind(call.depth, p, q, answer)] += 1
+        if is_refused(answer) or p[0] == q[0]:
+            found.update(long_kinds(call.depth, p, q, answer))
     return found
 
 
@@ -93,7 +126,7 @@ def label_kinds(call, answers):
 
 def least_kinds(call, answers):
     """Of an accepted call with least above 1."""
-    without = reference.flow_pairs(call.depth, 1, *call[2:])[1]
+    without = reference.flow_pairs(call.depth, 1, *call.slices(), call.room)[1]
     return {'another answer with least 1': without != answers,
             'refused pairs with least above 1': any(map(is_refused, answers)),
             'Same or No with least above 1': any(answer in (0, 2) for answer in answers)}
@@ -106,7 +139,20 @@ def length_kinds(call):
     return {'nothing lent': p == q == call.room == 0, 'P alone empty': p == 0 < q, 'Q alone empty': q == 0 < p,
             'as many of P as of Q': p == q > 0, 'one more of P': p == q + 1, 'many more of P': p > q + 1,
             'one more of Q': q == p + 1, 'many more of Q': q > p + 1,
-            'numbers past the last pair that are no labels': any(number in lookups.NO_LABELS for number in unused)}
+            'records past the last pair that are no labels': any(record in no_labels.EDGES for record in unused)}
+
+
+def odd_kinds(call, number):
+    """Of a call with an odd number at the end of a slice."""
+    name = 'both' if call.p_odd and call.q_odd else 'P' if call.p_odd else 'Q'
+    odd = [records for records, tail in ((call.p, call.p_odd), (call.q, call.q_odd)) if tail]
+    others = [records for records, tail in ((call.p, call.p_odd), (call.q, call.q_odd)) if not tail]
+    count = min(len(call.p), len(call.q))
+    return {'an odd number at the end of ' + name: number == 0 and count > 0,
+            'an odd number alone in ' + name: number == 0 and not any(odd),
+            'an odd number beside a record': number == 0 and any(len(records) > count for records in others),
+            'an odd number and one place too few': number == 3 and call.room == count - 1,
+            'refused by 2 with an odd number': number == 2}
 
 
 def room_kinds(call, number):
@@ -135,6 +181,8 @@ def counts(call, number, answers):
     else:
         found.update(room_kinds(call, number))
         found['3 with least above 1'] = number == 3 and call.least > 1
+    if call.p_odd or call.q_odd:
+        found.update(odd_kinds(call, number))
     if number == 0:
         found.update(length_kinds(call))
     if number == 0 and call.least > 1:
@@ -145,11 +193,6 @@ def counts(call, number, answers):
 
 
 # Labels, as text.
-
-def good_depth(depth):
-    """The good depth that is nearest, so that at a bad one too the labels are good."""
-    return min(max(depth, 1), reference.MAX_DEPTH)
-
 
 def digits(rng, count):
     return ''.join(rng.choices(rng.choice([ODD, ODD, DIGITS]), k=count))
@@ -169,21 +212,10 @@ def near(rng, depth, text):
         return text[:rng.randint(0, len(text))]
     if kind < 0.2:
         return text + digits(rng, rng.randint(0, depth - len(text)))
-    shared = text[:rng.randrange(max(1, len(text)))]
+    cut = reference.MAX_DIGITS if rng.random() < 0.25 else rng.randrange(max(1, len(text)))
+    shared = text[:min(cut, depth - 1)]
     rest = depth - len(shared)
     return shared + digits(rng, rng.choice([rest, rng.randint(1, rest), rng.randint(1, max(1, rest - 1))]))
-
-
-def no_label(rng, depth, text):
-    """A number that is no label at the depth: a label with a 0 in it, one with more digits, or any other."""
-    kind = rng.randrange(5)
-    if kind < 2:
-        cut = rng.randint(1, max(1, len(text)))
-        return int((text[:cut] or '7') + '0' + text[cut:])
-    if kind < 4:
-        text = (text + digits(rng, MOST_DIGITS))[:rng.randint(depth + 1, MOST_DIGITS)]
-        return int(text) if int(text) < 2 ** 64 else int(text[:-1])
-    return rng.choice(lookups.NO_LABELS)
 
 
 # Pairs, as (p, q).
@@ -194,10 +226,10 @@ def pair(rng, depth, bad):
     texts = [text, near(rng, depth, text)]
     if rng.random() < 0.5:
         texts.reverse()
-    made = [lookups.number_of(text) for text in texts]
+    made = [record_of(text) for text in texts]
     if rng.random() < bad:
         for place in rng.choice([[0], [1], [0, 1]]):
-            made[place] = no_label(rng, depth, texts[place])
+            made[place] = no_labels.made(rng, depth, texts[place])
     return tuple(made)
 
 
@@ -231,15 +263,22 @@ def some_pairs(rng, depth, count):
     one = rng.randrange(10)
     if one < 2 and count > 0:
         text = any_label(rng, depth)
-        labels = [no_label(rng, depth, text) if rng.random() < bad else lookups.number_of(near(rng, depth, text))
+        labels = [no_labels.made(rng, depth, text) if rng.random() < bad else record_of(near(rng, depth, text))
                   for _ in range(count)]
-        p, q = [(labels, [lookups.number_of(text)] * count), ([lookups.number_of(text)] * count, labels)][one]
+        p, q = [(labels, [record_of(text)] * count), ([record_of(text)] * count, labels)][one]
     return p, q
 
 
 def past(rng, count):
-    """Numbers past the last pair, which are not looked at."""
-    return [rng.choice([0, 1, 91, 10, rng.getrandbits(64), *lookups.NO_LABELS]) for _ in range(count)]
+    """Records past the last pair, which are not looked at."""
+    return [rng.choice([(0, 0), (1, 0), (91, 0), (rng.getrandbits(64), rng.getrandbits(64)), *no_labels.EDGES])
+            for _ in range(count)]
+
+
+def odd(rng):
+    """For P and for Q an odd number at the end, or none."""
+    return [[rng.choice([0, 1, 92, rng.getrandbits(64)])] if wanted else []
+            for wanted in rng.choice([(0, 0), (0, 0), (0, 0), (1, 0), (0, 1), (1, 1)])]
 
 
 # Calls.
@@ -256,15 +295,15 @@ def any_least(rng):
 
 
 def small(rng):
-    """Every number of up to three labels of P and of Q and up to four places, at every depth, with least 1 and another;
-    at depth 3 with every least."""
+    """Every number of up to three labels of P and of Q and up to four places, at every depth; at depth 3 with every
+    least."""
     for depth in DEPTHS + BAD_DEPTHS:
         for p_count in range(4):
             for q_count in range(4):
                 for room in range(5):
-                    p, q = parted([pair(rng, good_depth(depth), 0.2) for _ in range(4)])
-                    for least in flows.LEASTS if depth == 3 else [1, rng.choice(flows.LEASTS)]:
-                        yield Call(depth, least, p[:p_count], q[:q_count], room)
+                    p, q = parted([pair(rng, depths.good(depth), 0.2) for _ in range(4)])
+                    for least in flows.LEASTS if depth == 3 else [rng.choice([1, rng.choice(flows.LEASTS)])]:
+                        yield Call(depth, least, p[:p_count], q[:q_count], room, *odd(rng))
 
 
 def lengths(rng):
@@ -273,8 +312,8 @@ def lengths(rng):
         for p_more, q_more in [(0, 0), (1, 0), (0, 1), (rng.randint(2, MANY), 0), (0, rng.randint(2, 3 * MANY))]:
             for room in rooms(rng, count, count + p_more + q_more):
                 depth = rng.choice(DEPTHS + [rng.choice(BAD_DEPTHS)])
-                p, q = some_pairs(rng, good_depth(depth), count)
-                yield Call(depth, any_least(rng), p + past(rng, p_more), q + past(rng, q_more), room)
+                p, q = some_pairs(rng, depths.good(depth), count)
+                yield Call(depth, any_least(rng), p + past(rng, p_more), q + past(rng, q_more), room, *odd(rng))
 
 
 def refused_places(rng):
@@ -286,45 +325,50 @@ def refused_places(rng):
                 depth = rng.choice(DEPTHS[1:])
                 p, q = parted([refused_pair(rng, depth, kind) if place in places else good_pair(rng, depth)
                                for place in range(count)])
-                yield Call(depth, rng.choice(flows.GOOD_LEASTS), p, q, count + rng.choice([0, 1, MANY]))
+                yield Call(depth, rng.choice(flows.GOOD_LEASTS), p, q, count + rng.choice([0, 1, MANY]), *odd(rng))
 
 
 def edges():
-    """Every two of some numbers, at every depth with least 1, and at the good ones with another least."""
-    p, q = parted([(p, q) for p in EDGES for q in EDGES])
-    for depth in DEPTHS + BAD_DEPTHS:
-        for least in [1, 2] if depth in DEPTHS else [1]:
+    """Every two of some records: short ones at small depths; at the others labels of each length and records that are
+    none, at the largest with another least too; a few at bad depths."""
+    for depth in DEPTHS:
+        records = SHORT if depth < 5 else EDGES
+        p, q = parted([(p, q) for p in records for q in records])
+        for least in [1, 2] if depth in (3, reference.MAX_DEPTH) else [1]:
             yield Call(depth, least, p, q, len(p))
+    for depth in BAD_DEPTHS:
+        yield Call(depth, 1, EDGES, EDGES, len(EDGES))
 
 
 def gauges(rng):
     """One spill and many gauges: the labels of P are like the one of Q."""
-    depth, spill = 6, digits(rng, 5)
-    labels = [no_label(rng, depth, spill) if rng.random() < 0.05 else lookups.number_of(near(rng, depth, spill))
-              for _ in range(GAUGES)]
-    yield Call(depth, 1, labels, [int(spill)] * GAUGES, GAUGES + 1)
+    for depth, count in [(6, GAUGES), (reference.MAX_DEPTH, GAUGES // 10)]:
+        spill = digits(rng, depth - 1)
+        labels = [no_labels.made(rng, depth, spill) if rng.random() < 0.05 else record_of(near(rng, depth, spill))
+                  for _ in range(count)]
+        yield Call(depth, 1, labels, [record_of(spill)] * count, count + 1)
 
 
 def of_sheets(rng, indexes):
     """The labels of sheets: each with one of them, and each with any other."""
     for labels in rng.sample(indexes, min(len(indexes), SHEETS)):
-        longest = max(len(reference.digits_of(label)) for label in labels)
-        depth = rng.choice([good_depth(longest), good_depth(longest + 1), 18])
+        longest = max(len(digits_of(label)) for label in labels)
+        depth = rng.choice([depths.good(longest), depths.good(longest + 1), reference.MAX_DEPTH])
         count = len(labels)
         least = rng.choice(flows.GOOD_LEASTS)
         yield Call(depth, 1, labels, [rng.choice(labels)] * count, count)
-        yield Call(depth, least, labels, rng.choices(labels, k=count), count + rng.randint(0, 1))
+        yield Call(depth, least, labels, rng.choices(labels, k=count), count + rng.randint(0, 1), *odd(rng))
 
 
 def by_chance(rng, count):
     """Calls of many lengths with so many pairs in all."""
     while count > 0:
         pairs = min(count, rng.choice(LENGTHS + [rng.randint(0, MANY)]))
-        depth = rng.choice(DEPTHS + [rng.randint(1, 18)])
+        depth = rng.choice(DEPTHS + [rng.randint(1, reference.MAX_DEPTH)])
         p, q = some_pairs(rng, depth, pairs)
         p_more, q_more = rng.choice([(0, 0), (0, 0), (rng.randint(1, MANY), 0), (0, rng.randint(1, MANY))])
         room = pairs + rng.choice([0, 0, 1, p_more + q_more])
-        yield Call(depth, any_least(rng), p + past(rng, p_more), q + past(rng, q_more), room)
+        yield Call(depth, any_least(rng), p + past(rng, p_more), q + past(rng, q_more), room, *odd(rng))
         count -= pairs
 
 

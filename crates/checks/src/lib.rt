@@ -1,13 +1,15 @@
 // The tests of checks 1, 2, 19, 17 and 4 to 7: sizes, depth, least and split, weights, and the first cell in reading
-// order that a check looks for.
+// order that a check looks for; whether two labels are the same, and the label at a place of a slice.
 pub mod codes;
 
 use sheet::Found;
+use sheet::Label;
 ghost use mathlib.Core.Path.{_≡_};
-ghost use Prim.Native.Nat.{_+_, _*_, _≤_};
+ghost use Prim.Native.Nat.{_+_, _*_, _≤_, _<_};
 ghost use lib.ListN.{length};
 ghost use Rattle.sheet.specs.Sheet.{grid, first};
 ghost use Rattle.directions.specs.Sizes.{OnSheet, Sized};
+ghost use Rattle.sheet.specs.Record.{sameLabel, labelPlaces, labelAt};
 ghost use Rattle.sheet.specs.Refusal.{within, sizesFit, depthFits, leastFits, splitFits, leastAndSplitFit};
 ghost use Rattle.sheet.specs.Refusal.{sheetFault, weightFits, weightsFit};
 ghost use Rattle.checks.specs.Search.{isTarget};
@@ -91,11 +93,11 @@ pub fn sizes_fit(rows: usize, cols: usize) -> bool
     false
 }
 
-// Depth: 1 to 18 digits.
+// Depth: 1 to 36 digits.
 pub fn depth_fits(depth: usize) -> bool
     ensures { λ r. ⌜ r ≡ depthFits depth ⌝ }
 {
-    is_within(18, depth)
+    is_within(36, depth)
 }
 
 // Least: 1 to 65,536,000.
@@ -139,6 +141,27 @@ pub fn sheet_fault(rows: usize, cols: usize, depth: usize, least: usize, split: 
         return 2;
     }
     1
+}
+
+// Two labels are the same: both numbers are equal.
+pub fn same_label(p: Label, q: Label) -> bool
+    ensures { λ r. ⌜ r ≡ sameLabel p q ⌝ }
+{
+    if p.first == q.first {
+        return p.rest == q.rest;
+    }
+    false
+}
+
+// The label at a place of a slice of labels, which holds each as two neighbouring numbers.
+pub fn label_at(labels: &[u64], place: usize) -> Label
+    requires { ⌜ place < labelPlaces (length (now labels)) ⌝ }
+    ensures { λ r. ⌜ r ≡ labelAt (now (labels .entry)) place ⌝ }
+{
+    Label {
+        first: labels[2 * place],
+        rest: labels[2 * place + 1],
+    }
 }
 
 // A weight: 1 to 1000.

@@ -1,25 +1,29 @@
 -- Where every mouth is counted, labels do not depend on the test for it: with least 1 they are those of document 01.
+-- Those of a sheet of depth 18 or less are one number.
 use mathlib.Core.Path.{_≡_, refl, sym, _∙_, ap, fun-ext}
-use mathlib.Core.Bool.{true}
+use mathlib.Core.Bool.{Bool, true, cond}
 use mathlib.Core.List.{[], _∷_}
 use Prim.Native.Nat.{ℕ, zero, suc}
+use native.Mathlib.Omega.{arith}
 use Rattle.sheet.specs.declared.Next.the-variants.{To}
 use Rattle.sheet.specs.declared.Outcome.the-variants.{Accepted}
-use Rattle.sheet.specs.Sheet.{Sheet}
+use Rattle.sheet.specs.Sheet.{Sheet, inside}
 use Rattle.sheet.specs.River.{Network, network, heavier, donors, Run, stem, mouth, upstream, riverWithin, river}
 use Rattle.sheet.specs.Unit.{finished, taken, Parts, last, part, prepend, cutAt, parts}
-use Rattle.sheet.specs.Label.{passesIn, holds, placeIn, placeOf, label, number, outlet, outletOf}
+use Rattle.sheet.specs.Record.{number, labelOfNumbers, recordOf}
+use Rattle.sheet.specs.Label.{passesIn, holds, placeIn, placeOf, label, outlet, outletOf, labelDigits}
 use Rattle.sheet.specs.Refusal.{Lent, outcome, lentAfter}
+use Rattle.sheet.proofs.Records.{record-one-number}
 use Rattle.claims.specs.Demand.{AllCounted, Inside}
 use Rattle.claims.specs.Lawful.{Lawful}
 use Rattle.claims.specs.Runs.{MouthOf, mouth-here, mouth-there, Headed}
-use Rattle.claims.specs.AsBefore.{everyMouth, digitsBy, AsBefore}
+use Rattle.claims.specs.AsBefore.{everyMouth, digitsBy, AsBefore, numberLabel, OneNumber}
 use Rattle.claims.proofs.Runs.{In}
 use Rattle.claims.proofs.Rivers.{mouth-goes, river-headed, river-covers}
 use Rattle.claims.proofs.Parts.{place-headed, place-holds}
 use Rattle.claims.proofs.Basins.{lawful, drain, own-outlet}
 use Rattle.claims.proofs.Units.{digitsIn}
-use Rattle.claims.proofs.Written.{the-basin, label-from-outlet}
+use Rattle.claims.proofs.Written.{the-basin, at-most-depth, label-written, label-from-outlet}
 use Rattle.claims.proofs.Theorems.{counts}
 
 -- the network with every mouth counted
@@ -106,5 +110,20 @@ module _ (S : Sheet) (L : Lent) (accepted : outcome S L ≡ Accepted) where
   as-before = record {
     same-labels = λ one four c i.
         label-from-outlet S L accepted c i
-        ∙ ap number (digits-same one c i ∙ ap (λ (k : ℕ). digitsBy (everyMouth k S) S c) four);
+        ∙ ap recordOf (digits-same one c i ∙ ap (λ (k : ℕ). digitsBy (everyMouth k S) S c) four);
+  }
+
+  inside-number : (c : ℕ) → Inside S c → numberLabel S c ≡ number (labelDigits S c)
+  unfolding numberLabel
+  inside-number c i = go (inside (S .grid) c) i
+    where
+      go : (b : Bool) → b ≡ true → cond b (number (labelDigits S c)) 0 ≡ number (labelDigits S c)
+      go b e = rw e
+
+  pub one-number : OneNumber S (lentAfter S L .labels)
+  one-number = record {
+    same-number = λ few c i.
+        label-written S L accepted c i
+        ∙ record-one-number (labelDigits S c) (omega (arith, at-most-depth S L accepted c))
+        ∙ ap (λ (m : ℕ). labelOfNumbers m 0) (sym (inside-number c i));
   }

@@ -1,4 +1,4 @@
--- The answers to the flow question and to the outlet question, on numbers: what they come to, and how they agree.
+-- The answers to the flow question and to the outlet question, on records: what they come to, and how they agree.
 use mathlib.Core.Path.{_≡_, refl, sym, _∙_, ap}
 use mathlib.Core.Bool.{Bool, true, false, cond, true≢false}
 use mathlib.Core.List.{List}
@@ -8,11 +8,11 @@ use native.Mathlib.Omega.{arith}
 use lib.Dec.{eqb, ltb}
 use lib.ListN.{length}
 use borrow.Author.Tests.{ne-eqb, ltb-true, eqb-true}
-use Rattle.sheet.specs.declared.Flow.{Flow}
 use Rattle.sheet.specs.declared.OutletFlow.{OutletFlow}
 use Rattle.sheet.specs.declared.OutletFlow.the-variants.{Same as OutletSame, Yes as OutletYes, No as OutletNo}
 use Rattle.sheet.specs.declared.OutletFlow.the-variants.{Refused as OutletRefused}
-use Rattle.sheet.specs.Label.{digitsOf}
+use Rattle.sheet.specs.declared.Label.{Label}
+use Rattle.sheet.specs.Record.{digitsOf, sameLabel}
 use Rattle.sheet.specs.Refusal.{depthFits}
 use Rattle.sheet.specs.Flow.{partAt, ruleAt, isLabel, answerAt, answerUnequal, outletFlow}
 use Rattle.sheet.specs.Flow.{stemAlone, cellAnswer, flow, answerNumber, outletAnswerNumber}
@@ -41,8 +41,8 @@ answer-at x y k t = rw (part-found x y k t) (go (ruleAt k x y) refl)
     go false e = answered-no (λ r. true≢false (sym (rule-test x y k r) ∙ e))
 
 -- the outlet question asked of two labels of a depth that fits
-pub good-labels : (depth p q : ℕ) → depthFits depth ≡ true → isLabel depth p ≡ true → isLabel depth q ≡ true
-    → outletFlow depth p q ≡ cond (eqb p q) OutletSame (answerUnequal p q)
+pub good-labels : (depth : ℕ) (p q : Label) → depthFits depth ≡ true → isLabel depth p ≡ true → isLabel depth q ≡ true
+    → outletFlow depth p q ≡ cond (sameLabel p q) OutletSame (answerUnequal p q)
 unfolding outletFlow
 good-labels depth p q d e f = rw (d, e, f)
 

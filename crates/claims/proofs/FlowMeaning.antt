@@ -5,9 +5,7 @@ use mathlib.Core.List.{List}
 use mathlib.Core.Logic.{_≢_, _↔_}
 use Prim.Native.Nat.{ℕ}
 use native.Mathlib.Omega.{arith}
-use lib.Dec.{eqb}
 use lib.ListN.{length}
-use borrow.Author.Tests.{eqb-true, eqb-false}
 use Rattle.sheet.specs.declared.Outcome.the-variants.{Accepted}
 use Rattle.sheet.specs.declared.Flow.the-variants.{Yes, Undecided}
 use Rattle.sheet.specs.declared.OutletFlow.{OutletFlow}
@@ -15,10 +13,11 @@ use Rattle.sheet.specs.declared.OutletFlow.the-variants.{Same as OutletSame, Ye
 use Rattle.sheet.specs.declared.OutletFlow.the-variants.{Refused as OutletRefused}
 use Rattle.sheet.specs.Sheet.{Sheet, next}
 use Rattle.sheet.specs.Water.{Passes}
-use Rattle.sheet.specs.Label.{digitsOf, labelAt}
+use Rattle.sheet.specs.Record.{digitsOf, sameLabel, labelAt}
 use Rattle.sheet.specs.Refusal.{outcome, lentAfter, Lent}
 use Rattle.sheet.specs.Flow.{answerUnequal, stemAlone, cellAnswer, answerNumber, outletAnswerNumber}
 use Rattle.sheet.proofs.Within.{least-fits}
+use Rattle.sheet.proofs.Records.{same-true, same-false}
 use Rattle.sheet.proofs.Questions.{from-outlet-flow}
 use Rattle.claims.specs.Demand.{OneOutlet, Inside, digitsAt}
 use Rattle.claims.specs.Flow.{asked, FlowMeaning, outletAsked, OutletFlowMeaning}
@@ -80,14 +79,14 @@ module _ (S : Sheet) (L : Lent) (accepted : outcome S L ≡ Accepted) where
     judged =
         rw (good-labels (S .depth) (labelAt labels p) (labelAt labels q) (checks S L accepted .depth)
         (is-label S L accepted p i) (is-label S L accepted q j))
-        (go (eqb (labelAt labels p) (labelAt labels q)) refl)
+        (go (sameLabel (labelAt labels p) (labelAt labels q)) refl)
       where
-        go : (same : Bool) → eqb (labelAt labels p) (labelAt labels q) ≡ same
+        go : (same : Bool) → sameLabel (labelAt labels p) (labelAt labels q) ≡ same
             → Judged labels p q (cond same OutletSame (answerUnequal (labelAt labels p) (labelAt labels q)))
-        go true e = judged-same (eqb-true (labelAt labels p) (labelAt labels q) e)
+        go true e = judged-same (same-true (labelAt labels p) (labelAt labels q) e)
         go false e =
             let t = demand-three S L accepted .labels-part p q i j
-            (eqb-false (labelAt labels p) (labelAt labels q) e) in
+            (same-false (labelAt labels p) (labelAt labels q) e) in
             judged-parted (t .0) (t .1) (answer-at (digitsAt labels p) (digitsAt labels q) (t .0) (t .1))
 
     by-answer : (a : OutletFlow) → Judged labels p q a

@@ -11,7 +11,8 @@ use borrow.Author.Tests.{eqb-true, eqb-false, ltb-true, lt-ltb}
 use Rattle.sheet.specs.declared.Next.{Next}
 use Rattle.sheet.specs.Water.{here}
 use Rattle.sheet.specs.Unit.{finished, rank, taken, prepend, cutAt, parts, Parts, last, part}
-use Rattle.sheet.specs.Label.{placeOf, label, Place, Digits, digits-none, digits-cons}
+use Rattle.sheet.specs.Record.{Digits, digits-none, digits-cons}
+use Rattle.sheet.specs.Label.{placeOf, label, Place}
 use Rattle.sheet.specs.River.{heavier, Run, Network, Entry, stem, mouth}
 use Rattle.claims.specs.Runs.{MouthOf, mouth-here, mouth-there, Headed}
 use Rattle.claims.specs.Lawful.{Lawful}

@@ -10,7 +10,7 @@ use borrow.Author.Tests.{le-leb}
 use Rattle.sheet.specs.declared.Next.{Next}
 use Rattle.sheet.specs.declared.Outcome.the-variants.{Accepted}
 use Rattle.sheet.specs.Water.{DrainsTo}
-use Rattle.sheet.specs.Label.{number, labelAt}
+use Rattle.sheet.specs.Record.{recordOf, labelAt}
 use Rattle.sheet.specs.Area.{sumOver, weight, area}
 use Rattle.sheet.specs.River.{network}
 use Rattle.sheet.specs.Refusal.{outcome, written, lentAfter, Lent}
@@ -25,7 +25,8 @@ use Rattle.claims.proofs.Units.{drains-map}
 use Rattle.claims.proofs.Basins.{lawful, outlet-rule-holds, demand-three-holds}
 use Rattle.claims.proofs.Sums.{sum-most, sum-each}
 use Rattle.claims.proofs.GridLaws.{area-least, area-most, area-count, area-count-most, area-adds}
-use Rattle.claims.proofs.Written.{checks, the-basin, label-from-outlet, digits-from-outlet, is-label, label-fits}
+use Rattle.claims.proofs.Written.{checks, the-basin, label-from-outlet, digits-from-outlet, is-label}
+use Rattle.claims.proofs.Written.{first-number-fits, second-number-fits}
 
 -- ---- the same claims for digits that agree on the inside cells
 
@@ -99,7 +100,7 @@ module _ (S : Sheet) (L : Lent) (accepted : outcome S L ≡ Accepted) where
   demand-three =
       same-demand (next (S .grid)) (digits-from-outlet S L accepted) (S .depth) (S .least)
       (labelAt (lentAfter S L .labels))
-      (λ p q i j e. label-from-outlet S L accepted p i ∙ ap number e ∙ sym (label-from-outlet S L accepted q j))
+      (λ p q i j e. label-from-outlet S L accepted p i ∙ ap recordOf e ∙ sym (label-from-outlet S L accepted q j))
       (demand-three-holds (the-basin S L accepted) (S .least) counts (S .depth))
 
   pub outlet-rule : OutletRuleOf S (lentAfter S L .labels)
@@ -110,7 +111,11 @@ module _ (S : Sheet) (L : Lent) (accepted : outcome S L ≡ Accepted) where
 
   -- ---- bounds
   pub label-bounds : LabelBounds S (lentAfter S L .labels)
-  label-bounds = record { is-label = is-label S L accepted; fits = label-fits S L accepted }
+  label-bounds = record {
+    is-label = is-label S L accepted;
+    first-fits = first-number-fits S L accepted;
+    rest-fits = second-number-fits S L accepted;
+  }
 
   pub rivers-are-whole : RiversAreWhole S
   unfolding network

@@ -1,23 +1,23 @@
 -- The labels that labelling writes by the definition, read back from the list: their digits are those of the
 -- definition.
-use mathlib.Core.Path.{_≡_, refl, _∙_, ap}
+use mathlib.Core.Path.{_≡_, _∙_, ap}
 use mathlib.Core.Bool.{Bool, true, cond}
-use mathlib.Core.List.{List}
-use Prim.Native.Nat.{ℕ, zero, suc, _+_, _^_, _≤_, _<_}
+use Prim.Native.Nat.{ℕ, _^_, _≤_, _<_}
 use native.Mathlib.Omega.{arith}
-use lib.ListN.{length, getD, drop, List·getD-append}
+use lib.ListN.{length}
 use Rattle.sheet.specs.declared.Outcome.{Outcome}
 use Rattle.sheet.specs.declared.Outcome.the-variants.{Accepted}
-use Rattle.sheet.specs.Label.{number, digitsOf, label, outlet, outletOf, labelDigits, labelOf, listFrom, labelsOf}
-use Rattle.sheet.specs.Label.{labelAt, Digits}
+use Rattle.sheet.specs.Record.{Digits, recordOf, digitsOf, noDigits, labelAt}
+use Rattle.sheet.specs.Label.{label, outlet, outletOf, labelDigits, labelOf, labelsOf}
 use Rattle.sheet.specs.Area.{area}
 use Rattle.sheet.specs.River.{network, river}
 use Rattle.sheet.specs.Flow.{isLabel}
 use Rattle.sheet.specs.Refusal.{outcome, written, ifAccepted, lentAfter, Lent}
 use Rattle.sheet.specs.Sheet.{cells, inside, Sheet}
-use Rattle.sheet.proofs.Lists.{written-at}
-use Rattle.sheet.proofs.Digits.{digits-wider, digits-number, number-fits}
-use Rattle.sheet.proofs.Within.{depth-most, split-bounds, digits-label}
+use Rattle.sheet.proofs.Slices.{label-written as written-label}
+use Rattle.sheet.proofs.Digits.{digits-wider}
+use Rattle.sheet.proofs.Records.{digits-record, record-is-label, first-fits, rest-fits}
+use Rattle.sheet.proofs.Within.{depth-most, split-bounds}
 use Rattle.sheet.proofs.Cells.{inside-lt}
 use Rattle.claims.specs.Demand.{Inside, digitsAt}
 use Rattle.claims.specs.Basin.{Basin}
@@ -55,41 +55,40 @@ module _ (S : Sheet) (L : Lent) (accepted : outcome S L ≡ Accepted) where
   unfolding labelDigits
   at-most-depth c = label-at-most (network S) (S .depth) (river (network S) (outletOf (S .grid) c)) c
 
-  label-inside : (c : ℕ) → Inside S c → labelOf S c ≡ number (labelDigits S c)
+  -- there are never more than two numbers hold
+  at-most-36 : (c : ℕ) → length (labelDigits S c) ≤ 36
+  at-most-36 c = omega (arith, at-most-depth c, depth-most (S .depth) (checks .depth))
+
+  label-inside : (c : ℕ) → Inside S c → labelOf S c ≡ recordOf (labelDigits S c)
   unfolding labelOf
   label-inside c i = go (inside (S .grid) c) i
     where
-      go : (b : Bool) → b ≡ true → cond b (number (labelDigits S c)) 0 ≡ number (labelDigits S c)
+      go : (b : Bool) → b ≡ true → cond b (recordOf (labelDigits S c)) noDigits ≡ recordOf (labelDigits S c)
       go b e = rw e
 
   -- the label that stands for an inside cell
-  pub label-written : (c : ℕ) → Inside S c → labelAt (lentAfter S L .labels) c ≡ number (labelDigits S c)
+  pub label-written : (c : ℕ) → Inside S c → labelAt (lentAfter S L .labels) c ≡ recordOf (labelDigits S c)
   unfolding lentAfter labelsOf
   label-written c i = go (outcome S L) accepted
     where
-      go : (o : Outcome) → o ≡ Accepted → labelAt (ifAccepted o (labelsOf S) (L .labels)) c ≡ number (labelDigits S c)
+      go : (o : Outcome) → o ≡ Accepted → labelAt (ifAccepted o (labelsOf S) (L .labels)) c ≡ recordOf (labelDigits S c)
       go o e =
-          rw e (written-at (labelOf S) (cells (S .grid)) c (L .labels) (inside-lt (S .grid) c i) ∙ label-inside c i)
+          rw e (written-label (labelOf S) (cells (S .grid)) c (L .labels) (inside-lt (S .grid) c i) ∙ label-inside c i)
 
   pub digits-written : (c : ℕ) → Inside S c → digitsAt (lentAfter S L .labels) c ≡ labelDigits S c
   digits-written c i =
-      ap digitsOf (label-written c i) ∙ digits-number (labelDigits S c) (one-to-nine c i) (omega (
-        arith,
-        at-most-depth c,
-        depth-most (S .depth) (checks .depth),
-      ))
+      ap digitsOf (label-written c i) ∙ digits-record (labelDigits S c) (one-to-nine c i) (at-most-36 c)
 
   pub is-label : (c : ℕ) → Inside S c → isLabel (S .depth) (labelAt (lentAfter S L .labels) c) ≡ true
-  unfolding isLabel
-  is-label c i = rw (digits-written c i) (digits-label (S .depth) (labelDigits S c) (one-to-nine c i) (at-most-depth c))
+  is-label c i =
+      rw (label-written c i)
+      (record-is-label (labelDigits S c) (one-to-nine c i) (at-most-36 c) (S .depth) (at-most-depth c))
 
-  pub label-fits : (c : ℕ) → Inside S c → labelAt (lentAfter S L .labels) c < 2 ^ 64
-  label-fits c i =
-      rw (label-written c i) (number-fits (labelDigits S c) (one-to-nine c i) (omega (
-        arith,
-        at-most-depth c,
-        depth-most (S .depth) (checks .depth),
-      )))
+  pub first-number-fits : (c : ℕ) → Inside S c → labelAt (lentAfter S L .labels) c .first < 2 ^ 64
+  first-number-fits c i = rw (label-written c i) (first-fits (labelDigits S c) (one-to-nine c i) (at-most-36 c))
+
+  pub second-number-fits : (c : ℕ) → Inside S c → labelAt (lentAfter S L .labels) c .rest < 2 ^ 64
+  second-number-fits c i = rw (label-written c i) (rest-fits (labelDigits S c) (one-to-nine c i) (at-most-36 c))
 
   -- the digits as they were written are those from the outlet
   pub digits-from-outlet : (c : ℕ) → Inside S c
@@ -97,5 +96,5 @@ module _ (S : Sheet) (L : Lent) (accepted : outcome S L ≡ Accepted) where
   digits-from-outlet c i = digits-written c i ∙ own-digits S the-basin c i
 
   pub label-from-outlet : (c : ℕ) → Inside S c
-      → labelAt (lentAfter S L .labels) c ≡ number (digitsIn (network S) (outlet (S .grid)) (S .depth) c)
-  label-from-outlet c i = label-written c i ∙ ap number (own-digits S the-basin c i)
+      → labelAt (lentAfter S L .labels) c ≡ recordOf (digitsIn (network S) (outlet (S .grid)) (S .depth) c)
+  label-from-outlet c i = label-written c i ∙ ap recordOf (own-digits S the-basin c i)

@@ -9,7 +9,8 @@ use Rattle.sheet.specs.Water.{Passes, passes, reachesOutlet}
 use lib.ListN.{getD}
 use Rattle.sheet.specs.Area.{count, sumOver, drainsInto, weight, area}
 use Rattle.sheet.specs.River.{network, donors, riverWithin, river}
-use Rattle.sheet.specs.Label.{outletOf, labelAt}
+use Rattle.sheet.specs.Record.{labelAt}
+use Rattle.sheet.specs.Label.{outletOf}
 use Rattle.sheet.specs.Refusal.{undrained}
 use Rattle.sheet.specs.Flow.{isLabel}
 use Rattle.claims.specs.Demand.{Inside}
@@ -61,7 +62,9 @@ pub record UnweightedAreas (S : Sheet) : Type 0 where
   pub counts : (c : ℕ) → Inside S c → area S c ≡ count (cells (S .grid)) (drainsInto (S .grid) c)
   pub most : (c : ℕ) → Inside S c → area S c ≤ count (cells (S .grid)) (inside (S .grid))
 
--- the labels that were written for a sheet: no digit is 0, there are no more than the depth, and 64 bits hold them
+-- the labels that were written for a sheet: no digit is 0, there are no more than the depth, and 64 bits hold each
+-- number
 pub record LabelBounds (S : Sheet) (labels : List ℕ) : Type 0 where
   pub is-label : (c : ℕ) → Inside S c → isLabel (S .depth) (labelAt labels c) ≡ true
-  pub fits : (c : ℕ) → Inside S c → labelAt labels c < 2 ^ 64
+  pub first-fits : (c : ℕ) → Inside S c → labelAt labels c .first < 2 ^ 64
+  pub rest-fits : (c : ℕ) → Inside S c → labelAt labels c .rest < 2 ^ 64

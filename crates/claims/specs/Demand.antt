@@ -9,7 +9,7 @@ use lib.ListN.{length}
 use Rattle.sheet.specs.declared.Next.{Next}
 use Rattle.sheet.specs.Sheet.{Sheet, inside, next}
 use Rattle.sheet.specs.Water.{Passes, DrainsTo}
-use Rattle.sheet.specs.Label.{digitsOf, labelAt}
+use Rattle.sheet.specs.Record.{digitsOf, labelAt}
 use Rattle.claims.specs.Parting.{PartAt, RuleAt, Begins}
 
 -- an inside cell that has the leading digits w

@@ -13,7 +13,8 @@ use Rattle.sheet.specs.declared.OutletFlow.the-variants.{Same as OutletSame, Ye
 use Rattle.sheet.specs.declared.OutletFlow.the-variants.{Refused as OutletRefused}
 use Rattle.sheet.specs.Sheet.{Sheet, next}
 use Rattle.sheet.specs.Water.{Passes}
-use Rattle.sheet.specs.Label.{labelAt}
+use Rattle.sheet.specs.declared.Label.{Label}
+use Rattle.sheet.specs.Record.{labelAt}
 use Rattle.sheet.specs.Refusal.{leastFits}
 use Rattle.sheet.specs.Flow.{outletFlow, flow, answerNumber, outletAnswerNumber}
 use Rattle.claims.specs.Demand.{OneOutlet, Inside, digitsAt}
@@ -68,7 +69,8 @@ pub record AnswersAgree (f : Flow) (o : OutletFlow) : Type 0 where
       (answerNumber f)
   pub never-undecided : outletAnswerNumber o ≢ answerNumber Undecided
 
--- the two questions agree, asked of any numbers, where least fits
+-- the two questions agree, asked of any records, where least fits
 abbrev pub QuestionsAgree : Type 0
 QuestionsAgree =
-    (depth least p q : ℕ) → leastFits least ≡ true → AnswersAgree (flow depth least p q) (outletFlow depth p q)
+    (depth least : ℕ) (p q : Label) → leastFits least ≡ true
+    → AnswersAgree (flow depth least p q) (outletFlow depth p q)

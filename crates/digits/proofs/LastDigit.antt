@@ -1,4 +1,5 @@
--- Laws of the definitions from the last digit to the first: labels at a depth, and digits as they are written.
+-- Laws of a number's digits from the last to the first: judged by how many there are and by each, and as they are
+-- written.
 use mathlib.Core.Path.{_≡_, refl, ap, _∙_}
 use mathlib.Core.Bool.{Bool, true, false, cond}
 use mathlib.Core.List.{List, [], _∷_, _++_, append-assoc}
@@ -9,13 +10,13 @@ use borrow.Author.Tests.{le-leb, lt-leb}
 use lib.Dec.{leb, leb·suc-suc}
 use lib.ListN.{length, drop, take, set, length-append}
 use lib.Seq.{set-split, drop-at, length-take-le}
-use Rattle.sheet.specs.Label.{digitsOf}
+use Rattle.sheet.specs.Record.{decimalDigits}
 use Rattle.sheet.specs.Refusal.{written}
-use Rattle.sheet.specs.Flow.{every, areDigits, isLabel}
+use Rattle.sheet.specs.Flow.{every, areDigits}
 use Rattle.sheet.proofs.Digits.{digits-zero, digits-step}
 use Rattle.sheet.proofs.Within.{within-yes, within-below}
 
--- ---- labels, from the last digit
+-- ---- digits judged, from the last one
 
 every-snoc : (test : ℕ → Bool) (x : List ℕ) (a : ℕ) → every test (x ++ (a ∷ [])) ≡ cond (test a) (every test x) false
 unfolding every
@@ -27,48 +28,49 @@ every-snoc test (b ∷ x) a = rw (every-snoc test x a) (go (test a) (test b) (ev
     go false true r = refl
     go false false r = refl
 
-pub no-digits : (m : ℕ) → m ≤ 0 → digitsOf m ≡ []
+pub no-digits : (m : ℕ) → m ≤ 0 → decimalDigits m ≡ []
 no-digits m h = let z : m ≡ 0 = omega arith in rw z digits-zero
 
-pub digits-none : (m : ℕ) → m ≤ 0 → length (digitsOf m) ≡ 0
+pub digits-none : (m : ℕ) → m ≤ 0 → length (decimalDigits m) ≡ 0
 digits-none m h = ap length (no-digits m h)
 
-pub digits-some : (m : ℕ) → 0 < length (digitsOf m) → 0 < m
+pub digits-some : (m : ℕ) → 0 < length (decimalDigits m) → 0 < m
 digits-some zero h = absurd (omega (arith, digits-none 0 (omega arith)))
 digits-some (suc m) h = omega arith
 
-pub label-none : (depth m : ℕ) → m ≤ 0 → isLabel depth m ≡ true
-unfolding isLabel areDigits every
-label-none depth m h = rw (no-digits m h, le-leb 0 depth (omega arith))
+pub judged-none : (depth m : ℕ) → m ≤ 0 → areDigits depth (decimalDigits m) ≡ true
+unfolding areDigits every
+judged-none depth m h = rw (no-digits m h, le-leb 0 depth (omega arith))
 
 module _ (m : ℕ) (fits : m < 2 ^ 64) (some : 0 < m) where
-  pub last-digit : digitsOf m ≡ digitsOf (m / 10) ++ (m % 10 ∷ [])
+  pub last-digit : decimalDigits m ≡ decimalDigits (m / 10) ++ (m % 10 ∷ [])
   last-digit = digits-step m (omega arith) (λ e. omega arith)
 
-  pub digits-longer : length (digitsOf m) ≡ suc (length (digitsOf (m / 10)))
+  pub digits-longer : length (decimalDigits m) ≡ suc (length (decimalDigits (m / 10)))
   digits-longer = ap length last-digit ∙ simp (length-append, add-one)
 
-  pub label-long : (depth : ℕ) → depth < 1 → isLabel depth m ≡ false
-  unfolding isLabel areDigits
-  label-long depth h = rw (lt-leb (length (digitsOf m)) depth (omega (arith, digits-longer)))
+  pub judged-long : (depth : ℕ) → depth < 1 → areDigits depth (decimalDigits m) ≡ false
+  unfolding areDigits
+  judged-long depth h = rw (lt-leb (length (decimalDigits m)) depth (omega (arith, digits-longer)))
 
-  pub label-zero : (depth : ℕ) → m % 10 < 1 → isLabel depth m ≡ false
-  unfolding isLabel areDigits
-  label-zero depth h =
+  pub judged-zero : (depth : ℕ) → m % 10 < 1 → areDigits depth (decimalDigits m) ≡ false
+  unfolding areDigits
+  judged-zero depth h =
       rw (
         last-digit,
         every-snoc,
         within-below 9 (m % 10) h,
-      ) (go (leb (length (digitsOf (m / 10) ++ (m % 10 ∷ []))) depth))
+      ) (go (leb (length (decimalDigits (m / 10) ++ (m % 10 ∷ []))) depth))
     where
       go : (b : Bool) → cond b false false ≡ false
       go true = refl
       go false = refl
 
-  pub label-turn : (depth : ℕ) → 1 ≤ depth → 1 ≤ m % 10 → isLabel (depth - 1) (m / 10) ≡ isLabel depth m
-  unfolding isLabel areDigits
-  label-turn zero h g = absurd (omega arith)
-  label-turn (suc depth) h g =
+  pub judged-turn : (depth : ℕ) → 1 ≤ depth → 1 ≤ m % 10 → areDigits (depth - 1) (decimalDigits (m / 10))
+      ≡ areDigits depth (decimalDigits m)
+  unfolding areDigits
+  judged-turn zero h g = absurd (omega arith)
+  judged-turn (suc depth) h g =
       rw (
         sub-one (suc depth),
         digits-longer,
@@ -93,10 +95,10 @@ written-snoc x out a h =
       add-one,
     )
 
-pub write-turn : (m : ℕ) (out : List ℕ) (at : ℕ) → m < 2 ^ 64 → 0 < m → at ≡ length (digitsOf (m / 10))
-    → at < length out → written (digitsOf (m / 10)) (set out at (m % 10)) ≡ written (digitsOf m) out
+pub write-turn : (m : ℕ) (out : List ℕ) (at : ℕ) → m < 2 ^ 64 → 0 < m → at ≡ length (decimalDigits (m / 10))
+    → at < length out → written (decimalDigits (m / 10)) (set out at (m % 10)) ≡ written (decimalDigits m) out
 write-turn m out at fits some e h =
-    rw (e, last-digit m fits some) (written-snoc (digitsOf (m / 10)) out (m % 10) (omega arith))
+    rw (e, last-digit m fits some) (written-snoc (decimalDigits (m / 10)) out (m % 10) (omega arith))
 
 pub write-end : (x out : List ℕ) → length x ≤ 0 → written x out ≡ out
 write-end [] out h = refl

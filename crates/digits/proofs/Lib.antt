@@ -1,5 +1,8 @@
 pub mod Places
 pub mod LastDigit
-pub mod LastPlaces
+pub mod Written
+pub mod Numbers
+pub mod NumberPlaces
+pub mod LabelPlaces
 pub mod Inverse
 pub mod Cases

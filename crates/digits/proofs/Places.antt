@@ -1,4 +1,4 @@
--- Laws of the definitions from place to place: a test of every digit, and the number of digits.
+-- Laws of the definitions from place to place: a test of every entry, and the number of digits.
 use mathlib.Core.Path.{_≡_}
 use mathlib.Core.Bool.{Bool, true, false}
 use mathlib.Core.List.{List, [], _∷_}
@@ -7,23 +7,23 @@ use native.Mathlib.Numerals.{add-one}
 use native.Mathlib.Omega.{arith}
 use lib.ListN.{length, drop, getD, drop-of-length-le}
 use lib.Seq.{drop-cons}
-use Rattle.sheet.specs.Label.{numberFrom}
+use Rattle.sheet.specs.Record.{numberFrom}
 use Rattle.sheet.specs.Flow.{every}
 
--- ---- a test of every digit, by place
+-- ---- a test of every entry, by place
 
-module _ (test : ℕ → Bool) (x : List ℕ) (i : ℕ) where
+module _ {A : Type 0} (none : A) (test : A → Bool) (x : List A) (i : ℕ) where
   pub every-end : length x ≤ i → every test (drop i x) ≡ true
   unfolding every
   every-end h = rw drop-of-length-le
 
-  pub every-no : i < length x → test (getD x i 0) ≡ false → every test (drop i x) ≡ false
+  pub every-no : i < length x → test (getD x i none) ≡ false → every test (drop i x) ≡ false
   unfolding every
-  every-no h e = rw (drop-cons x i 0, e)
+  every-no h e = rw (drop-cons x i none, e)
 
-  pub every-yes : i < length x → test (getD x i 0) ≡ true → every test (drop (i + 1) x) ≡ every test (drop i x)
+  pub every-yes : i < length x → test (getD x i none) ≡ true → every test (drop (i + 1) x) ≡ every test (drop i x)
   unfolding every
-  every-yes h e = rw (add-one i, drop-cons x i 0, e)
+  every-yes h e = rw (add-one i, drop-cons x i none, e)
 
 -- ---- the number of digits, by place
 

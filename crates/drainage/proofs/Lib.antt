@@ -4,3 +4,4 @@ pub mod Ways
 pub mod Gathering
 pub mod Measures
 pub mod Kept
+pub mod Ones

@@ -11,7 +11,7 @@ use Rattle.sheet.specs.Sheet.{Grid, cells, inside}
 use Rattle.sheet.specs.Water.{passes}
 use Rattle.sheet.specs.Area.{count, sumOver, drainsInto}
 use Rattle.sheet.specs.Label.{listFrom}
-use Rattle.sheet.specs.Refusal.{weightsFit}
+use Rattle.sheet.specs.Refusal.{both, weightsFit}
 use Rattle.upstream.specs.Work.{sizesPart, isReached, receiverOf, nextOfNumber}
 use Rattle.upstream.specs.Search.{Queue}
 
@@ -63,6 +63,11 @@ ownValues dirs f c = ownValue (getD dirs c 0) (f c)
 pub record Weighted (rows : ℕ) (weights : List ℕ) : Type 0 where
   pub room : rows ≤ length weights
   pub fit : weightsFit rows weights ≡ true
+
+-- the weights of the first rows are all 1: areas are then sizes
+unfoldable pub allOnes : ℕ → List ℕ → Bool
+allOnes zero weights = true
+allOnes (suc row) weights = let rest = allOnes row weights in both rest (eqb (getD weights row 0) 1)
 
 -- "size" of an inside cell: the count of inside cells whose water passes it; outside cells have size 0
 unfoldable pub size : Grid → ℕ → ℕ

@@ -12,7 +12,7 @@ ghost use Rattle.sheet.specs.Refusal.{written};
 ghost use Rattle.upstream.specs.Work.{positionsPart, receiverOf, withSizes};
 ghost use Rattle.upstream.specs.Search.{Drained};
 ghost use Rattle.drainage.specs.Total.{Gathers, Adds, added, totalsIn, valueAt, ownValue, ownValues};
-ghost use Rattle.drainage.specs.Total.{Weighted, sizesOf};
+ghost use Rattle.drainage.specs.Total.{Weighted, allOnes, sizesOf};
 
 // What a cell adds by itself: the value inside, 0 outside.
 fn own_value(code: u8, value: u32) -> u32
@@ -119,7 +119,23 @@ fn sizes(dirs: &[u8], rows: usize, cols: usize, work: &mut [u32], queued: usize,
     copy(areas, n, &mut work[from..]);
 }
 
-// The sizes of a drained sheet, then its areas.
+// The weights of the rows are all 1.
+fn all_ones(weights: &[u16], rows: usize) -> bool
+    requires { ⌜ rows ≤ length (now weights) ⌝ }
+    ensures { λ r. ⌜ r ≡ allOnes rows (now (weights .entry)) ⌝ }
+{
+    let mut row = 0;
+    while row < rows {
+        if weights[row] == 1 {
+            row += 1;
+        } else {
+            return false;
+        }
+    }
+    true
+}
+
+// The sizes of a drained sheet, then its areas, which are the sizes where all weights are 1.
 pub fn measure(
     dirs: &[u8],
     rows: usize,
@@ -138,5 +154,8 @@ pub fn measure(
         → now («lent_areas» .exit) ≡ written (areasOf S) (now («lent_areas» .entry))) ⌝ }
 {
     sizes(dirs, rows, cols, work, queued, lent_areas);
+    if all_ones(weights, rows) {
+        return;
+    }
     areas(dirs, rows, cols, weights, work, queued, lent_areas);
 }

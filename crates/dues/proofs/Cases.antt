@@ -86,14 +86,14 @@ unfolding duesAfter
 accepted-dues = refl
 
 pub accepted-index : indexAfterLevy streams (lentFor 6) (lentUnits 4) 7 four
-    ≡ lentIndex (1 ∷ 2 ∷ 3 ∷ 7 ∷ []) (2 ∷ 0 ∷ 4 ∷ 7 ∷ []) (1 ∷ 2 ∷ 1 ∷ 7 ∷ [])
+    ≡ lentIndex (1 ∷ 0 ∷ 2 ∷ 0 ∷ 3 ∷ 0 ∷ 7 ∷ 7 ∷ []) (2 ∷ 0 ∷ 4 ∷ 7 ∷ []) (1 ∷ 2 ∷ 1 ∷ 7 ∷ [])
 unfolding indexAfterLevy
 accepted-index = refl
 
 -- areas, labels and work places are as after labelling, also where 3 follows for the dues
 pub accepted-lent : lentAfterLevy streams (lentFor 6) 7 ≡ record {
   areas = 2 ∷ 1 ∷ 8 ∷ 0 ∷ 5 ∷ 0 ∷ [];
-  labels = 2 ∷ 2 ∷ 1 ∷ 0 ∷ 3 ∷ 0 ∷ [];
+  labels = 2 ∷ 0 ∷ 2 ∷ 0 ∷ 1 ∷ 0 ∷ 0 ∷ 0 ∷ 3 ∷ 0 ∷ 0 ∷ 0 ∷ [];
   work = replicate 48 0;
 }
 unfolding lentAfterLevy
@@ -142,6 +142,18 @@ pub dues-short-index : indexAfterLevy streams (lentFor 6) (lentUnits 3) 7 (9 ∷
 unfolding indexAfterLevy
 dues-short-index = refl
 
+-- an odd number at the end of the units' labels is no place, and keeps its value; one number less than two a unit gives
+-- 3
+pub odd-kept : indexAfterLevy streams (lentFor 6) (lentIndex (replicate 7 7) (replicate 3 7) (replicate 3 7)) 7 four
+    ≡ lentIndex (1 ∷ 0 ∷ 2 ∷ 0 ∷ 3 ∷ 0 ∷ 7 ∷ []) (2 ∷ 0 ∷ 4 ∷ []) (1 ∷ 2 ∷ 1 ∷ [])
+unfolding indexAfterLevy
+odd-kept = refl
+
+pub odd-short : levied streams (lentFor 6) (lentIndex (replicate 5 7) (replicate 3 7) (replicate 3 7)) 7 four
+    ≡ Refused 3 0
+unfolding levied
+odd-short = refl
+
 pub index-short : levied streams (lentFor 6) (lentUnits 2) 7 four ≡ Refused 3 0
 unfolding levied
 index-short = refl
@@ -173,7 +185,7 @@ unfolding intakeDuesAfter
 ended-dues = refl
 
 pub ended-index : intakeIndexAfterLevy (record { stage = Ended sizes }) (withWeight 1000) one two 7 four
-    ≡ lentIndex (0 ∷ 7 ∷ []) (0 ∷ 7 ∷ []) (1 ∷ 7 ∷ [])
+    ≡ lentIndex (0 ∷ 0 ∷ 7 ∷ 7 ∷ []) (0 ∷ 7 ∷ []) (1 ∷ 7 ∷ [])
 unfolding intakeIndexAfterLevy
 ended-index = refl
 

@@ -71,7 +71,7 @@ module _ (S : Sheet) (L : Lent) (accepted : outcome S L ≡ Accepted) (I : LentI
     first-more =
         first-is S (suc k)
         ∙ upto-more (unitWeights S) k (rw (length-map (distinctLabels S) (unitWeight S)) l)
-        ∙ (rw (first-is S k, weight-is, map-at [] (unitWeight S) (distinctLabels S) k l) refl)
+        ∙ (rw (first-is S k, weight-is, map-at [] 0 (unitWeight S) (distinctLabels S) k l) refl)
 
     owes : getD dues k 0 ≡ owed total whole (weightOfFirst S (suc k)) - owed total whole (weightOfFirst S k)
     unfolding duesOf due dueOfFirst

@@ -6,9 +6,10 @@ use mathlib.Core.List.{List, [], _∷_, map, List·Memᴰ, List·Memᴰ·head, L
 use mathlib.Core.Logic.{_≢_}
 use Prim.Native.Nat.{ℕ, suc, _+_}
 use native.Mathlib.Omega.{arith}
-use lib.Dec.{eqb}
 use lib.ListN.{length, getD, take, drop}
-use borrow.Author.Tests.{eqb-true, eq-eqb, ne-eqb}
+use Rattle.sheet.specs.declared.Label.{Label}
+use Rattle.sheet.specs.Record.{sameLabel}
+use Rattle.sheet.proofs.Records.{same-true, same-is, same-not}
 use Rattle.claims.specs.Bounds.{sum}
 use Rattle.claims.proofs.Dictionary.{before-irreflexive}
 use Rattle.index.specs.Units.{UnitEntry, unitEntry}
@@ -22,13 +23,13 @@ use Rattle.dues.specs.Steps.{partWeights}
 abbrev pub countOf : UnitEntry → ℕ
 countOf e = e .count
 
-module _ (label : ℕ → ℕ) where
+module _ (label : ℕ → Label) where
   -- the counts of groups add up to the number of cells
   with-cell-count : (c : ℕ) (es : List UnitEntry)
       → sum (λ m. m) (map countOf (withCell (label c) c es)) ≡ suc (sum (λ m. m) (map countOf es))
   unfolding withCell sum
   with-cell-count c [] = refl
-  with-cell-count c (e ∷ es) = go (eqb (label c) (e .label))
+  with-cell-count c (e ∷ es) = go (sameLabel (label c) (e .label))
     where
       go : (b : Bool)
           → sum (λ m. m) (map countOf
@@ -44,7 +45,7 @@ module _ (label : ℕ → ℕ) where
 
   -- the sum over the cells of a list with an entry's label
   abbrev pub weightIn : (ℕ → ℕ) → List ℕ → UnitEntry → ℕ
-  weightIn f cs e = summed (λ c. eqb (label c) (e .label)) f cs
+  weightIn f cs e = summed (λ c. sameLabel (label c) (e .label)) f cs
 
   module _ (f : ℕ → ℕ) (c : ℕ) (cs : List ℕ) where
     -- the first of groups has the cell's label, so that no other has
@@ -61,7 +62,7 @@ module _ (label : ℕ → ℕ) where
     others [] h = refl
     others (e ∷ es) h =
         let r = others es (λ d m. h d (List·Memᴰ·tail m)) in
-        rw (ne-eqb (label c) (e .label) (h e (List·Memᴰ·head refl))) (ap (λ (ws : List ℕ). weightIn f cs e ∷ ws) r)
+        rw (same-not (label c) (e .label) (h e (List·Memᴰ·head refl))) (ap (λ (ws : List ℕ). weightIn f cs e ∷ ws) r)
 
     -- the cell begins a group
     begins : (es : List UnitEntry) → GroupsOf label cs es
@@ -71,10 +72,10 @@ module _ (label : ℕ → ℕ) where
     unfolding partWeights summed sum
     begins es g r h =
         let apart = unlike (unitEntry (label c) c 1) es refl r in
-        let none = summed-none (λ d. eqb (label d) (label c)) f cs
-        (λ d m. let e = g .has d m in ne-eqb (label d) (label c) (λ p. apart (e .0) (e .1) (sym p ∙ sym (e .2)))) in
+        let none = summed-none (λ d. sameLabel (label d) (label c)) f cs
+        (λ d m. let e = g .has d m in same-not (label d) (label c) (λ p. apart (e .0) (e .1) (sym p ∙ sym (e .2)))) in
         let own : f c + 0 ≡ weightIn f (c ∷ cs) (unitEntry (label c) c 1) =
-        rw (eq-eqb (label c) (label c) refl, none) refl in
+        rw (same-is (label c) (label c) refl, none) refl in
         let rest = h ∙ others es apart in
         λ i. own i ∷ rest i
 
@@ -89,7 +90,7 @@ module _ (label : ℕ → ℕ) where
         let apart = unlike (unitEntry (label c) c (suc (e .count))) es refl r in
         let first = ap (λ (ws : List ℕ). getD ws 0 0) h in
         let own : f c + sum f (take (e .count) cs) ≡ weightIn f (c ∷ cs) (unitEntry (label c) c (suc (e .count))) =
-        rw (eq-eqb (label c) (label c) refl, q) (ap (λ (n : ℕ). f c + n) first) in
+        rw (same-is (label c) (label c) refl, q) (ap (λ (n : ℕ). f c + n) first) in
         let rest = ap (λ (ws : List ℕ). drop 1 ws) h ∙ others es apart in
         λ i. own i ∷ rest i
 
@@ -99,16 +100,16 @@ module _ (label : ℕ → ℕ) where
         ≡ map (weightIn f (c ∷ cs)) (withCell (label c) c es)
     unfolding withCell
     joined [] g k h = begins [] g (k .rise) h
-    joined (e ∷ es) g k h = go (eqb (label c) (e .label)) refl (k .rise)
+    joined (e ∷ es) g k h = go (sameLabel (label c) (e .label)) refl (k .rise)
       where
-        go : (b : Bool) → eqb (label c) (e .label) ≡ b
+        go : (b : Bool) → sameLabel (label c) (e .label) ≡ b
             → LabelsRise (map entryDigits
             (cond b (unitEntry (label c) c (suc (e .count)) ∷ es) (unitEntry (label c) c 1 ∷ e ∷ es)))
             → partWeights f (map countOf
             (cond b (unitEntry (label c) c (suc (e .count)) ∷ es) (unitEntry (label c) c 1 ∷ e ∷ es))) (c ∷ cs)
             ≡ map (weightIn f (c ∷ cs))
             (cond b (unitEntry (label c) c (suc (e .count)) ∷ es) (unitEntry (label c) c 1 ∷ e ∷ es))
-        go true q r = joins e es (eqb-true (label c) (e .label) q) r h
+        go true q r = joins e es (same-true (label c) (e .label) q) r h
         go false q r = begins (e ∷ es) g r h
 
   pub part-weights : (f : ℕ → ℕ) (cs : List ℕ) → NeverFall label cs

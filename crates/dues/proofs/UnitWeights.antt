@@ -6,14 +6,15 @@ use mathlib.Core.List.{List, [], _∷_, map, List·Memᴰ}
 use Prim.Native.Nat.{ℕ, zero, suc, _-_, _≤_, _<_}
 use native.Mathlib.Nat.{zero-add}
 use native.Mathlib.Omega.{arith}
-use lib.Dec.{eqb}
 use lib.ListN.{length, length-map, take}
 use lib.Seq.{take-length, ext-getD}
+use Rattle.sheet.specs.declared.Label.{Label}
 use Rattle.sheet.specs.declared.Outcome.the-variants.{Accepted}
 use Rattle.sheet.specs.Sheet.{Sheet, cells, inside}
 use Rattle.sheet.specs.Area.{sumOver, drainsInto, weight, area}
 use Rattle.sheet.specs.River.{network}
-use Rattle.sheet.specs.Label.{labelAt, areasOf, outlet}
+use Rattle.sheet.specs.Record.{sameLabel, labelAt}
+use Rattle.sheet.specs.Label.{areasOf, outlet}
 use Rattle.sheet.specs.Refusal.{Lent, outcome, written, lentAfter}
 use Rattle.sheet.proofs.Cells.{inside-lt}
 use Rattle.sheet.proofs.Lists.{length-list, list-at}
@@ -116,7 +117,7 @@ module _ (S : Sheet) (L : Lent) (accepted : outcome S L ≡ Accepted) where
     abbrev cs : List ℕ
     cs = cellsIn (cells (S .grid)) work queued
 
-    abbrev label : ℕ → ℕ
+    abbrev label : ℕ → Label
     label = labelAt (lentAfter S L .labels)
 
     pub listed-weight : sum (weight S) cs ≡ wholeWeight S
@@ -134,8 +135,8 @@ module _ (S : Sheet) (L : Lent) (accepted : outcome S L ≡ Accepted) where
     entry-weight : (e : UnitEntry) → List·Memᴰ e (grouped label cs)
         → weightIn label (weight S) cs e ≡ unitWeight S (entryDigits e)
     entry-weight e m =
-        sym (summed-cells (cells (S .grid)) cs (isOfUnit S (entryDigits e)) (λ c. eqb (label c) (e .label)) (weight S)
-        (listed-once S L old accepted measured arranged) (entry-tests S L old accepted measured arranged e m))
+        sym (summed-cells (cells (S .grid)) cs (isOfUnit S (entryDigits e)) (λ c. sameLabel (label c) (e .label))
+        (weight S) (listed-once S L old accepted measured arranged) (entry-tests S L old accepted measured arranged e m))
 
     pub listed-parts : partWeights (weight S) (map countOf (units S)) cs ≡ unitWeights S
     listed-parts =

@@ -7,6 +7,7 @@ use lib.Dec.{leb}
 use lib.ListN.{length, take}
 use Rattle.sheet.specs.Sheet.{Sheet, cells, inside}
 use Rattle.sheet.specs.Area.{sumOver, weight}
+use Rattle.sheet.specs.Record.{numbersOf}
 use Rattle.sheet.specs.Label.{listFrom}
 use Rattle.sheet.specs.Refusal.{Lent, written, lentAfter}
 use Rattle.index.specs.declared.Indexed.{Indexed}
@@ -73,7 +74,7 @@ lentAfterLevy S L total = let labelled : Lent = lentAfter S L in cond (totalFits
 
 -- the three slices of the index: refused, no place of them is written
 unfoldable pub indexAfterLevy : Sheet → Lent → LentIndex → ℕ → List ℕ → LentIndex
-unfolding levied units
+unfolding levied units numbersOf
 indexAfterLevy S L I total dues = ifIndexed (levied S L I total dues) (units S) I
 
 -- the first places of the dues written; refused, none is

@@ -2,11 +2,10 @@
 use mathlib.Core.Path.{_≡_}
 use mathlib.Core.List.{List}
 use Prim.Native.Nat.{ℕ, suc, _+_, _*_, _-_, _/_, _^_, _≤_, _<_}
-use lib.Dec.{eqb}
 use lib.ListN.{length, getD, take}
 use Rattle.sheet.specs.Sheet.{Sheet, cells, inside}
 use Rattle.sheet.specs.Area.{sumOver, weight}
-use Rattle.sheet.specs.Label.{labelAt}
+use Rattle.sheet.specs.Record.{sameLabel, labelAt}
 use Rattle.sheet.specs.Refusal.{Lent, both}
 use Rattle.claims.specs.Bounds.{sum}
 use Rattle.intake.specs.declared.Intake.{Intake}
@@ -23,7 +22,8 @@ use Rattle.dues.specs.FromIntake.{intakeLevied, intakeLentAfterLevy, int
 -- the weight of the unit at a place of the index: the summed weight of the cells with its label
 abbrev pub indexWeight : Sheet → List ℕ → LentIndex → ℕ → ℕ
 indexWeight S labels I k =
-    sumOver (cells (S .grid)) (λ c. both (inside (S .grid) c) (eqb (labelAt labels c) (indexLabel I k))) (weight S)
+    sumOver (cells (S .grid)) (λ c. both (inside (S .grid) c) (sameLabel (labelAt labels c) (indexLabel I k)))
+    (weight S)
 
 -- what the unit at a place of the index owes
 abbrev pub dueAt : List ℕ → ℕ → ℕ

@@ -6,10 +6,12 @@ pub mod unit_index;
 use flow::pairs::PairsAnswer;
 use index::Indexed;
 use lookup::LookupAnswer;
+use sheet::Label;
 use sheet::Outcome;
 ghost use mathlib.Core.Path.{_≡_};
 ghost use Prim.Native.Nat.{_<_};
 ghost use lib.ListN.{length};
+ghost use Rattle.sheet.specs.Record.{labelOfNumbers, labelsIn};
 ghost use Rattle.sheet.specs.Refusal.{outcomeValues, outcome, lentAfter};
 ghost use Rattle.sheet.specs.Word.{firstBadOf};
 ghost use Rattle.sheet.specs.Flow.{flow, answerNumber, outletFlow, outletAnswerNumber};
@@ -75,21 +77,26 @@ fn indexed_code(answer: Indexed) -> u64
     }
 }
 
-// Where the labels that begin with the leading digits start, and how many there are. The refusal's number, or 0.
+// Where the labels that begin with the leading digits start, and how many there are. The refusal's number, or 0. The
+// leading digits are a label of two numbers.
 #[no_mangle]
 pub extern "C" fn pf_lookup(
-    leading: u64,
+    first: u64,
+    rest: u64,
     labels: &[u64],
     start: &mut usize,
     length: &mut usize,
 ) -> u32
-    ensures number { λ r. ⌜ r ≡ lookupValues (lookupAnswer leading (now (labels .entry))) .number ⌝ }
-    ensures start { λ _. ⌜ now (start .exit) ≡ lookupValues (lookupAnswer leading (now (labels .entry))) .start ⌝ }
-    ensures length { λ _. ⌜ now (length .exit) ≡ lookupValues (lookupAnswer leading (now (labels .entry))) .length ⌝ }
+    ensures number { λ r. ⌜ r
+        ≡ lookupValues (lookupAnswer (labelOfNumbers first rest) (labelsIn (now (labels .entry)))) .number ⌝ }
+    ensures start { λ _. ⌜ now (start .exit)
+        ≡ lookupValues (lookupAnswer (labelOfNumbers first rest) (labelsIn (now (labels .entry)))) .start ⌝ }
+    ensures length { λ _. ⌜ now (length .exit)
+        ≡ lookupValues (lookupAnswer (labelOfNumbers first rest) (labelsIn (now (labels .entry)))) .length ⌝ }
 {
-    match lookup::find(leading, labels) {
-        LookupAnswer::Part(first, count) => {
-            *start = first;
+    match lookup::find(Label { first, rest }, labels) {
+        LookupAnswer::Part(place, count) => {
+            *start = place;
             *length = count;
             0
         }
@@ -103,17 +110,48 @@ pub extern "C" fn pf_lookup(
 
 // The flow question: does water from the label q pass the label p?
 #[no_mangle]
-pub extern "C" fn pf_flow(depth: usize, least: usize, p: u64, q: u64) -> u32
-    ensures { λ r. ⌜ r ≡ answerNumber (flow depth least p q) ⌝ }
+pub extern "C" fn pf_flow(
+    depth: usize,
+    least: usize,
+    p_first: u64,
+    p_rest: u64,
+    q_first: u64,
+    q_rest: u64,
+) -> u32
+    ensures { λ r. ⌜ r ≡ answerNumber (flow depth least (labelOfNumbers «p_first» «p_rest»)
+        (labelOfNumbers «q_first» «q_rest»)) ⌝ }
 {
+    let p = Label {
+        first: p_first,
+        rest: p_rest,
+    };
+    let q = Label {
+        first: q_first,
+        rest: q_rest,
+    };
     flow::answer_number(flow::flow_of(depth, least, p, q))
 }
 
 // The outlet question: does water from the label q pass the outlet of the unit that the label p names?
 #[no_mangle]
-pub extern "C" fn pf_outlet_flow(depth: usize, p: u64, q: u64) -> u32
-    ensures { λ r. ⌜ r ≡ outletAnswerNumber (outletFlow depth p q) ⌝ }
+pub extern "C" fn pf_outlet_flow(
+    depth: usize,
+    p_first: u64,
+    p_rest: u64,
+    q_first: u64,
+    q_rest: u64,
+) -> u32
+    ensures { λ r. ⌜ r ≡ outletAnswerNumber (outletFlow depth (labelOfNumbers «p_first» «p_rest»)
+        (labelOfNumbers «q_first» «q_rest»)) ⌝ }
 {
+    let p = Label {
+        first: p_first,
+        rest: p_rest,
+    };
+    let q = Label {
+        first: q_first,
+        rest: q_rest,
+    };
     flow::outlet_answer_number(flow::outlet_flow_of(depth, p, q))
 }
 

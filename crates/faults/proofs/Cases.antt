@@ -15,8 +15,8 @@ unfolding sizesFault
 lent-three = refl
 
 -- 1 before 2, 2 before 19, 19 before 3
-pub in-order : sizesFault (sizes 0 4 19 0 5) 0 0 ∷ sizesFault (sizes 3 4 19 0 5) 0 0 ∷
-    sizesFault (sizes 3 4 18 0 5) 0 0 ∷ sizesFault (sizes 3 4 18 65536000 4) 0 0 ∷ [] ≡ 1 ∷ 2 ∷ 19 ∷ 3 ∷ []
+pub in-order : sizesFault (sizes 0 4 37 0 5) 0 0 ∷ sizesFault (sizes 3 4 37 0 5) 0 0 ∷
+    sizesFault (sizes 3 4 36 0 5) 0 0 ∷ sizesFault (sizes 3 4 36 65536000 4) 0 0 ∷ [] ≡ 1 ∷ 2 ∷ 19 ∷ 3 ∷ []
 unfolding sizesFault
 in-order = refl
 

@@ -32,7 +32,7 @@ pub record Fits (z : Sizes) (dirs weights : ℕ) : Type 0 where
   pub cols-some : 1 ≤ z .cols
   pub cols-most : z .cols ≤ 256
   pub depth-some : 1 ≤ z .depth
-  pub depth-most : z .depth ≤ 18
+  pub depth-most : z .depth ≤ 36
   pub least-some : 1 ≤ z .least
   pub least-most : z .least ≤ 65536000
   pub split-some : 1 ≤ z .split
@@ -51,7 +51,7 @@ module _ (z : Sizes) (dirs weights : ℕ) where
       let fit = both-true (within 256 (z .rows)) (within 256 (z .cols)) (one .0) in
       let rows = within-both 256 (z .rows) (fit .0) in
       let cols = within-both 256 (z .cols) (fit .1) in
-      let depth = within-both 18 (z .depth) (two .0) in
+      let depth = within-both 36 (z .depth) (two .0) in
       let least = least-bounds (z .least) (z .split) (nineteen .0) in
       let split = split-bounds (z .least) (z .split) (nineteen .0) in
       let lent = both-true (leb (cellCount z) dirs) (leb (z .rows) weights) (three .0) in

@@ -14,7 +14,8 @@ use Rattle.sheet.specs.declared.Flow.the-variants.{Same, Yes, No, Undecided, Re
 use Rattle.sheet.specs.declared.OutletFlow.{OutletFlow}
 use Rattle.sheet.specs.declared.OutletFlow.the-variants.{Same as OutletSame, Yes as OutletYes, No as OutletNo}
 use Rattle.sheet.specs.declared.OutletFlow.the-variants.{Refused as OutletRefused}
-use Rattle.sheet.specs.Label.{digitsOf}
+use Rattle.sheet.specs.declared.Label.{Label}
+use Rattle.sheet.specs.Record.{digitsOf, sameLabel}
 use Rattle.sheet.specs.Refusal.{both, depthFits, leastFits}
 use Rattle.sheet.specs.Flow.{ruleAt, isLabel, partAt, answerAt, answerUnequal, outletFlow, stemAlone}
 use Rattle.sheet.specs.Flow.{cellAnswer, flow}
@@ -59,7 +60,7 @@ outlet-of-cell alone OutletNo = refl
 outlet-of-cell alone (OutletRefused number) = refl
 
 -- the outlet question's answer, from the flow question's where least is 1
-pub outlet-from-flow : (depth p q : ℕ) → outletAnswer (flow depth 1 p q) ≡ outletFlow depth p q
+pub outlet-from-flow : (depth : ℕ) (p q : Label) → outletAnswer (flow depth 1 p q) ≡ outletFlow depth p q
 unfolding leastFits
 outlet-from-flow depth p q =
     ap outletAnswer (from-outlet-flow depth 1 p q refl)
@@ -83,16 +84,16 @@ unfolding answerAt
 answer-byte x y Nothing = omega arith
 answer-byte x y (At i) = either (ruleAt i x y) OutletYes OutletNo (omega arith) (omega arith)
 
-unequal-byte : (p q : ℕ) → fitsByte (answerUnequal p q)
+unequal-byte : (p q : Label) → fitsByte (answerUnequal p q)
 unfolding answerUnequal
 unequal-byte p q = answer-byte (digitsOf p) (digitsOf q) (partAt (digitsOf p) (digitsOf q))
 
-pub outlet-flow-byte : (depth p q : ℕ) → fitsByte (outletFlow depth p q)
+pub outlet-flow-byte : (depth : ℕ) (p q : Label) → fitsByte (outletFlow depth p q)
 unfolding outletFlow
 outlet-flow-byte depth p q =
     either (depthFits depth) _ (OutletRefused 2)
     (either (both (isLabel depth p) (isLabel depth q)) _ (OutletRefused 11)
-    (either (eqb p q) OutletSame _ (omega arith) (unequal-byte p q))
+    (either (sameLabel p q) OutletSame _ (omega arith) (unequal-byte p q))
     (omega arith))
     (omega arith)
 
@@ -103,7 +104,7 @@ cell-byte false OutletYes h = omega arith
 cell-byte alone OutletNo h = omega arith
 cell-byte alone (OutletRefused number) h = h
 
-pub flow-byte : (depth least p q : ℕ) → answerNumber (flow depth least p q) < 256
+pub flow-byte : (depth least : ℕ) (p q : Label) → answerNumber (flow depth least p q) < 256
 unfolding flow
 flow-byte depth least p q =
     go (depthFits depth) (leastFits least) _
@@ -115,5 +116,6 @@ flow-byte depth least p q =
     go true false answer h = omega arith
     go false l answer h = omega arith
 
-pub number-byte : (depth least p q number : ℕ) → number ≡ answerNumber (flow depth least p q) → number < 256
+pub number-byte : (depth least : ℕ) (p q : Label) (number : ℕ)
+    → number ≡ answerNumber (flow depth least p q) → number < 256
 number-byte depth least p q number e = omega (arith, flow-byte depth least p q)

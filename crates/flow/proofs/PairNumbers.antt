@@ -10,9 +10,12 @@ use borrow.Author.Tests.{le-leb, lt-leb, leb-true, leb-false}
 use lib.Dec.{leb, leb·suc-suc}
 use lib.ListN.{length, getD, drop, set, length-set, drop-of-length-le}
 use lib.Seq.{drop-cons, sets}
+use Rattle.sheet.specs.declared.Label.{Label}
+use Rattle.sheet.specs.Record.{noDigits, labelsIn, labelPlaces}
 use Rattle.sheet.specs.Refusal.{depthFits, leastFits, written}
 use Rattle.sheet.specs.Flow.{flow, answerNumber}
 use Rattle.sheet.proofs.Lists.{written-whole}
+use Rattle.sheet.proofs.Slices.{labels-length}
 use Rattle.flow.specs.declared.pairs.PairsAnswer.{PairsAnswer}
 use Rattle.flow.specs.declared.pairs.PairsAnswer.the-variants.{Pairs, Refused}
 use Rattle.flow.specs.Pairs.{pairNumbers, pairCount, pairsAnswer, ifAnswered, pairsPlaces, pairsValues}
@@ -43,30 +46,36 @@ count-suc m n = rw leb·suc-suc (go (leb m n))
     go false = refl
 
 -- one number for each pair
-pub numbers-count : (depth least : ℕ) (x y : List ℕ) → length (pairNumbers depth least x y) ≡ pairCount (length x)
+pub numbers-count : (depth least : ℕ) (x y : List Label) → length (pairNumbers depth least x y) ≡ pairCount (length x)
     (length y)
 unfolding pairNumbers pairCount
 numbers-count depth least [] y = rw (le-leb 0 (length y) (omega arith))
 numbers-count depth least (p ∷ x) [] = rw (lt-leb (suc (length x)) 0 (omega arith))
 numbers-count depth least (p ∷ x) (q ∷ y) = ap suc (numbers-count depth least x y) ∙ count-suc (length x) (length y)
 
+-- as many pairs as the shorter slice has places for labels
+pub labels-counted : (p q : List ℕ)
+    → pairCount (length (labelsIn p)) (length (labelsIn q))
+    ≡ pairCount (labelPlaces (length p)) (labelPlaces (length q))
+labels-counted p q = rw (labels-length p, labels-length q)
+
 -- ---- the numbers by place
 
-none-of-q : (depth least : ℕ) (x : List ℕ) → pairNumbers depth least x [] ≡ []
+none-of-q : (depth least : ℕ) (x : List Label) → pairNumbers depth least x [] ≡ []
 unfolding pairNumbers
 none-of-q depth least [] = refl
 none-of-q depth least (p ∷ x) = refl
 
-module _ (depth least : ℕ) (x y : List ℕ) (i : ℕ) where
+module _ (depth least : ℕ) (x y : List Label) (i : ℕ) where
   numbers-here : i < pairCount (length x) (length y)
       → pairNumbers depth least (drop i x) (drop i y)
-      ≡ answerNumber (flow depth least (getD x i 0) (getD y i 0)) ∷ pairNumbers depth least (drop (suc i) x)
-      (drop (suc i) y)
+      ≡ answerNumber (flow depth least (getD x i noDigits) (getD y i noDigits))
+      ∷ pairNumbers depth least (drop (suc i) x) (drop (suc i) y)
   unfolding pairNumbers
   numbers-here h =
       rw (
-        drop-cons x i 0 (omega (arith, count-p (length x) (length y))),
-        drop-cons y i 0 (omega (arith, count-q (length x) (length y))),
+        drop-cons x i noDigits (omega (arith, count-p (length x) (length y))),
+        drop-cons y i noDigits (omega (arith, count-q (length x) (length y))),
       )
 
   numbers-end : pairCount (length x) (length y) ≤ i → pairNumbers depth least (drop i x) (drop i y) ≡ []
@@ -78,8 +87,8 @@ module _ (depth least : ℕ) (x y : List ℕ) (i : ℕ) where
       go false g = rw (drop-of-length-le y g) (none-of-q depth least (drop i x))
 
 -- the number at a place is that of the flow question's answer for the labels at that place
-pub number-at : (depth least : ℕ) (x y : List ℕ) (i : ℕ) → i < pairCount (length x) (length y)
-    → getD (pairNumbers depth least x y) i 0 ≡ answerNumber (flow depth least (getD x i 0) (getD y i 0))
+pub number-at : (depth least : ℕ) (x y : List Label) (i : ℕ) → i < pairCount (length x) (length y)
+    → getD (pairNumbers depth least x y) i 0 ≡ answerNumber (flow depth least (getD x i noDigits) (getD y i noDigits))
 unfolding pairNumbers pairCount
 number-at depth least [] y i h = absurd (omega (arith, count-p 0 (length y)))
 number-at depth least (p ∷ x) [] i h = absurd (omega (arith, count-q (suc (length x)) 0))
@@ -90,12 +99,12 @@ number-at depth least (p ∷ x) (q ∷ y) (suc i) h =
 -- ---- written one by one
 
 -- the numbers before place i are written; `before` was lent, and `answers` is what the slice holds
-pub record Answering (depth least : ℕ) (x y before answers : List ℕ) (i : ℕ) : Type 0 where
+pub record Answering (depth least : ℕ) (x y : List Label) (before answers : List ℕ) (i : ℕ) : Type 0 where
   pub to-do : sets answers i (pairNumbers depth least (drop i x) (drop i y)) ≡ written
       (pairNumbers depth least x y) before
   pub same-length : length answers ≡ length before
 
-module _ (depth least : ℕ) (x y before : List ℕ) where
+module _ (depth least : ℕ) (x y : List Label) (before : List ℕ) where
   pub answering-starts : pairCount (length x) (length y) ≤ length before → Answering depth least x y before before 0
   answering-starts h = record {
     to-do = written-whole (pairNumbers depth least x y) before (omega (arith, numbers-count depth least x y));
@@ -104,7 +113,7 @@ module _ (depth least : ℕ) (x y before : List ℕ) where
 
   module _ {answers : List ℕ} {i : ℕ} (a : Answering depth least x y before answers i) where
     pub answering-goes-on : (number : ℕ) → i < pairCount (length x) (length y)
-        → number ≡ answerNumber (flow depth least (getD x i 0) (getD y i 0))
+        → number ≡ answerNumber (flow depth least (getD x i noDigits) (getD y i noDigits))
         → Answering depth least x y before (set answers i number) (i + 1)
     answering-goes-on number h e = record {
       to-do = rw (add-one i, e) (rw (numbers-here depth least x y i h) at (a .to-do));
@@ -126,22 +135,25 @@ module _ (depth least m n places : ℕ) where
   least-refused d e = rw (d, e)
 
   module _ (fits : (depthFits depth ≡ true) × (leastFits least ≡ true)) (count : ℕ)
-      (counted : count ≡ pairCount m n) where
+      (counted : count ≡ pairCount (labelPlaces m) (labelPlaces n)) where
     pub short-refused : places < count → Refused 3 ≡ pairsAnswer depth least m n places
     unfolding pairsAnswer
-    short-refused h = rw (fits .0, fits .1, lt-leb (pairCount m n) places (omega arith))
+    short-refused h = rw (fits .0, fits .1, lt-leb (pairCount (labelPlaces m) (labelPlaces n)) places (omega arith))
 
     pub all-answered : count ≤ places → Pairs count ≡ pairsAnswer depth least m n places
     unfolding pairsAnswer
-    all-answered h = rw (fits .0, fits .1, le-leb (pairCount m n) places (omega arith)) (ap Pairs counted)
+    all-answered h =
+        rw (fits .0, fits .1, le-leb (pairCount (labelPlaces m) (labelPlaces n)) places (omega arith))
+        (ap Pairs counted)
 
 -- the answer, its values, and the answers afterwards
 pub promised : (depth least : ℕ) (x y before after : List ℕ) (a : PairsAnswer)
     → a ≡ pairsAnswer depth least (length x) (length y) (length before) → after ≡ ifAnswered a
-    (pairNumbers depth least x y) before
+    (pairNumbers depth least (labelsIn x) (labelsIn y)) before
     → (a ≡ pairsAnswer depth least (length x) (length y) (length before)) ×
     ((pairsValues a ≡ pairsValues (pairsAnswer depth least (length x) (length y) (length before))) ×
     (after ≡ pairsPlaces depth least x y before))
 unfolding pairsPlaces
 promised depth least x y before after a e f =
-    (e, (ap pairsValues e, f ∙ ap (λ (b : PairsAnswer). ifAnswered b (pairNumbers depth least x y) before) e))
+    let numbers = pairNumbers depth least (labelsIn x) (labelsIn y) in
+    (e, (ap pairsValues e, f ∙ ap (λ (b : PairsAnswer). ifAnswered b numbers before) e))

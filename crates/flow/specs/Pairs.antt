@@ -4,13 +4,15 @@ use mathlib.Core.List.{List, [], _∷_}
 use Prim.Native.Nat.{ℕ}
 use lib.Dec.{leb}
 use lib.ListN.{length}
+use Rattle.sheet.specs.declared.Label.{Label}
+use Rattle.sheet.specs.Record.{labelsIn, labelPlaces}
 use Rattle.sheet.specs.Refusal.{depthFits, leastFits, written}
 use Rattle.sheet.specs.Flow.{flow, answerNumber}
 use Rattle.flow.specs.declared.pairs.PairsAnswer.{PairsAnswer}
 use Rattle.flow.specs.declared.pairs.PairsAnswer.the-variants.{Pairs, Refused}
 
 -- the number of the flow question's answer for each pair, the labels of P and Q at the same place
-unfoldable pub pairNumbers : ℕ → ℕ → List ℕ → List ℕ → List ℕ
+unfoldable pub pairNumbers : ℕ → ℕ → List Label → List Label → List ℕ
 unfolding flow
 pairNumbers depth least [] y = []
 pairNumbers depth least (p ∷ x) [] = []
@@ -20,11 +22,11 @@ pairNumbers depth least (p ∷ x) (q ∷ y) = answerNumber (flow depth least p q
 unfoldable pub pairCount : ℕ → ℕ → ℕ
 pairCount m n = cond (leb m n) m n
 
--- the answer where P's slice has m places, Q's has n and the answers have so many: 2, 19, 3, in this order
+-- the answer where P's slice has m numbers, Q's has n and the answers have so many places: 2, 19, 3, in this order
 unfoldable pub pairsAnswer : ℕ → ℕ → ℕ → ℕ → ℕ → PairsAnswer
-unfolding depthFits leastFits pairCount
+unfolding depthFits leastFits pairCount labelPlaces
 pairsAnswer depth least m n places =
-    let count : ℕ = pairCount m n in
+    let count : ℕ = pairCount (labelPlaces m) (labelPlaces n) in
     let room : PairsAnswer = cond (leb count places) (Pairs count) (Refused 3) in
     cond (depthFits depth) (cond (leastFits least) room (Refused 19)) (Refused 2)
 
@@ -35,9 +37,10 @@ ifAnswered (Refused number) numbers answers = answers
 
 -- the lent answers afterwards
 unfoldable pub pairsPlaces : ℕ → ℕ → List ℕ → List ℕ → List ℕ → List ℕ
-unfolding pairsAnswer pairNumbers
+unfolding pairsAnswer pairNumbers labelsIn
 pairsPlaces depth least x y answers =
-    ifAnswered (pairsAnswer depth least (length x) (length y) (length answers)) (pairNumbers depth least x y) answers
+    ifAnswered (pairsAnswer depth least (length x) (length y) (length answers))
+    (pairNumbers depth least (labelsIn x) (labelsIn y)) answers
 
 -- the refusal's number, or 0, and the count of pairs, or 0
 pub record PairsValues : Type 0 where

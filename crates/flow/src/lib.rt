@@ -4,15 +4,17 @@ pub mod pairs;
 
 use checks::depth_fits;
 use checks::least_fits;
+use checks::same_label;
 use digits::put_label;
 use sheet::Flow;
 use sheet::Found;
+use sheet::Label;
 use sheet::OutletFlow;
 ghost use mathlib.Core.Path.{_≡_};
 ghost use mathlib.Core.Bool.{true};
 ghost use Prim.Native.Nat.{_<_};
 ghost use lib.ListN.{length, drop};
-ghost use Rattle.sheet.specs.Label.{digitsOf};
+ghost use Rattle.sheet.specs.Record.{digitsOf};
 ghost use Rattle.sheet.specs.Refusal.{depthFits, leastFits};
 ghost use Rattle.sheet.specs.Flow.{partAt, every, isOdd, ruleAt, isLabel, answerAt, cellAnswer, flow, outletFlow};
 ghost use Rattle.sheet.specs.Flow.{stemAlone, answerNumber, outletAnswerNumber};
@@ -101,17 +103,17 @@ fn cell_answer(alone: bool, answer: OutletFlow) -> Flow
 }
 
 // The answer to the flow question where p is a label and its digits are at hand: 11 for q, Same, 12, then the rule.
-fn answer_by_digits(depth: usize, least: usize, p: u64, digits: &[u8], q: u64) -> Flow
+fn answer_by_digits(depth: usize, least: usize, p: Label, digits: &[u8], q: Label) -> Flow
     requires { ⌜ (depthFits depth ≡ true) × (leastFits least ≡ true) ⌝ }
     requires { ⌜ isLabel depth p ≡ true ⌝ }
     requires { ⌜ now digits ≡ digitsOf p ⌝ }
     ensures { λ r. ⌜ r ≡ flow depth least p q ⌝ }
 {
-    let mut places = [0u8; 18];
+    let mut places = [0u8; 36];
     match put_label(depth, q, &mut places) {
         Found::Nothing => Flow::Refused(11),
         Found::At(start) => {
-            if p == q {
+            if same_label(p, q) {
                 return Flow::Same;
             }
             let alone = is_stem_alone(depth, least, digits.len());
@@ -121,11 +123,11 @@ fn answer_by_digits(depth: usize, least: usize, p: u64, digits: &[u8], q: u64) -
 }
 
 // The answer to the flow question where depth and least fit: 11, Same, 12, then the rule.
-fn answer_fitting(depth: usize, least: usize, p: u64, q: u64) -> Flow
+fn answer_fitting(depth: usize, least: usize, p: Label, q: Label) -> Flow
     requires { ⌜ (depthFits depth ≡ true) × (leastFits least ≡ true) ⌝ }
     ensures { λ r. ⌜ r ≡ flow depth least p q ⌝ }
 {
-    let mut places = [0u8; 18];
+    let mut places = [0u8; 36];
     match put_label(depth, p, &mut places) {
         Found::Nothing => Flow::Refused(11),
         Found::At(start) => answer_by_digits(depth, least, p, &places[start..], q),
@@ -134,7 +136,7 @@ fn answer_fitting(depth: usize, least: usize, p: u64, q: u64) -> Flow
 
 // The flow question: does water from the label q pass the label p? 2, 19, 11, Same, 12, then the rule; Undecided where
 // it is met and least is above 1 or p has as many digits as the depth.
-pub fn flow_of(depth: usize, least: usize, p: u64, q: u64) -> Flow
+pub fn flow_of(depth: usize, least: usize, p: Label, q: Label) -> Flow
     ensures answer { λ r. ⌜ r ≡ flow depth least p q ⌝ }
     ensures number { λ r. ⌜ answerNumber r ≡ answerNumber (flow depth least p q) ⌝ }
 {
@@ -162,7 +164,7 @@ fn outlet_answer(answer: Flow) -> OutletFlow
 
 // The outlet question: does water from the label q pass the outlet of the unit that the label p names? 2, 11, Same, 12,
 // then the rule.
-pub fn outlet_flow_of(depth: usize, p: u64, q: u64) -> OutletFlow
+pub fn outlet_flow_of(depth: usize, p: Label, q: Label) -> OutletFlow
     ensures answer { λ r. ⌜ r ≡ outletFlow depth p q ⌝ }
     ensures number { λ r. ⌜ outletAnswerNumber r ≡ outletAnswerNumber (outletFlow depth p q) ⌝ }
 {

@@ -4,10 +4,12 @@ use mathlib.Core.List.{List, [], _∷_}
 use Prim.Native.Nat.{ℕ, _*_}
 use lib.ListN.{replicate}
 use Rattle.sheet.specs.Sheet.{Grid, Sheet, grid}
+use Rattle.sheet.specs.Record.{labelOfNumbers, labelsIn, labelAt}
 use Rattle.sheet.specs.Refusal.{Lent, lentAfter}
 use Rattle.sheet.specs.Cases.{sampleA, confluences}
 use Rattle.index.specs.declared.Indexed.the-variants.{Units, Refused}
-use Rattle.index.specs.Units.{withLabel, distinctLabels, unitEntry, units}
+use Rattle.index.specs.Units.{withLabel, distinctLabels, UnitEntry, unitEntry, units}
+use Rattle.index.specs.Groups.{grouped}
 use Rattle.index.specs.Index.{LentIndex, lentIndex, indexed, indexAfter}
 
 -- a sheet with weights, and one without: each is then 1
@@ -19,10 +21,14 @@ sheet G depth = weightedSheet G depth (replicate (G .rows) 1)
 
 -- what is lent for n cells, and for so many units, each place holding 7
 abbrev pub lentFor : ℕ → Lent
-lentFor n = record { areas = replicate n 7; labels = replicate n 7; work = replicate (8 * n) 7 }
+lentFor n = record { areas = replicate n 7; labels = replicate (2 * n) 7; work = replicate (8 * n) 7 }
 
 abbrev pub lentUnits : ℕ → LentIndex
-lentUnits k = lentIndex (replicate k 7) (replicate k 7) (replicate k 7)
+lentUnits k = lentIndex (replicate (2 * k) 7) (replicate k 7) (replicate k 7)
+
+-- an entry whose label has at most 18 digits
+abbrev entry : ℕ → ℕ → ℕ → UnitEntry
+entry label outlet count = unitEntry (labelOfNumbers label 0) outlet count
 
 -- a label that begins another stands before it, and one that stands already is not put again
 pub begins-first : withLabel (2 ∷ []) (withLabel (2 ∷ []) (withLabel (2 ∷ 1 ∷ []) (withLabel (3 ∷ [])
@@ -32,15 +38,15 @@ begins-first = refl
 
 -- sample A: cells 1 and 2 have label 8, cells 7 and 11 label 93
 pub sample-a-units : units (sheet sampleA 2)
-    ≡ unitEntry 1 4 1 ∷ unitEntry 2 8 1 ∷ unitEntry 3 5 1 ∷ unitEntry 4 9 1 ∷ unitEntry 6 10 1 ∷ unitEntry 8 1 2 ∷
-    unitEntry 91 6 1 ∷ unitEntry 92 3 1 ∷ unitEntry 93 7 2 ∷ []
+    ≡ entry 1 4 1 ∷ entry 2 8 1 ∷ entry 3 5 1 ∷ entry 4 9 1 ∷ entry 6 10 1 ∷ entry 8 1 2 ∷
+    entry 91 6 1 ∷ entry 92 3 1 ∷ entry 93 7 2 ∷ []
 unfolding units
 sample-a-units = refl
 
 -- at depth 1 cells 3, 6, 7 and 11 have label 9
 pub sample-a-cut : units (sheet sampleA 1)
-    ≡ unitEntry 1 4 1 ∷ unitEntry 2 8 1 ∷ unitEntry 3 5 1 ∷ unitEntry 4 9 1 ∷ unitEntry 6 10 1 ∷ unitEntry 8 1 2 ∷
-    unitEntry 9 6 4 ∷ []
+    ≡ entry 1 4 1 ∷ entry 2 8 1 ∷ entry 3 5 1 ∷ entry 4 9 1 ∷ entry 6 10 1 ∷ entry 8 1 2 ∷
+    entry 9 6 4 ∷ []
 unfolding units
 sample-a-cut = refl
 
@@ -51,18 +57,18 @@ unfolding distinctLabels
 among-shorter = refl
 
 -- one unit, label 0
-pub one-cell : units (sheet (grid 1 1 (1 ∷ [])) 1) ≡ unitEntry 0 0 1 ∷ []
+pub one-cell : units (sheet (grid 1 1 (1 ∷ [])) 1) ≡ entry 0 0 1 ∷ []
 unfolding units
 one-cell = refl
 
 -- places beyond the units keep their values
 pub one-cell-after : indexAfter (sheet (grid 1 1 (1 ∷ [])) 1) (lentFor 1) (lentUnits 2)
-    ≡ lentIndex (0 ∷ 7 ∷ []) (0 ∷ 7 ∷ []) (1 ∷ 7 ∷ [])
+    ≡ lentIndex (0 ∷ 0 ∷ 7 ∷ 7 ∷ []) (0 ∷ 7 ∷ []) (1 ∷ 7 ∷ [])
 unfolding indexAfter
 one-cell-after = refl
 
 -- 3 for too few places of the index; a refusal of labelling comes before it; refused, no place is written
-pub too-short : indexed (sheet (grid 1 1 (1 ∷ [])) 1) (lentFor 1) (lentIndex (7 ∷ []) (7 ∷ []) []) ≡ Refused 3 0
+pub too-short : indexed (sheet (grid 1 1 (1 ∷ [])) 1) (lentFor 1) (lentIndex (7 ∷ 7 ∷ []) (7 ∷ []) []) ≡ Refused 3 0
 unfolding indexed
 too-short = refl
 
@@ -70,10 +76,30 @@ pub labelling-first : indexed (sheet (grid 1 2 (16 ∷ 1 ∷ [])) 1) (lentFor 2)
 unfolding indexed
 labelling-first = refl
 
-pub none-written : indexAfter (sheet (grid 1 1 (1 ∷ [])) 1) (lentFor 1) (lentIndex (7 ∷ []) (7 ∷ []) [])
-    ≡ lentIndex (7 ∷ []) (7 ∷ []) []
+pub none-written : indexAfter (sheet (grid 1 1 (1 ∷ [])) 1) (lentFor 1) (lentIndex (7 ∷ 7 ∷ []) (7 ∷ []) [])
+    ≡ lentIndex (7 ∷ 7 ∷ []) (7 ∷ []) []
 unfolding indexAfter
 none-written = refl
+
+-- an odd number at the end is no place, and keeps its value; one number less than two a unit gives 3
+pub odd-kept : indexAfter (sheet (grid 1 1 (1 ∷ [])) 1) (lentFor 1) (lentIndex (7 ∷ 7 ∷ 7 ∷ []) (7 ∷ []) (7 ∷ []))
+    ≡ lentIndex (0 ∷ 0 ∷ 7 ∷ []) (0 ∷ []) (1 ∷ [])
+unfolding indexAfter
+odd-kept = refl
+
+pub odd-too-short : indexed (sheet (grid 1 1 (1 ∷ [])) 1) (lentFor 1) (lentIndex (7 ∷ []) (7 ∷ []) (7 ∷ []))
+    ≡ Refused 3 0
+unfolding indexed
+odd-too-short = refl
+
+-- labels that part at the 19th digit are two units
+abbrev eighteen : ℕ
+eighteen = 111111111111111111
+
+pub second-numbers : grouped (labelAt (eighteen ∷ 1 ∷ eighteen ∷ 2 ∷ eighteen ∷ 2 ∷ [])) (0 ∷ 1 ∷ 2 ∷ [])
+    ≡ unitEntry (labelOfNumbers eighteen 1) 0 1 ∷ unitEntry (labelOfNumbers eighteen 2) 1 2 ∷ []
+unfolding grouped labelsIn
+second-numbers = refl
 
 pub sample-a-accepted : indexed (sheet sampleA 2) (lentFor 12) (lentUnits 9) ≡ Units 9
 unfolding indexed
@@ -86,24 +112,24 @@ abbrev pub twoStreams : Grid
 twoStreams = grid 3 2 (4 ∷ 16 ∷ 16 ∷ 0 ∷ 64 ∷ 0 ∷ [])
 
 -- without weights the river is the stream of two cells
-pub without-weights : units (sheet twoStreams 1) ≡ unitEntry 1 2 1 ∷ unitEntry 2 4 1 ∷ unitEntry 3 0 2 ∷ []
+pub without-weights : units (sheet twoStreams 1) ≡ entry 1 2 1 ∷ entry 2 4 1 ∷ entry 3 0 2 ∷ []
 unfolding units
 without-weights = refl
 
 -- with weights it is cell 4, whose area is 5: labels and outlets are others, and counts are still of cells
 pub weights-choose : units (weightedSheet twoStreams 1 (1 ∷ 1 ∷ 5 ∷ []))
-    ≡ unitEntry 1 2 1 ∷ unitEntry 2 0 2 ∷ unitEntry 3 4 1 ∷ []
+    ≡ entry 1 2 1 ∷ entry 2 0 2 ∷ entry 3 4 1 ∷ []
 unfolding units
 weights-choose = refl
 
 -- of equal areas, 2 and 2, the larger cell number is the river
 pub equal-areas : units (weightedSheet twoStreams 1 (1 ∷ 1 ∷ 2 ∷ []))
-    ≡ unitEntry 1 2 1 ∷ unitEntry 2 0 2 ∷ unitEntry 3 4 1 ∷ []
+    ≡ entry 1 2 1 ∷ entry 2 0 2 ∷ entry 3 4 1 ∷ []
 unfolding units
 equal-areas = refl
 
 pub weighted-after : indexAfter (weightedSheet twoStreams 1 (1 ∷ 1 ∷ 5 ∷ [])) (lentFor 6) (lentUnits 4)
-    ≡ lentIndex (1 ∷ 2 ∷ 3 ∷ 7 ∷ []) (2 ∷ 0 ∷ 4 ∷ 7 ∷ []) (1 ∷ 2 ∷ 1 ∷ 7 ∷ [])
+    ≡ lentIndex (1 ∷ 0 ∷ 2 ∷ 0 ∷ 3 ∷ 0 ∷ 7 ∷ 7 ∷ []) (2 ∷ 0 ∷ 4 ∷ 7 ∷ []) (1 ∷ 2 ∷ 1 ∷ 7 ∷ [])
 unfolding indexAfter
 weighted-after = refl
 
@@ -118,7 +144,7 @@ unfolding indexAfter
 weight-refused-index = refl
 
 pub weight-refused-lent : lentAfter (weightedSheet twoStreams 1 (1 ∷ 0 ∷ 1 ∷ [])) (lentFor 6)
-    ≡ record { areas = replicate 6 7; labels = replicate 6 7; work = replicate 48 0 }
+    ≡ record { areas = replicate 6 7; labels = replicate 12 7; work = replicate 48 0 }
 unfolding lentAfter
 weight-refused-lent = refl
 

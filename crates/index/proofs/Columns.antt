@@ -4,8 +4,10 @@ use mathlib.Core.List.{List, [], _∷_, map}
 use Prim.Native.Nat.{ℕ, _<_}
 use lib.ListN.{length, length-map, getD, drop, List·getD-append}
 use Rattle.sheet.specs.Sheet.{Sheet}
-use Rattle.sheet.specs.Label.{number}
+use Rattle.sheet.specs.declared.Label.{Label}
+use Rattle.sheet.specs.Record.{recordOf, noDigits, numbersOf, labelAt}
 use Rattle.sheet.specs.Refusal.{written}
+use Rattle.sheet.proofs.Slices.{labels-written}
 use Rattle.index.specs.Units.{UnitEntry, entryOfUnit, distinctLabels, units, outletCell, unitCells}
 use Rattle.index.proofs.ListPlaces.{map-at}
 
@@ -14,10 +16,10 @@ module _ (S : Sheet) where
   unfolding units
   units-long = length-map (distinctLabels S) (entryOfUnit S)
 
-  label-columns : (xs : List (List ℕ)) → map (λ (e : UnitEntry). e .label) (map (entryOfUnit S) xs) ≡ map number xs
+  label-columns : (xs : List (List ℕ)) → map (λ (e : UnitEntry). e .label) (map (entryOfUnit S) xs) ≡ map recordOf xs
   unfolding entryOfUnit
   label-columns [] = refl
-  label-columns (x ∷ xs) = ap (λ (t : List ℕ). number x ∷ t) (label-columns xs)
+  label-columns (x ∷ xs) = ap (λ (t : List Label). recordOf x ∷ t) (label-columns xs)
 
   outlet-columns : (xs : List (List ℕ))
       → map (λ (e : UnitEntry). e .outlet) (map (entryOfUnit S) xs) ≡ map (outletCell S) xs
@@ -31,7 +33,7 @@ module _ (S : Sheet) where
   count-columns [] = refl
   count-columns (x ∷ xs) = ap (λ (t : List ℕ). unitCells S x ∷ t) (count-columns xs)
 
-  pub label-column : map (λ (e : UnitEntry). e .label) (units S) ≡ map number (distinctLabels S)
+  pub label-column : map (λ (e : UnitEntry). e .label) (units S) ≡ map recordOf (distinctLabels S)
   unfolding units
   label-column = label-columns (distinctLabels S)
 
@@ -47,4 +49,10 @@ module _ (S : Sheet) where
 pub column-at : (f : List ℕ → ℕ) (xs : List (List ℕ)) (new old : List ℕ) (k : ℕ) → new ≡ map f xs → k < length xs
     → getD (written new old) k 0 ≡ f (getD xs k [])
 column-at f xs new old k e l =
-    List·getD-append new (drop (length new) old) 0 k (rw (e, length-map xs f) l) ∙ rw e (map-at [] f xs k l)
+    List·getD-append new (drop (length new) old) 0 k (rw (e, length-map xs f) l) ∙ rw e (map-at [] 0 f xs k l)
+
+-- and of the column of labels
+pub label-column-at : (xs : List (List ℕ)) (new : List Label) (old : List ℕ) (k : ℕ) → new ≡ map recordOf xs
+    → k < length xs → labelAt (written (numbersOf new) old) k ≡ recordOf (getD xs k [])
+label-column-at xs new old k e l =
+    labels-written new old k (rw (e, length-map xs recordOf) l) ∙ rw e (map-at [] noDigits recordOf xs k l)

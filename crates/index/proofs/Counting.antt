@@ -1,16 +1,15 @@
 -- Sums over the cells of a list that pass a test, and over the sheet's cells: equal where the list holds those cells,
--- each once; counts as such sums.
+-- each once; a count is such a sum.
 use mathlib.Core.Path.{_≡_, refl, sym, _∙_, ap}
 use mathlib.Core.Bool.{Bool, true, false, cond, true≢false}
 use mathlib.Core.List.{List, [], _∷_, List·Memᴰ, List·Memᴰ·head, List·Memᴰ·tail, List·Memᴰ·not-nil}
 use mathlib.Core.List.{List·Memᴰ·cases-cons}
 use mathlib.Core.Logic.{_⊎_, inl, inr, _≢_}
-use Prim.Native.Nat.{ℕ, suc, _+_, _<_}
+use Prim.Native.Nat.{ℕ, _+_, _<_}
 use native.Mathlib.Omega.{arith}
 use lib.Dec.{eqb}
 use borrow.Author.Tests.{eqb-false, eq-eqb, ne-eqb}
 use Rattle.sheet.specs.Area.{count, sumOver}
-use Rattle.lookup.specs.Lookup.{counted}
 use Rattle.claims.specs.Bounds.{sum}
 use Rattle.claims.proofs.Counts.{not-true}
 use Rattle.claims.proofs.Sums.{sum-zero, sum-more, count-sum}
@@ -30,20 +29,6 @@ pub summed-all : (f : ℕ → ℕ) (cs : List ℕ) → summed (λ c. true) f cs 
 unfolding summed sum
 summed-all f [] = refl
 summed-all f (c ∷ cs) = ap (λ (n : ℕ). f c + n) (summed-all f cs)
-
--- a count is such a sum
-summed-ones : (t : ℕ → Bool) (cs : List ℕ) → summed t (λ c. 1) cs ≡ counted t cs
-unfolding summed counted
-summed-ones t [] = refl
-summed-ones t (c ∷ cs) = go (t c) (summed-ones t cs)
-  where
-    go : (b : Bool) → summed t (λ c. 1) cs ≡ counted t cs
-        → cond b (1 + summed t (λ c. 1) cs) (summed t (λ c. 1) cs) ≡ cond b (suc (counted t cs)) (counted t cs)
-    go true h = omega arith
-    go false h = h
-
-pub counted-none : (t : ℕ → Bool) (cs : List ℕ) → ((c : ℕ) → List·Memᴰ c cs → t c ≡ false) → counted t cs ≡ 0
-counted-none t cs h = sym (summed-ones t cs) ∙ summed-none t (λ c. 1) cs h
 
 -- each cell stands once
 pub data Once : List ℕ → Type 0 where
@@ -106,5 +91,7 @@ summed-cells n (c ∷ cs) u t f (once-on d o) r = go (t c) refl (λ v. summed-ce
           same = λ q m. r .same q (List·Memᴰ·tail m);
         })
 
-pub counted-cells : (n : ℕ) (cs : List ℕ) (u t : ℕ → Bool) → Once cs → SameTests n cs u t → count n u ≡ counted t cs
-counted-cells n cs u t o r = count-sum n u ∙ summed-cells n cs u t (λ c. 1) o r ∙ summed-ones t cs
+-- a count is such a sum
+pub counted-cells : (n : ℕ) (cs : List ℕ) (u t : ℕ → Bool) → Once cs → SameTests n cs u t
+    → count n u ≡ summed t (λ c. 1) cs
+counted-cells n cs u t o r = count-sum n u ∙ summed-cells n cs u t (λ c. 1) o r

@@ -2,13 +2,14 @@
 -- the slices lent.
 use mathlib.Core.Path.{_≡_, refl, ap, _∙_}
 use mathlib.Core.List.{List, map}
-use Prim.Native.Nat.{ℕ, _+_, _-_, _≤_}
+use Prim.Native.Nat.{ℕ, suc, _+_, _*_, _-_, _≤_}
 use native.Mathlib.Numerals.{add-one}
 use native.Mathlib.Omega.{arith}
 use lib.ListN.{length, getD, drop, set, length-set, length-map}
 use lib.Seq.{sets}
-use Rattle.sheet.specs.Label.{labelAt}
+use Rattle.sheet.specs.Record.{numbersOf, labelPlaces, labelAt}
 use Rattle.sheet.proofs.Lists.{written-whole}
+use Rattle.sheet.proofs.Slices.{numbers-length, places-enough}
 use Rattle.index.specs.Units.{UnitEntry}
 use Rattle.index.specs.Index.{LentIndex, lentIndex, writtenIndex}
 use Rattle.index.specs.Steps.{groupsOf, Group, Room}
@@ -17,7 +18,7 @@ use Rattle.index.proofs.Groups.{one-more, groups-past}
 -- entries written from a place on
 abbrev writtenFrom : ℕ → List UnitEntry → LentIndex → LentIndex
 writtenFrom at entries I =
-    lentIndex (sets (I .labels) at (map (λ (e : UnitEntry). e .label) entries))
+    lentIndex (sets (I .labels) (2 * at) (numbersOf (map (λ (e : UnitEntry). e .label) entries)))
     (sets (I .outlets) at (map (λ (e : UnitEntry). e .outlet) entries))
     (sets (I .counts) at (map (λ (e : UnitEntry). e .count) entries))
 
@@ -47,7 +48,7 @@ module _ (cells labels : List ℕ) (I : LentIndex) where
   room-left f g room =
       let more = one-more cells labels g in
       record {
-        labels = omega (arith, f .left, f .units, room .labels);
+        labels = omega (arith, f .left, ap labelPlaces (f .units), room .labels);
         outlets = omega (arith, f .left, f .outlets, room .outlets);
         counts = omega (arith, f .left, f .counts, room .counts);
       }
@@ -55,23 +56,31 @@ module _ (cells labels : List ℕ) (I : LentIndex) where
   pub filling-goes-on : {J : LentIndex} {at first last : ℕ} → Filling cells labels I J at first
       → Group cells labels first last
       → Filling cells labels I
-      (lentIndex (set (J .labels) at (labelAt labels (getD cells first 0))) (set (J .outlets) at (getD cells first 0))
-      (set (J .counts) at (last - first + 1))) (at + 1) (last + 1)
+      (lentIndex
+      (set (set (J .labels) (2 * at) (labelAt labels (getD cells first 0) .first)) (2 * at + 1)
+      (labelAt labels (getD cells first 0) .rest))
+      (set (J .outlets) at (getD cells first 0)) (set (J .counts) at (last - first + 1))) (at + 1) (last + 1)
+  unfolding numbersOf
   filling-goes-on {J} {at} {first} {last} f g = record {
     within = omega (arith, g .to);
     left = omega (arith, f .left, one-more cells labels g);
-    units = length-set (J .labels) at _ ∙ f .units;
+    units = rw (length-set, length-set) (f .units);
     outlets = length-set (J .outlets) at _ ∙ f .outlets;
     counts = length-set (J .counts) at _ ∙ f .counts;
-    to-do = rw (add-one at) (rw (g .is) at (f .to-do));
+    to-do =
+        let next : 2 * (at + 1) ≡ suc (suc (2 * at)) = omega arith in
+        rw (next, add-one (2 * at), add-one at) (rw (g .is) at (f .to-do));
   }
 
   pub filling-ends : {J : LentIndex} {at first : ℕ} → Filling cells labels I J at first → length cells ≤ first
       → Room (length (groupsOf cells labels)) I → J ≡ writtenIndex (groupsOf cells labels) I
+  unfolding numbersOf
   filling-ends {J} {at} {first} f l room =
       let g = groupsOf cells labels in
+      let room-for-numbers : length (numbersOf (map (λ (e : UnitEntry). e .label) g)) ≤ length (I .labels) =
+      rw (numbers-length, length-map) (places-enough (length g) _ (room .labels)) in
       rw (groups-past cells labels first l) at (f .to-do) ∙ rw (
-        written-whole (map (λ (e : UnitEntry). e .label) g) (I .labels) (rw length-map (room .labels)),
+        written-whole (numbersOf (map (λ (e : UnitEntry). e .label) g)) (I .labels) room-for-numbers,
         written-whole (map (λ (e : UnitEntry). e .outlet) g) (I .outlets) (rw length-map (room .outlets)),
         written-whole (map (λ (e : UnitEntry). e .count) g) (I .counts) (rw length-map (room .counts)),
       )

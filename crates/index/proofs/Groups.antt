@@ -5,42 +5,42 @@ use mathlib.Core.List.{List, [], _∷_}
 use Prim.Native.Nat.{ℕ, suc, _+_, _-_, _≤_, _<_}
 use native.Mathlib.Numerals.{add-one}
 use native.Mathlib.Omega.{arith}
-use lib.Dec.{eqb}
 use lib.ListN.{length, getD, drop, drop-of-length-le}
 use lib.Seq.{drop-cons}
-use borrow.Author.Tests.{eq-eqb, ne-eqb}
-use Rattle.sheet.specs.Label.{labelAt}
+use Rattle.sheet.specs.declared.Label.{Label}
+use Rattle.sheet.specs.Record.{sameLabel, labelAt}
+use Rattle.sheet.proofs.Records.{same-is, same-not}
 use Rattle.index.specs.Units.{UnitEntry, unitEntry}
 use Rattle.index.specs.Groups.{withCell, grouped}
 use Rattle.index.specs.Steps.{groupsOf, Group}
 
 -- m cells with one label in front of groups, as cells put there one by one
-pub led : ℕ → ℕ → ℕ → List UnitEntry → List UnitEntry
+pub led : Label → ℕ → ℕ → List UnitEntry → List UnitEntry
 led label cell m [] = unitEntry label cell m ∷ []
 led label cell m (e ∷ es) =
-    cond (eqb label (e .label)) (unitEntry label cell (m + e .count) ∷ es) (unitEntry label cell m ∷ e ∷ es)
+    cond (sameLabel label (e .label)) (unitEntry label cell (m + e .count) ∷ es) (unitEntry label cell m ∷ e ∷ es)
 
-led-one : (label cell : ℕ) (es : List UnitEntry) → withCell label cell es ≡ led label cell 1 es
+led-one : (label : Label) (cell : ℕ) (es : List UnitEntry) → withCell label cell es ≡ led label cell 1 es
 unfolding led withCell
 led-one label cell [] = refl
 led-one label cell (e ∷ es) = let more : suc (e .count) ≡ 1 + e .count = omega arith in rw more
 
-led-more : (label c d m : ℕ) (es : List UnitEntry) → led label c m (led label d 1 es) ≡ led label c (m + 1) es
+led-more : (label : Label) (c d m : ℕ) (es : List UnitEntry) → led label c m (led label d 1 es) ≡ led label c (m + 1) es
 unfolding led
-led-more label c d m [] = rw (eq-eqb label label refl)
-led-more label c d m (e ∷ es) = go (eqb label (e .label))
+led-more label c d m [] = rw (same-is label label refl)
+led-more label c d m (e ∷ es) = go (sameLabel label (e .label))
   where
     go : (same : Bool)
         → led label c m (cond same (unitEntry label d (1 + e .count) ∷ es) (unitEntry label d 1 ∷ e ∷ es))
         ≡ cond same (unitEntry label c (m + 1 + e .count) ∷ es) (unitEntry label c (m + 1) ∷ e ∷ es)
-    go true = let more : m + (1 + e .count) ≡ m + 1 + e .count = omega arith in rw (eq-eqb label label refl, more)
-    go false = rw (eq-eqb label label refl)
+    go true = let more : m + (1 + e .count) ≡ m + 1 + e .count = omega arith in rw (same-is label label refl, more)
+    go false = rw (same-is label label refl)
 
-led-other : (label other c d m : ℕ) (es : List UnitEntry) → eqb label other ≡ false
+led-other : (label other : Label) (c d m : ℕ) (es : List UnitEntry) → sameLabel label other ≡ false
     → led label c m (withCell other d es) ≡ unitEntry label c m ∷ withCell other d es
 unfolding led withCell
 led-other label other c d m [] h = rw h
-led-other label other c d m (e ∷ es) h = go (eqb other (e .label))
+led-other label other c d m (e ∷ es) h = go (sameLabel other (e .label))
   where
     go : (same : Bool)
         → led label c m (cond same (unitEntry other d (suc (e .count)) ∷ es) (unitEntry other d 1 ∷ e ∷ es))
@@ -49,7 +49,7 @@ led-other label other c d m (e ∷ es) h = go (eqb other (e .label))
     go false = rw h
 
 module _ (cells labels : List ℕ) where
-  abbrev labelOf : ℕ → ℕ
+  abbrev labelOf : ℕ → Label
   labelOf j = labelAt labels (getD cells j 0)
 
   groups-at : (j : ℕ) → j < length cells
@@ -100,7 +100,7 @@ module _ (cells labels : List ℕ) where
     is = r .is ∙ (rw (groups-at (last + 1) l)
         (led-other (labelOf first) (labelOf (last + 1)) (getD cells first 0) (getD cells (last + 1) 0)
         (last - first + 1) (groupsOf (drop (last + 1 + 1) cells) labels)
-        (ne-eqb (labelOf first) (labelOf (last + 1)) (λ e. other (sym e)))));
+        (same-not (labelOf first) (labelOf (last + 1)) (λ e. other (sym e)))));
   }
 
   pub one-more : {first last : ℕ} → Group cells labels first last

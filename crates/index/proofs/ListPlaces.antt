@@ -22,7 +22,8 @@ module _ {A : Type 0} (none : A) where
       go (inl e) f = (0, omega arith, sym e)
       go (inr k) f = let r = f k in (suc (r .0), omega (arith, r .1), r .2)
 
-  pub map-at : (f : A → ℕ) (cs : List A) (k : ℕ) → k < length cs → getD (map f cs) k 0 ≡ f (getD cs k none)
-  map-at f [] k l = absurd (omega arith)
-  map-at f (c ∷ cs) zero l = refl
-  map-at f (c ∷ cs) (suc k) l = map-at f cs k (omega arith)
+  pub map-at : {B : Type 0} (missing : B) (f : A → B) (cs : List A) (k : ℕ) → k < length cs
+      → getD (map f cs) k missing ≡ f (getD cs k none)
+  map-at missing f [] k l = absurd (omega arith)
+  map-at missing f (c ∷ cs) zero l = refl
+  map-at missing f (c ∷ cs) (suc k) l = map-at missing f cs k (omega arith)

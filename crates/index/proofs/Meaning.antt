@@ -2,23 +2,26 @@
 use mathlib.Core.Path.{_≡_, refl, sym, _∙_, ap}
 use mathlib.Core.Bool.{Bool, true, false, cond, true≢false}
 use mathlib.Core.Option.{Option, none, some}
-use mathlib.Core.List.{List, [], _∷_, map, List·Memᴰ, List·Memᴰ·head, List·Memᴰ·tail}
+use mathlib.Core.List.{List, [], _∷_, _++_, map, List·Memᴰ, List·Memᴰ·head, List·Memᴰ·tail}
 use Prim.Native.Nat.{ℕ, _≤_, _<_}
 use native.Mathlib.Omega.{arith}
-use lib.Dec.{eqb, ltb}
-use lib.ListN.{length, length-map, getD, take}
+use lib.Dec.{ltb}
+use lib.ListN.{length, length-map, getD, take, drop}
 use lib.Seq.{take-append-seam}
-use borrow.Author.Tests.{eqb-true, eqb-false, ltb-true, ltb-false}
+use borrow.Author.Tests.{ltb-true, ltb-false}
 use Rattle.sheet.specs.declared.Outcome.{Outcome}
 use Rattle.sheet.specs.declared.Outcome.the-variants.{Accepted, Refused as NotLabelled}
 use Rattle.sheet.specs.Sheet.{Sheet, cells, inside, next}
 use Rattle.sheet.specs.Water.{DrainsTo}
 use Rattle.sheet.specs.Area.{count}
-use Rattle.sheet.specs.Label.{number, digitsOf, labelDigits, labelAt}
+use Rattle.sheet.specs.declared.Label.{Label}
+use Rattle.sheet.specs.Record.{recordOf, digitsOf, noDigits, sameLabel, labelsIn, numbersOf, labelAt}
+use Rattle.sheet.specs.Label.{labelDigits}
 use Rattle.sheet.specs.Refusal.{Lent, both, outcome, lentAfter}
-use Rattle.sheet.proofs.Digits.{digits-number}
 use Rattle.sheet.specs.Flow.{every, isLabel}
-use Rattle.sheet.proofs.Within.{depth-most, digits-label}
+use Rattle.sheet.proofs.Within.{depth-most}
+use Rattle.sheet.proofs.Records.{digits-record, record-is-label, same-true, same-false}
+use Rattle.sheet.proofs.Slices.{labels-numbers}
 use Rattle.sheet.proofs.Cells.{inside-lt}
 use Rattle.claims.specs.Dictionary.{isBefore}
 use Rattle.claims.specs.Bounds.{sum}
@@ -51,9 +54,10 @@ use Rattle.index.proofs.Distinct.{CellOf, among-rise, among-has, among-
 use Rattle.index.proofs.Outlets.{of-unit, unit-of, begins-same, outlet-is}
 use Rattle.index.proofs.Partition.{counts-add}
 use Rattle.index.proofs.Columns.{units-long, label-column, outlet-column, count-column, column-at}
+use Rattle.index.proofs.Columns.{label-column-at}
 
-every-map : (test : ℕ → Bool) (xs : List (List ℕ)) → ((x : List ℕ) → List·Memᴰ x xs → test (number x) ≡ true)
-    → every test (map number xs) ≡ true
+every-map : (test : Label → Bool) (xs : List (List ℕ)) → ((x : List ℕ) → List·Memᴰ x xs → test (recordOf x) ≡ true)
+    → every test (map recordOf xs) ≡ true
 unfolding every
 every-map test [] h = refl
 every-map test (x ∷ xs) h =
@@ -72,21 +76,20 @@ module _ (S : Sheet) (L : Lent) (accepted : outcome S L ≡ Accepted) (I : LentI
   abbrev at : ℕ → List ℕ
   at k = getD (distinctLabels S) k []
 
-  -- a cell's digits have at most 18, and are those of its label
+  -- a cell's digits are at most 36, and are those of its label
   short : (c : ℕ) → length (labelDigits S c) ≤ greatestDepth
   short c = omega (arith, at-most-depth S L accepted c, depth-most (S .depth) (checks S L accepted .depth))
 
-  digits-back : (c : ℕ) → Inside S c → digitsOf (number (labelDigits S c)) ≡ labelDigits S c
-  digits-back c i = digits-number (labelDigits S c) (one-to-nine S L accepted c i) (omega (arith, short c))
+  digits-back : (c : ℕ) → Inside S c → digitsOf (recordOf (labelDigits S c)) ≡ labelDigits S c
+  digits-back c i = digits-record (labelDigits S c) (one-to-nine S L accepted c i) (short c)
 
-  is-label-18 : (c : ℕ) → Inside S c → isLabel greatestDepth (number (labelDigits S c)) ≡ true
-  unfolding isLabel
-  is-label-18 c i =
-      rw (digits-back c i) (digits-label greatestDepth (labelDigits S c) (one-to-nine S L accepted c i) (short c))
+  is-label-36 : (c : ℕ) → Inside S c → isLabel greatestDepth (recordOf (labelDigits S c)) ≡ true
+  is-label-36 c i =
+      record-is-label (labelDigits S c) (one-to-nine S L accepted c i) (short c) greatestDepth (short c)
 
   module _ (k : ℕ) (l : k < length (distinctLabels S)) where
-    label-at : indexLabel index k ≡ number (at k)
-    label-at = column-at number (distinctLabels S) _ (I .labels) k (label-column S) l
+    label-at : indexLabel index k ≡ recordOf (at k)
+    label-at = label-column-at (distinctLabels S) _ (I .labels) k (label-column S) l
 
     outlet-at : indexOutlet index k ≡ outletCell S (at k)
     outlet-at = column-at (outletCell S) (distinctLabels S) _ (I .outlets) k (outlet-column S) l
@@ -99,7 +102,7 @@ module _ (S : Sheet) (L : Lent) (accepted : outcome S L ≡ Accepted) (I : LentI
     unfolding distinctLabels
     cell-of = among-from S (cells (S .grid)) (at k) (at-place [] (distinctLabels S) k l)
 
-    digits-of : digitsOf (number (at k)) ≡ at k
+    digits-of : digitsOf (recordOf (at k)) ≡ at k
     digits-of = let c = cell-of in rw (c .named) at (digits-back (c .cell) (c .is-inside))
 
     digits-at : digitsOf (indexLabel index k) ≡ at k
@@ -116,7 +119,7 @@ module _ (S : Sheet) (L : Lent) (accepted : outcome S L ≡ Accepted) (I : LentI
     shares-label c s =
         let i = s .is-inside in
         let e = shares-same c i (rw (digits-written S L accepted c i) at (s .begins)) in
-        record { is-inside = i; named = label-written S L accepted c i ∙ ap number e ∙ sym label-at }
+        record { is-inside = i; named = label-written S L accepted c i ∙ ap recordOf e ∙ sym label-at }
 
     label-shares : (c : ℕ) → HasLabel S labels (indexLabel index k) c → Shares (Inside S) (digitsAt labels) (at k) c
     label-shares c h = record {
@@ -167,22 +170,22 @@ module _ (S : Sheet) (L : Lent) (accepted : outcome S L ≡ Accepted) (I : LentI
 
     -- the test of a unit's cells by digits and by the label that was written
     pub same-test : (c : ℕ) → isOfUnit S (at k) c
-        ≡ both (inside (S .grid) c) (eqb (labelAt labels c) (indexLabel index k))
-    same-test c = go (inside (S .grid) c) refl (eqb (labelAt labels c) (indexLabel index k)) refl
+        ≡ both (inside (S .grid) c) (sameLabel (labelAt labels c) (indexLabel index k))
+    same-test c = go (inside (S .grid) c) refl (sameLabel (labelAt labels c) (indexLabel index k)) refl
       where
-        go : (s : Bool) → inside (S .grid) c ≡ s → (t : Bool) → eqb (labelAt labels c) (indexLabel index k) ≡ t
+        go : (s : Bool) → inside (S .grid) c ≡ s → (t : Bool) → sameLabel (labelAt labels c) (indexLabel index k) ≡ t
             → isOfUnit S (at k) c ≡ both s t
         go true i true e =
             of-unit S c (at k) i
-            (sym (digits-written S L accepted c i) ∙ ap digitsOf (eqb-true _ _ e) ∙ digits-at)
+            (sym (digits-written S L accepted c i) ∙ ap digitsOf (same-true _ _ e) ∙ digits-at)
         go true i false e =
             not-true _
-            (λ u. eqb-false _ _ e
-            (label-written S L accepted c i ∙ ap number (unit-of S c (at k) u .1) ∙ sym label-at))
+            (λ u. same-false _ _ e
+            (label-written S L accepted c i ∙ ap recordOf (unit-of S c (at k) u .1) ∙ sym label-at))
         go false i t e = not-true _ (λ u. true≢false (sym (unit-of S c (at k) u .0) ∙ i))
 
     count-is : indexCount index k
-        ≡ count (cells (S .grid)) (λ c. both (inside (S .grid) c) (eqb (labelAt labels c) (indexLabel index k)))
+        ≡ count (cells (S .grid)) (λ c. both (inside (S .grid) c) (sameLabel (labelAt labels c) (indexLabel index k)))
     unfolding unitCells
     count-is =
         count-at ∙ count-sum (cells (S .grid)) (isOfUnit S (at k))
@@ -199,7 +202,7 @@ module _ (S : Sheet) (L : Lent) (accepted : outcome S L ≡ Accepted) (I : LentI
       → indexLabel index i ≡ indexLabel index k → i ≡ k
   stands-once i k l h e = go (ltb i k) refl (ltb k i) refl
     where
-      unlike : {a b : ℕ} → isBefore (digitsOf a) (digitsOf b) ≡ true → a ≡ b → ⊥
+      unlike : {a b : Label} → isBefore (digitsOf a) (digitsOf b) ≡ true → a ≡ b → ⊥
       unlike {a} {b} r q = true≢false (sym r ∙ rw q (before-irreflexive (digitsOf b)))
 
       go : (s : Bool) → ltb i k ≡ s → (t : Bool) → ltb k i ≡ t → i ≡ k
@@ -213,40 +216,43 @@ module _ (S : Sheet) (L : Lent) (accepted : outcome S L ≡ Accepted) (I : LentI
       ∙ take-append-seam (map (λ (e : UnitEntry). e .count) (units S)) _ ∙ count-column S
 
   -- the labels of the index, as a list
-  all-labels : take (length (units S)) (index .labels) ≡ map number (distinctLabels S)
+  all-labels : take (length (units S)) (labelsIn (index .labels)) ≡ map recordOf (distinctLabels S)
   all-labels =
-      ap (λ (n : ℕ). take n (index .labels)) (sym (length-map (units S) (λ (e : UnitEntry). e .label)))
-      ∙ take-append-seam (map (λ (e : UnitEntry). e .label) (units S)) _ ∙ label-column S
+      let new = map (λ (e : UnitEntry). e .label) (units S) in
+      ap (take (length (units S))) (labels-numbers new (drop (length (numbersOf new)) (I .labels)))
+      ∙ ap (λ (n : ℕ). take n (new ++ labelsIn (drop (length (numbersOf new)) (I .labels))))
+      (sym (length-map (units S) (λ (e : UnitEntry). e .label)))
+      ∙ take-append-seam new _ ∙ label-column S
 
-  are-labels : every (isLabel greatestDepth) (map number (distinctLabels S)) ≡ true
+  are-labels : every (isLabel greatestDepth) (map recordOf (distinctLabels S)) ≡ true
   unfolding distinctLabels
   are-labels =
       every-map (isLabel greatestDepth) (distinctLabels S)
       (λ x m.
       let c = among-from S (cells (S .grid)) x m in
-      rw (c .named) at (is-label-18 (c .cell) (c .is-inside)))
+      rw (c .named) at (is-label-36 (c .cell) (c .is-inside)))
 
-  rise-numbers : PairsRise (map number (distinctLabels S))
+  rise-records : PairsRise (map recordOf (distinctLabels S))
   unfolding distinctLabels
-  rise-numbers = record {
+  rise-records = record {
     earlier = λ i j l h.
-        let k : j < length (distinctLabels S) = rw (length-map (distinctLabels S) number) at h in
-        let a = map-at [] number (distinctLabels S) i (omega arith) in
-        let b = map-at [] number (distinctLabels S) j k in
+        let k : j < length (distinctLabels S) = rw (length-map (distinctLabels S) recordOf) at h in
+        let a = map-at [] noDigits recordOf (distinctLabels S) i (omega arith) in
+        let b = map-at [] noDigits recordOf (distinctLabels S) j k in
         rw (a, b, digits-of i (omega arith), digits-of j k) (rise-at (among-rise S (cells (S .grid))) i j l k);
   }
 
-  finds : (leading : ℕ) → isLabel greatestDepth leading ≡ true
-      → LookupFinds leading (take (length (units S)) (index .labels))
+  finds : (leading : Label) → isLabel greatestDepth leading ≡ true
+      → LookupFinds leading (take (length (units S)) (labelsIn (index .labels)))
   unfolding lookupAnswer
   finds leading e =
       rw all-labels
-      (let r = pairs-rising (map number (distinctLabels S)) rise-numbers in
-      let f : LookupFinds leading (map number (distinctLabels S)) = record {
-        start = startOf leading (map number (distinctLabels S));
-        count = lengthOf leading (map number (distinctLabels S));
+      (let r = pairs-rising (map recordOf (distinctLabels S)) rise-records in
+      let f : LookupFinds leading (map recordOf (distinctLabels S)) = record {
+        start = startOf leading (map recordOf (distinctLabels S));
+        count = lengthOf leading (map recordOf (distinctLabels S));
         answer = rw (e, are-labels, r);
-        part = rising-exactly leading (map number (distinctLabels S)) r;
+        part = rising-exactly leading (map recordOf (distinctLabels S)) r;
       } in f)
 
   pub means : IndexMeaning S labels (length (units S)) index
@@ -257,7 +263,7 @@ module _ (S : Sheet) (L : Lent) (accepted : outcome S L ≡ Accepted) (I : LentI
         let p = place-of [] (distinctLabels S) (among-has S (cells (S .grid)) c (inside-lt (S .grid) c i) i) in (
           p .0,
           omega (arith, p .1, units-long S),
-          label-at (p .0) (p .1) ∙ ap number (p .2) ∙ sym (label-written S L accepted c i),
+          label-at (p .0) (p .1) ∙ ap recordOf (p .2) ∙ sym (label-written S L accepted c i),
         );
     once = λ i k l h e. stands-once i k (omega (arith, units-long S)) (omega (arith, units-long S)) e;
     no-other = λ k l.
@@ -266,7 +272,7 @@ module _ (S : Sheet) (L : Lent) (accepted : outcome S L ≡ Accepted) (I : LentI
           c .cell,
           record {
             is-inside = c .is-inside;
-            named = label-written S L accepted (c .cell) (c .is-inside) ∙ ap number (c .named) ∙ sym (label-at k h);
+            named = label-written S L accepted (c .cell) (c .is-inside) ∙ ap recordOf (c .named) ∙ sym (label-at k h);
           },
         );
     outlet = λ k l. outlet-drains k (omega (arith, units-long S));

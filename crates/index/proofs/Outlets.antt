@@ -5,20 +5,20 @@ use mathlib.Core.List.{List}
 use mathlib.Core.Logic.{_≢_}
 use Prim.Native.Nat.{ℕ, zero, suc, _<_}
 use native.Mathlib.Omega.{arith}
-use lib.Dec.{eqb}
 use lib.ListN.{length, getD}
-use borrow.Author.Tests.{eqb-true, eqb-false}
 use Rattle.sheet.specs.declared.Next.{Next}
 use Rattle.sheet.specs.declared.Next.the-variants.{Outlet, To}
 use Rattle.sheet.specs.declared.Outcome.the-variants.{Accepted}
 use Rattle.sheet.specs.Sheet.{Sheet, cells, inside, next}
 use Rattle.sheet.specs.Water.{here, there, Drains, drained, drains-on, DrainsTo, onward}
 use Rattle.sheet.specs.River.{network}
-use Rattle.sheet.specs.Label.{labelDigits, labelAt, digitsOf, cellFound}
+use Rattle.sheet.specs.Record.{digitsOf, sameLabel, labelAt}
+use Rattle.sheet.specs.Label.{labelDigits, cellFound}
 use Rattle.sheet.specs.Refusal.{Lent, both, outcome, lentAfter}
 use Rattle.sheet.proofs.First.{first-at}
 use Rattle.sheet.proofs.Cells.{inside-lt}
 use Rattle.sheet.proofs.Within.{both-true}
+use Rattle.sheet.proofs.Records.{same-true as label-true, same-false as label-false}
 use Rattle.claims.specs.Demand.{Shares, Inside, digitsAt}
 use Rattle.claims.specs.Parting.{Begins, begins-none, begins-on}
 use Rattle.claims.proofs.Runs.{pass-both}
@@ -52,16 +52,16 @@ module _ (S : Sheet) (L : Lent) (accepted : outcome S L ≡ Accepted) where
   pub begins-same : (c r : ℕ) → Inside S c → Inside S r → Begins (labelDigits S c) (labelDigits S r)
       → labelDigits S r ≡ labelDigits S c
   begins-same c r i j b =
-      go (eqb (labelAt (lentAfter S L .labels) c) (labelAt (lentAfter S L .labels) r)) refl
+      go (sameLabel (labelAt (lentAfter S L .labels) c) (labelAt (lentAfter S L .labels) r)) refl
     where
       w : (q : ℕ) → Inside S q → digitsAt (lentAfter S L .labels) q ≡ labelDigits S q
       w = digits-written S L accepted
 
-      go : (t : Bool) → eqb (labelAt (lentAfter S L .labels) c) (labelAt (lentAfter S L .labels) r) ≡ t
+      go : (t : Bool) → sameLabel (labelAt (lentAfter S L .labels) c) (labelAt (lentAfter S L .labels) r) ≡ t
           → labelDigits S r ≡ labelDigits S c
-      go true e = sym (w r j) ∙ ap digitsOf (sym (eqb-true _ _ e)) ∙ w c i
+      go true e = sym (w r j) ∙ ap digitsOf (sym (label-true _ _ e)) ∙ w c i
       go false e =
-          let p = demand-three S L accepted .labels-part c r i j (eqb-false _ _ e) in
+          let p = demand-three S L accepted .labels-part c r i j (label-false _ _ e) in
           let q = rw (w c i, w r j) at (p .1) in
           absurd (q .differ (begins-at b (p .0) (q .in-x)))
 

@@ -4,10 +4,10 @@ use mathlib.Core.Bool.{Bool, true, false, cond}
 use mathlib.Core.List.{List, [], _∷_}
 use Prim.Native.Nat.{ℕ, suc, _≤_}
 use native.Mathlib.Omega.{arith}
-use lib.Dec.{eqb, leb}
+use lib.Dec.{leb}
 use lib.ListN.{length}
 use borrow.Author.Tests.{leb-true, le-leb}
-use Rattle.sheet.specs.Label.{labelAt}
+use Rattle.sheet.specs.Record.{sameLabel, labelPlaces, labelAt}
 use Rattle.sheet.proofs.Within.{both-true}
 use Rattle.index.specs.declared.Indexed.the-variants.{Units, Refused}
 use Rattle.index.specs.Units.{UnitEntry, unitEntry}
@@ -19,7 +19,7 @@ module _ (I : LentIndex) where
   pub fits-room : (count : ℕ) → indexFits count I ≡ true → Room count I
   unfolding indexFits
   fits-room count e =
-      let a = both-true (leb count (length (I .labels))) _ e in
+      let a = both-true (leb count (labelPlaces (length (I .labels)))) _ e in
       let b = both-true (leb count (length (I .outlets))) (leb count (length (I .counts))) (a .1) in
       record { labels = leb-true _ _ (a .0); outlets = leb-true _ _ (b .0); counts = leb-true _ _ (b .1) }
 
@@ -44,9 +44,10 @@ unfolding grouped
 groups-few [] labels = omega arith
 groups-few (c ∷ cs) labels = one-more (grouped (labelAt labels) cs) (groups-few cs labels)
   where
-    one-more : (es : List UnitEntry) → length es ≤ length cs → length (withCell (labelAt labels c) c es) ≤ suc (length cs)
+    one-more : (es : List UnitEntry) → length es ≤ length cs
+        → length (withCell (labelAt labels c) c es) ≤ suc (length cs)
     one-more [] l = omega arith
-    one-more (e ∷ es) l = go (eqb (labelAt labels c) (e .label))
+    one-more (e ∷ es) l = go (sameLabel (labelAt labels c) (e .label))
       where
         go : (b : Bool)
             → length (cond b (unitEntry (labelAt labels c) c (suc (e .count)) ∷ es)

@@ -7,6 +7,7 @@ use lib.ListN.{length, take, drop, replicate, length-take, length-drop}
 use Rattle.sheet.specs.declared.Outcome.{Outcome}
 use Rattle.sheet.specs.declared.Outcome.the-variants.{Accepted, Refused as NotLabelled}
 use Rattle.sheet.specs.Sheet.{Sheet, Grid, cells}
+use Rattle.sheet.specs.Record.{labelPlaces}
 use Rattle.sheet.specs.Label.{areasOf, labelsOf}
 use Rattle.sheet.specs.Refusal.{Lent, outcome, ifAccepted, lentAfter}
 use Rattle.directions.specs.Sizes.{mostCells}
@@ -24,7 +25,7 @@ use Rattle.index.proofs.UnitsInOrder.{groups-are-units}
 
 -- from the order along rivers to the cells that the units are written from
 pub in-order : {G : Grid} {areas work labels : List ℕ} {queued : ℕ} → cells G ≤ mostCells
-    → length work ≡ 8 * cells G → cells G ≤ length labels → Arranged G areas work queued
+    → length work ≡ 8 * cells G → cells G ≤ labelPlaces (length labels) → Arranged G areas work queued
     → InOrder (cells G) work labels queued
 in-order {G} {areas} {work} {labels} {queued} small long enough r =
     let part = drop (cellsPart * cells G) work in

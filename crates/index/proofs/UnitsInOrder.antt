@@ -4,14 +4,15 @@ use mathlib.Core.Bool.{Bool, true, false}
 use mathlib.Core.List.{List, [], _∷_, map, map-id, List·Memᴰ, List·Memᴰ·head, List·Memᴰ·tail, Memᴰ·map, Memᴰ·of-map}
 use Prim.Native.Nat.{ℕ, suc, _≤_, _<_}
 use native.Mathlib.Omega.{arith}
-use lib.Dec.{eqb}
 use lib.ListN.{length, getD}
-use borrow.Author.Tests.{eqb-true, eqb-false}
+use Rattle.sheet.specs.declared.Label.{Label}
 use Rattle.sheet.specs.declared.Outcome.the-variants.{Accepted}
 use Rattle.sheet.specs.Sheet.{Sheet, cells, next}
-use Rattle.sheet.specs.Label.{number, digitsOf, labelDigits, labelAt, areasOf}
+use Rattle.sheet.specs.Record.{recordOf, digitsOf, sameLabel, labelAt}
+use Rattle.sheet.specs.Label.{labelDigits, areasOf}
 use Rattle.sheet.specs.Refusal.{Lent, outcome, written, lentAfter}
 use Rattle.sheet.proofs.Cells.{inside-lt}
+use Rattle.sheet.proofs.Records.{same-true, same-false}
 use Rattle.claims.specs.Demand.{Inside, digitsAt}
 use Rattle.claims.specs.Dictionary.{NotAfter}
 use Rattle.claims.proofs.Counts.{not-true}
@@ -32,8 +33,8 @@ use Rattle.index.proofs.Outlets.{of-unit, unit-of, outlet-is}
 
 -- ---- a list of cells by its places
 
-never-fall : (label : ℕ → ℕ) (cs : List ℕ)
-    → ((i : ℕ) → i < length cs → number (digitsOf (label (getD cs i 0))) ≡ label (getD cs i 0))
+never-fall : (label : ℕ → Label) (cs : List ℕ)
+    → ((i : ℕ) → i < length cs → recordOf (digitsOf (label (getD cs i 0))) ≡ label (getD cs i 0))
     → ((i j : ℕ) → i ≤ j → j < length cs → NotAfter (digitsOf (label (getD cs i 0))) (digitsOf (label (getD cs j 0))))
     → NeverFall label cs
 never-fall label [] told falls = fall-none
@@ -71,7 +72,7 @@ module _ (S : Sheet) (L : Lent) (old : List ℕ) {areas work : List ℕ} {queued
   abbrev cs : List ℕ
   cs = cellsIn (cells (S .grid)) work queued
 
-  abbrev label : ℕ → ℕ
+  abbrev label : ℕ → Label
   label = labelAt (lentAfter S L .labels)
 
   order : InLabelOrder (next (S .grid)) (Inside S) (digitsAt (lentAfter S L .labels)) cs 0 queued
@@ -83,8 +84,8 @@ module _ (S : Sheet) (L : Lent) (old : List ℕ) {areas work : List ℕ} {queued
   long : length cs ≡ queued
   long = arranged .long
 
-  told : (c : ℕ) → Inside S c → number (digitsOf (label c)) ≡ label c
-  told c i = ap number (digits-written S L accepted c i) ∙ sym (label-written S L accepted c i)
+  told : (c : ℕ) → Inside S c → recordOf (digitsOf (label c)) ≡ label c
+  told c i = ap recordOf (digits-written S L accepted c i) ∙ sym (label-written S L accepted c i)
 
   pub listed-inside : (c : ℕ) → List·Memᴰ c cs → Inside S c
   listed-inside c m =
@@ -145,31 +146,31 @@ module _ (S : Sheet) (L : Lent) (old : List ℕ) {areas work : List ℕ} {queued
       let i = label-written S L accepted (getD cs k 0) (order .are-inside k a (omega (arith, long))) in
       let j = label-written S L accepted (getD cs (g .place) 0)
       (order .are-inside (g .place) (omega arith) (omega (arith, long))) in
-      g .first k (omega arith) (i ∙ ap number q ∙ sym j ∙ ap label (g .at) ∙ g .named))))
+      g .first k (omega arith) (i ∙ ap recordOf q ∙ sym j ∙ ap label (g .at) ∙ g .named))))
 
-  entry-told : (e : UnitEntry) → List·Memᴰ e (grouped label cs) → number (entryDigits e) ≡ e .label
+  entry-told : (e : UnitEntry) → List·Memᴰ e (grouped label cs) → recordOf (entryDigits e) ≡ e .label
   entry-told e m = rw (groups .each e m .named) at (told (e .outlet) (entry-inside e m))
 
   -- a listed cell is of an entry's unit exactly if it has its label
   same-test : (e : UnitEntry) → List·Memᴰ e (grouped label cs) → (c : ℕ) → List·Memᴰ c cs
-      → isOfUnit S (entryDigits e) c ≡ eqb (label c) (e .label)
-  same-test e m c k = go (eqb (label c) (e .label)) refl
+      → isOfUnit S (entryDigits e) c ≡ sameLabel (label c) (e .label)
+  same-test e m c k = go (sameLabel (label c) (e .label)) refl
     where
       i : Inside S c
       i = listed-inside c k
 
-      go : (b : Bool) → eqb (label c) (e .label) ≡ b → isOfUnit S (entryDigits e) c ≡ b
+      go : (b : Bool) → sameLabel (label c) (e .label) ≡ b → isOfUnit S (entryDigits e) c ≡ b
       go true q =
           of-unit S c (entryDigits e) i
-          (sym (digits-written S L accepted c i) ∙ ap digitsOf (eqb-true (label c) (e .label) q))
+          (sym (digits-written S L accepted c i) ∙ ap digitsOf (same-true (label c) (e .label) q))
       go false q =
           not-true _
-          (λ u. eqb-false (label c) (e .label) q
-          (label-written S L accepted c i ∙ ap number (unit-of S c (entryDigits e) u .1) ∙ entry-told e m))
+          (λ u. same-false (label c) (e .label) q
+          (label-written S L accepted c i ∙ ap recordOf (unit-of S c (entryDigits e) u .1) ∙ entry-told e m))
 
   -- so the listed cells with its label are the cells of its unit
   pub entry-tests : (e : UnitEntry) → List·Memᴰ e (grouped label cs)
-      → SameTests (cells (S .grid)) cs (isOfUnit S (entryDigits e)) (λ c. eqb (label c) (e .label))
+      → SameTests (cells (S .grid)) cs (isOfUnit S (entryDigits e)) (λ c. sameLabel (label c) (e .label))
   entry-tests e m = record {
     below = λ c k. inside-lt (S .grid) c (listed-inside c k);
     listed = λ q l h. inside-listed q (unit-of S q (entryDigits e) h .0);
@@ -179,7 +180,7 @@ module _ (S : Sheet) (L : Lent) (old : List ℕ) {areas work : List ℕ} {queued
   entry-count : (e : UnitEntry) → List·Memᴰ e (grouped label cs) → unitCells S (entryDigits e) ≡ e .count
   unfolding unitCells
   entry-count e m =
-      counted-cells (cells (S .grid)) cs (isOfUnit S (entryDigits e)) (λ c. eqb (label c) (e .label)) listed-once
+      counted-cells (cells (S .grid)) cs (isOfUnit S (entryDigits e)) (λ c. sameLabel (label c) (e .label)) listed-once
       (entry-tests e m)
       ∙ sym (groups .each e m .has-count)
 

@@ -8,12 +8,14 @@ use lib.ListN.{length}
 use Rattle.sheet.specs.declared.Outcome.{Outcome}
 use Rattle.sheet.specs.declared.Outcome.the-variants.{Accepted, Refused as NotLabelled}
 use Rattle.sheet.specs.Sheet.{Sheet}
+use Rattle.sheet.specs.Record.{numbersOf, labelPlaces}
 use Rattle.sheet.specs.Refusal.{Lent, both, outcome, written}
 use Rattle.index.specs.declared.Indexed.{Indexed}
 use Rattle.index.specs.declared.Indexed.the-variants.{Units, Refused}
 use Rattle.index.specs.Units.{UnitEntry, units}
 
--- what is lent for the index beside what labelling is lent: labels (64-bit), outlet cells (32-bit), counts (32-bit)
+-- what is lent for the index beside what labelling is lent: labels (two 64-bit numbers each), outlet cells (32-bit),
+-- counts (32-bit)
 pub record LentIndex : Type 0 where
   pub labels : List ℕ
   pub outlets : List ℕ
@@ -24,8 +26,9 @@ lentIndex labels outlets counts = record { labels = labels; outlets = outlets; c
 
 -- each of the three slices has a place for each of so many units
 unfoldable pub indexFits : ℕ → LentIndex → Bool
+unfolding labelPlaces
 indexFits units I =
-    both (leb units (length (I .labels)))
+    both (leb units (labelPlaces (length (I .labels))))
     (both (leb units (length (I .outlets))) (leb units (length (I .counts))))
 
 -- the number of units; 3 where one of the three slices is too short for them
@@ -56,7 +59,7 @@ indexedValues (Refused number place) = record { number = number; place = place; 
 -- the first places of the three slices written with the entries' labels, outlets and counts; the others keep theirs
 abbrev pub writtenIndex : List UnitEntry → LentIndex → LentIndex
 writtenIndex entries I =
-    lentIndex (written (map (λ (e : UnitEntry). e .label) entries) (I .labels))
+    lentIndex (written (numbersOf (map (λ (e : UnitEntry). e .label) entries)) (I .labels))
     (written (map (λ (e : UnitEntry). e .outlet) entries) (I .outlets))
     (written (map (λ (e : UnitEntry). e .count) entries) (I .counts))
 
@@ -67,5 +70,5 @@ ifIndexed (Refused number place) entries I = I
 
 -- what the three slices hold after the call; areas, labels and work places are those after labelling (lentAfter)
 unfoldable pub indexAfter : Sheet → Lent → LentIndex → LentIndex
-unfolding indexed units
+unfolding indexed units numbersOf
 indexAfter S L I = ifIndexed (indexed S L I) (units S) I

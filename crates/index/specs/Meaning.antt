@@ -4,12 +4,12 @@ use mathlib.Core.Bool.{true}
 use mathlib.Core.List.{List}
 -- some of these only must-fail edits need
 use Prim.Native.Nat.{ℕ, _+_, _≤_, _<_}
-use lib.Dec.{eqb}
 use lib.ListN.{getD, take}
 use Rattle.sheet.specs.Sheet.{Sheet, cells, inside, next}
 use Rattle.sheet.specs.Water.{DrainsTo}
 use Rattle.sheet.specs.Area.{count}
-use Rattle.sheet.specs.Label.{digitsOf, labelAt}
+use Rattle.sheet.specs.declared.Label.{Label}
+use Rattle.sheet.specs.Record.{digitsOf, sameLabel, labelsIn, labelAt}
 use Rattle.sheet.specs.Refusal.{Lent, both, lentAfter}
 use Rattle.sheet.specs.Flow.{isLabel}
 use Rattle.claims.specs.Dictionary.{isBefore}
@@ -26,7 +26,7 @@ use Rattle.index.specs.Index.{LentIndex, indexed, indexAfter}
 use Rattle.index.specs.FromIntake.{intakeIndexed, intakeIndexAfter}
 
 -- the label of the unit at a place of the index, its outlet cell and its count of cells
-abbrev pub indexLabel : LentIndex → ℕ → ℕ
+abbrev pub indexLabel : LentIndex → ℕ → Label
 indexLabel I k = labelAt (I .labels) k
 
 abbrev pub indexOutlet : LentIndex → ℕ → ℕ
@@ -36,7 +36,7 @@ abbrev pub indexCount : LentIndex → ℕ → ℕ
 indexCount I k = getD (I .counts) k 0
 
 -- an inside cell with a label
-pub record HasLabel (S : Sheet) (labels : List ℕ) (label c : ℕ) : Type 0 where
+pub record HasLabel (S : Sheet) (labels : List ℕ) (label : Label) (c : ℕ) : Type 0 where
   pub is-inside : Inside S c
   pub named : labelAt labels c ≡ label
 
@@ -62,11 +62,12 @@ pub record IndexMeaning (S : Sheet) (labels : List ℕ) (units : ℕ) (I : LentI
   -- the counts are those of the cells with that label, and add up to the number of inside cells
   pub counts : (k : ℕ) → k < units
       → indexCount I k
-      ≡ count (cells (S .grid)) (λ c. both (inside (S .grid) c) (eqb (labelAt labels c) (indexLabel I k)))
+      ≡ count (cells (S .grid)) (λ c. both (inside (S .grid) c) (sameLabel (labelAt labels c) (indexLabel I k)))
   pub counts-add : sum (λ m. m) (take units (I .counts)) ≡ count (cells (S .grid)) (inside (S .grid))
   -- a lookup in it is never refused for leading digits that are a label, and hands back exactly the labels that begin
-  -- so
-  pub lookups : (leading : ℕ) → isLabel greatestDepth leading ≡ true → LookupFinds leading (take units (I .labels))
+  -- so; its labels are those of the first 2 × units numbers (sheet/proofs/Slices.antt: labels-take)
+  pub lookups : (leading : Label) → isLabel greatestDepth leading ≡ true
+      → LookupFinds leading (take units (labelsIn (I .labels)))
 
 -- what the contract of `index` promises where it is accepted: L and I were lent, and L′ and I′ are what the slices
 -- hold afterwards

@@ -4,7 +4,8 @@ use mathlib.Core.List.{List, _∷_}
 use Prim.Native.Nat.{ℕ, _+_, _*_, _-_, _^_, _≤_, _<_}
 use lib.ListN.{length, getD, drop, replicate}
 use Rattle.sheet.specs.Sheet.{Sheet, cells}
-use Rattle.sheet.specs.Label.{areasOf, labelsOf, labelAt}
+use Rattle.sheet.specs.Record.{labelPlaces, labelAt}
+use Rattle.sheet.specs.Label.{areasOf, labelsOf}
 use Rattle.sheet.specs.Refusal.{Lent, outcomeFrom17, ifAccepted}
 use Rattle.directions.specs.Sizes.{mostCells}
 use Rattle.upstream.specs.Work.{cellsPart}
@@ -17,7 +18,7 @@ use Rattle.index.specs.Index.{LentIndex, indexedOn, ifIndexed}
 -- cells that have labels, so few that a count of them fits 32 bits
 pub record CellsLabelled (cells labels : List ℕ) : Type 0 where
   pub few : length cells < 2 ^ 32
-  pub on : (j : ℕ) → j < length cells → getD cells j 0 < length labels
+  pub on : (j : ℕ) → j < length cells → getD cells j 0 < labelPlaces (length labels)
 
 -- the groups of a list of cells, by their labels
 abbrev pub groupsOf : List ℕ → List ℕ → List UnitEntry
@@ -33,7 +34,7 @@ pub record Group (cells labels : List ℕ) (first last : ℕ) : Type 0 where
 
 -- each of the three slices has a place for each of so many units
 pub record Room (units : ℕ) (I : LentIndex) : Type 0 where
-  pub labels : units ≤ length (I .labels)
+  pub labels : units ≤ labelPlaces (length (I .labels))
   pub outlets : units ≤ length (I .outlets)
   pub counts : units ≤ length (I .counts)
 

@@ -7,7 +7,9 @@ use lib.Dec.{eqb}
 use Rattle.sheet.specs.Sheet.{Sheet, cells, inside, next, first}
 use Rattle.sheet.specs.Water.{onward}
 use Rattle.sheet.specs.Area.{count}
-use Rattle.sheet.specs.Label.{number, labelDigits, cellFound}
+use Rattle.sheet.specs.declared.Label.{Label}
+use Rattle.sheet.specs.Record.{recordOf}
+use Rattle.sheet.specs.Label.{labelDigits, cellFound}
 use Rattle.sheet.specs.Refusal.{both}
 use Rattle.claims.specs.Dictionary.{isBefore}
 
@@ -64,19 +66,19 @@ unfoldable pub unitCells : Sheet → List ℕ → ℕ
 unfolding isOfUnit count
 unitCells S x = count (cells (S .grid)) (isOfUnit S x)
 
--- an entry of the index, its label as one number
+-- an entry of the index, its label as a record
 pub record UnitEntry : Type 0 where
-  pub label : ℕ
+  pub label : Label
   pub outlet : ℕ
   pub count : ℕ
 
-abbrev pub unitEntry : ℕ → ℕ → ℕ → UnitEntry
+abbrev pub unitEntry : Label → ℕ → ℕ → UnitEntry
 unitEntry label outlet count = record { label = label; outlet = outlet; count = count }
 
 -- the entry of the unit x
 unfoldable pub entryOfUnit : Sheet → List ℕ → UnitEntry
-unfolding number outletCell unitCells
-entryOfUnit S x = unitEntry (number x) (outletCell S x) (unitCells S x)
+unfolding recordOf outletCell unitCells
+entryOfUnit S x = unitEntry (recordOf x) (outletCell S x) (unitCells S x)
 
 -- the index of a sheet's units
 unfoldable pub units : Sheet → List UnitEntry

@@ -95,9 +95,9 @@ fn index_fitting(
     answer
 }
 
-// Labels a sheet as `labelling::label` does, and fills the index of its units: `units` gets their labels. The answer is
-// the number of units; refused as labelling is, then by 3 if a slice of the index has too few places for them. Refused,
-// no place of the index is written; areas and labels are written once labelling is accepted.
+// Labels a sheet as `labelling::label` does, and fills the index of its units: `units` gets their labels, two numbers
+// each. The answer is the number of units; refused as labelling is, then by 3 if a slice of the index has too few
+// places for them. Refused, no place of the index is written; areas and labels are written once labelling is accepted.
 pub fn index(
     rows: usize,
     cols: usize,

@@ -1,5 +1,7 @@
 // Groups of cells with the same label, counted and written as entries of an index.
 use crate::Indexed;
+use checks::label_at;
+use checks::same_label;
 ghost use mathlib.Core.Path.{_≡_};
 ghost use Prim.Native.Nat.{_<_};
 ghost use lib.Dec.{leb};
@@ -14,14 +16,15 @@ fn last_of_group(cells: &[u32], labels: &[u64], first: usize) -> usize
     requires { ⌜ first < length (now cells) ⌝ }
     ensures { λ r. ⌜ Group (now (cells .entry)) (now (labels .entry)) first r ⌝ }
 {
-    let label = labels[cells[first] as usize];
+    let label = label_at(labels, cells[first] as usize);
     let mut last = first;
     while last + 1 < cells.len() {
         let next = last + 1;
-        if labels[cells[next] as usize] != label {
+        if same_label(label_at(labels, cells[next] as usize), label) {
+            last = next;
+        } else {
             return last;
         }
-        last = next;
     }
     last
 }
@@ -60,7 +63,9 @@ fn fill_units(
     let mut first = 0;
     while first < cells.len() {
         let last = last_of_group(cells, labels, first);
-        units[at] = labels[cells[first] as usize];
+        let label = label_at(labels, cells[first] as usize);
+        units[2 * at] = label.first;
+        units[2 * at + 1] = label.rest;
         outlets[at] = cells[first];
         counts[at] = (last - first + 1) as u32;
         first = last + 1;
@@ -98,11 +103,11 @@ pub fn write_units(
         ≡ ifIndexed r (groupsOf (now (cells .entry)) (now (labels .entry)))
         (lentIndex (now (units .entry)) (now (outlets .entry)) (now (counts .entry))) ⌝ }
 {
-    if index_fits(cells.len(), units.len(), outlets.len(), counts.len()) {
+    if index_fits(cells.len(), units.len() / 2, outlets.len(), counts.len()) {
         return Indexed::Units(fill_units(cells, labels, units, outlets, counts));
     }
     let count = count_units(cells, labels);
-    if index_fits(count, units.len(), outlets.len(), counts.len()) {
+    if index_fits(count, units.len() / 2, outlets.len(), counts.len()) {
         return Indexed::Units(fill_units(cells, labels, units, outlets, counts));
     }
     Indexed::Refused(3, 0)

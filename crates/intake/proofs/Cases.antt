@@ -153,21 +153,21 @@ pub cols-257 : lineAfter (in-stage atSizes) (ascii "1,257,2") (sevens 257) ≡ r
 unfolding lineAfter
 cols-257 = refl
 
--- 2: depth outside 1 to 18
+-- 2: depth outside 1 to 36
 pub depth-0 : lineAfter (in-stage atSizes) (ascii "3,4,0") lent ≡ refuse atSizes lent 2
 unfolding lineAfter
 depth-0 = refl
 
-pub depth-18 : lineAfter (in-stage atSizes) (ascii "3,4,18") lent ≡ accept
-    (WaitingForWeightOrCellNames (sizesOf 3 4 18)) cleared
+pub depth-36 : lineAfter (in-stage atSizes) (ascii "3,4,36") lent ≡ accept
+    (WaitingForWeightOrCellNames (sizesOf 3 4 36)) cleared
 unfolding lineAfter
-depth-18 = refl
+depth-36 = refl
 
-pub depth-19 : lineAfter (in-stage atSizes) (ascii "3,4,19") lent ≡ refuse atSizes lent 2
+pub depth-37 : lineAfter (in-stage atSizes) (ascii "3,4,37") lent ≡ refuse atSizes lent 2
 unfolding lineAfter
-depth-19 = refl
+depth-37 = refl
 
-pub one-before-two : lineAfter (in-stage atSizes) (ascii "257,4,19") lent ≡ refuse atSizes lent 1
+pub one-before-two : lineAfter (in-stage atSizes) (ascii "257,4,37") lent ≡ refuse atSizes lent 1
 unfolding lineAfter
 one-before-two = refl
 
@@ -182,7 +182,7 @@ pub cells-2080 : lineAfter (in-stage atSizes) (ascii "32,65,2") (sevens 2048) �
 unfolding lineAfter
 cells-2080 = refl
 
-pub two-before-three : lineAfter (in-stage atSizes) (ascii "32,65,19") lent ≡ refuse atSizes lent 2
+pub two-before-three : lineAfter (in-stage atSizes) (ascii "32,65,37") lent ≡ refuse atSizes lent 2
 unfolding lineAfter
 two-before-three = refl
 
@@ -342,10 +342,10 @@ abbrev pub tooWide : Stage
 tooWide = TakingCells (sizesOf 3 257 2) cellColumns
 
 abbrev pub tooDeep : Stage
-tooDeep = WaitingForCellNames (sizesOf 3 4 19)
+tooDeep = WaitingForCellNames (sizesOf 3 4 37)
 
 abbrev pub endedTooDeep : Stage
-endedTooDeep = Ended (sizesOf 3 4 19)
+endedTooDeep = Ended (sizesOf 3 4 37)
 
 pub one-before-eight : lineAfter (in-stage tooWide) (ascii "x") lent ≡ refuse tooWide lent 1
 unfolding lineAfter
@@ -476,7 +476,7 @@ pub split-5 : lineAfter (in-stage atSplitSizes) (ascii "3,4,2,1,5") lent ≡ ref
 unfolding lineAfter
 split-5 = refl
 
-pub two-before-nineteen : lineAfter (in-stage atSplitSizes) (ascii "3,4,19,0,4") lent ≡ refuse atSplitSizes lent 2
+pub two-before-nineteen : lineAfter (in-stage atSplitSizes) (ascii "3,4,37,0,4") lent ≡ refuse atSplitSizes lent 2
 unfolding lineAfter
 two-before-nineteen = refl
 

@@ -134,7 +134,7 @@ pub weights-short : lineAfter (in-stage atSizes) (ascii "3,4,2") (lentSheet byte
 unfolding lineAfter
 weights-short = refl
 
-pub two-before-short-weights : lineAfter (in-stage atSizes) (ascii "3,4,19") (lentSheet bytes []) ≡ refuse atSizes
+pub two-before-short-weights : lineAfter (in-stage atSizes) (ascii "3,4,37") (lentSheet bytes []) ≡ refuse atSizes
     (lentSheet bytes []) 2
 unfolding lineAfter
 two-before-short-weights = refl
@@ -176,8 +176,8 @@ pub three-before-nine : lineAfter (in-stage (atWeight 3)) (ascii "7") short ≡ 
 unfolding lineAfter
 three-before-nine = refl
 
-pub two-before-nine : lineAfter (in-stage (WaitingForWeight (sizesOf 3 4 19) 3)) (ascii "7") short ≡ refuse
-    (WaitingForWeight (sizesOf 3 4 19) 3) short 2
+pub two-before-nine : lineAfter (in-stage (WaitingForWeight (sizesOf 3 4 37) 3)) (ascii "7") short ≡ refuse
+    (WaitingForWeight (sizesOf 3 4 37) 3) short 2
 unfolding lineAfter
 two-before-nine = refl
 

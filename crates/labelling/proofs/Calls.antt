@@ -12,6 +12,7 @@ use Rattle.sheet.specs.declared.Outcome.{Outcome}
 use Rattle.sheet.specs.declared.Outcome.the-variants.{Accepted, Refused}
 use Rattle.sheet.specs.Sheet.{Sheet, cells}
 use Rattle.sheet.specs.Label.{areasOf, labelsOf}
+use Rattle.sheet.specs.Record.{labelPlaces}
 use Rattle.sheet.specs.Refusal.{Lent, both, written, sizesFit, depthFits, leastAndSplitFit, slicesFit, faultOf}
 use Rattle.sheet.specs.Refusal.{outcomeFrom17, outcomeFrom3, outcome, outcomeValues, ifAccepted, lentAfter}
 use Rattle.sheet.proofs.Cells.{cells-most}
@@ -52,7 +53,7 @@ module _ (S : Sheet) (L : Lent) where
     dirs : cells (S .grid) ≤ length (S .grid .dirs)
     weights : S .grid .rows ≤ length (S .weights)
     areas : cells (S .grid) ≤ length (L .areas)
-    labels : cells (S .grid) ≤ length (L .labels)
+    labels : cells (S .grid) ≤ labelPlaces (length (L .labels))
     work : 8 * cells (S .grid) ≤ length (L .work)
 
   -- refused before the work places are touched
@@ -123,7 +124,7 @@ module _ (S : Sheet) (L : Lent) where
         let a = leb (cells (S .grid)) (length (S .grid .dirs)) in
         let w = leb (S .grid .rows) (length (S .weights)) in
         let b = leb (cells (S .grid)) (length (L .areas)) in
-        let c = leb (cells (S .grid)) (length (L .labels)) in
+        let c = leb (cells (S .grid)) (labelPlaces (length (L .labels))) in
         let d = leb (8 * cells (S .grid)) (length (L .work)) in
         let o = both-true a (both w (both b (both c d))) (passed accepted .slices) in
         let p = both-true w (both b (both c d)) (o .1) in
@@ -133,7 +134,7 @@ module _ (S : Sheet) (L : Lent) where
           dirs = leb-true (cells (S .grid)) (length (S .grid .dirs)) (o .0);
           weights = leb-true (S .grid .rows) (length (S .weights)) (p .0);
           areas = leb-true (cells (S .grid)) (length (L .areas)) (q .0);
-          labels = leb-true (cells (S .grid)) (length (L .labels)) (r .0);
+          labels = leb-true (cells (S .grid)) (labelPlaces (length (L .labels))) (r .0);
           work = leb-true (8 * cells (S .grid)) (length (L .work)) (r .1);
         }
 
@@ -182,7 +183,7 @@ module _ (S : Sheet) (L : Lent) where
           le-leb n (length (S .grid .dirs)) (long .dirs),
           le-leb (S .grid .rows) (length (S .weights)) (long .weights),
           le-leb n (length (L .areas)) (long .areas),
-          le-leb n (length (L .labels)) (long .labels),
+          le-leb n (labelPlaces (length (L .labels))) (long .labels),
           le-leb (8 * n) (8 * n) (omega arith),
         )
 

@@ -11,11 +11,11 @@ use Rattle.faults.specs.declared.Sizes.{Sizes}
 use Rattle.intake.specs.declared.Intake.{Intake}
 use Rattle.intake.specs.Intake.{LentSheet, endedSizes}
 use Rattle.claims.proofs.Theorems.{demand-three}
-use Rattle.claims.proofs.AsBefore.{as-before}
+use Rattle.claims.proofs.AsBefore.{as-before, one-number}
 use Rattle.claims.proofs.FlowMeaning.{flow-meaning, outlet-flow-meaning}
 use Rattle.labelling.specs.FromIntake.{sheetOf, outcomeWith, lentWith, intakeOutcome, intakeLent}
 use Rattle.labelling.specs.Demand.{LabelledDirectly, OfIntake, ForAllAccepted, DemandThreeWhole, FlowWhole}
-use Rattle.labelling.specs.Demand.{AsBeforeWhole, OutletFlowWhole}
+use Rattle.labelling.specs.Demand.{AsBeforeWhole, OneNumberWhole, OutletFlowWhole}
 
 -- what holds of every accepted sheet and the labels that the definition writes, holds however it is labelled
 module _ (Statement : Sheet → List ℕ → Type 0)
@@ -48,6 +48,9 @@ flow-whole = for-all-accepted _ flow-meaning
 
 pub as-before-whole : AsBeforeWhole
 as-before-whole = for-all-accepted _ as-before
+
+pub one-number-whole : OneNumberWhole
+one-number-whole = for-all-accepted _ one-number
 
 pub outlet-flow-whole : OutletFlowWhole
 outlet-flow-whole = for-all-accepted _ outlet-flow-meaning

@@ -13,7 +13,8 @@ use Rattle.sheet.specs.declared.Outcome.the-variants.{Accepted, Refused}
 use Rattle.sheet.specs.Sheet.{Grid, Sheet, cells, inside}
 use Rattle.sheet.specs.Area.{area}
 use Rattle.sheet.specs.River.{network, networkBy, river}
-use Rattle.sheet.specs.Label.{areasOf, labelsOf, outlet, holds, label, number}
+use Rattle.sheet.specs.Record.{recordOf, labelPlaces}
+use Rattle.sheet.specs.Label.{areasOf, labelsOf, outlet, holds, label}
 use Rattle.sheet.specs.Refusal.{Lent, written, weightsFit, outcomeOn, outcomeFrom17}
 use Rattle.claims.specs.Basin.{Basin}
 use Rattle.claims.proofs.Basins.{lawful}
@@ -28,7 +29,7 @@ use Rattle.upstream.specs.Work.{ranksPart, Unranked}
 use Rattle.drainage.specs.Total.{sizesOf, Weighted}
 use Rattle.drainage.proofs.Kept.{with-sizes-same, drained-same, single-same, size-written}
 use Rattle.rivers.specs.Layout.{Layout}
-use Rattle.rivers.specs.Labelled.{relabelled}
+use Rattle.rivers.specs.Labelled.{cellsLabelled}
 use Rattle.rivers.specs.UnitAt.{NetworkOf, Places}
 use Rattle.order.specs.Network.{areaIn, networkIn}
 use Rattle.order.specs.Places.{cellsIn, sizesIn, Surveyed, Arranged}
@@ -138,11 +139,12 @@ module _ (S : Sheet) {areas work : List ℕ} {queued : ℕ} (accepted : outcomeO
   some-cell = rw (r .long) (r .some)
 
   -- the labels that a basin's river gets are those of the sheet
-  pub labels-written : (labels : List ℕ) {labels′ labels″ : List ℕ} → cells (S .grid) ≤ length labels
-      → labels′ ≡ written (replicate (cells (S .grid)) 0) labels
+  pub labels-written : (labels : List ℕ) {labels′ labels″ : List ℕ}
+      → cells (S .grid) ≤ labelPlaces (length labels)
+      → labels′ ≡ written (replicate (2 * cells (S .grid)) 0) labels
       → ((n : NetworkOf cell size areas (S .split) (S .least))
-      → labels″ ≡ relabelled (holds (n .network) (river (n .network) (getD cell 0 0)))
-      (λ c. number (label (n .network) (S .depth) (river (n .network) (getD cell 0 0)) c)) labels′)
+      → labels″ ≡ cellsLabelled (holds (n .network) (river (n .network) (getD cell 0 0)))
+      (λ c. recordOf (label (n .network) (S .depth) (river (n .network) (getD cell 0 0)) c)) labels′)
       → labels″ ≡ written (labelsOf S) labels
   unfolding network-of
   labels-written labels room e f =

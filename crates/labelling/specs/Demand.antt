@@ -11,7 +11,7 @@ use Rattle.faults.specs.declared.Sizes.{Sizes}
 use Rattle.intake.specs.declared.Intake.{Intake}
 use Rattle.intake.specs.Intake.{LentSheet, endedSizes}
 use Rattle.claims.specs.Demand.{Inside, DemandThreeOf}
-use Rattle.claims.specs.AsBefore.{AsBefore}
+use Rattle.claims.specs.AsBefore.{AsBefore, OneNumber}
 use Rattle.claims.specs.Flow.{FlowMeaning, OutletFlowMeaning}
 use Rattle.labelling.specs.FromIntake.{sheetOf, intakeOutcome, intakeLent}
 
@@ -48,6 +48,10 @@ FlowWhole = ForAllAccepted (λ S labels. (p q : ℕ) → Inside S p → Inside S
 -- least 1 and split 4 give the labels of document 01
 abbrev pub AsBeforeWhole : Type 1
 AsBeforeWhole = ForAllAccepted AsBefore
+
+-- a label of a sheet of depth 18 or less is one number, as in document 01
+abbrev pub OneNumberWhole : Type 1
+OneNumberWhole = ForAllAccepted OneNumber
 
 -- flow to a unit's outlet: exactly under the digit rule, and exactly if the outlet question says Yes
 abbrev pub OutletFlowWhole : Type 1

@@ -7,6 +7,7 @@ use lib.Dec.{leb, eqb}
 use lib.ListN.{length}
 use Rattle.sheet.specs.Sheet.{Sheet, grid, cells}
 use Rattle.directions.specs.Sizes.{Sized}
+use Rattle.sheet.specs.Record.{labelPlaces}
 use Rattle.sheet.specs.Label.{areasOf, labelsOf}
 use Rattle.sheet.specs.Refusal.{Lent, both, sheetFault, outcomeFrom17, ifAccepted}
 use Rattle.sheet.specs.declared.Outcome.{Outcome}
@@ -29,10 +30,10 @@ lent areas labels work = record { areas = areas; labels = labels; work = work }
 
 -- checks 1, 2, 19 and 3, in this order; of the slices only the lengths count
 unfoldable pub checkedFirst : ℕ → ℕ → ℕ → ℕ → ℕ → ℕ → ℕ → ℕ → ℕ → ℕ → Outcome
-unfolding sheetFault
+unfolding sheetFault labelPlaces
 checkedFirst rows cols depth least split dirs weights areas labels work =
     let n = rows * cols in
-    let written = both (leb n areas) (both (leb n labels) (leb (8 * n) work)) in
+    let written = both (leb n areas) (both (leb n (labelPlaces labels)) (leb (8 * n) work)) in
     let fit = both (leb n dirs) (both (leb rows weights) written) in
     let fault : ℕ = sheetFault rows cols depth least split in
     cond (eqb fault 0) (cond fit Accepted (Refused 3 0)) (Refused fault 0)
@@ -45,13 +46,13 @@ firstChecks S L =
 -- checks 1, 2, 19 and 3 are passed, and exactly the work places that are needed are lent
 pub record Fitting (S : Sheet) (L : Lent) : Type 0 where
   pub sized : Sized (S .grid .rows) (S .grid .cols) (S .grid .dirs)
-  pub depth-most : S .depth ≤ 18
+  pub depth-most : S .depth ≤ 36
   pub least-most : S .least ≤ 65536000
   pub split-some : 1 ≤ S .split
   pub split-most : S .split ≤ 4
   pub weights : S .grid .rows ≤ length (S .weights)
   pub areas : cells (S .grid) ≤ length (L .areas)
-  pub labels : cells (S .grid) ≤ length (L .labels)
+  pub labels : cells (S .grid) ≤ labelPlaces (length (L .labels))
   pub work : length (L .work) ≡ 8 * cells (S .grid)
 
 -- checks 17 and 4 to 7 are passed, and the work places hold the search

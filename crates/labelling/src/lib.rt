@@ -9,6 +9,7 @@ ghost use Prim.Native.Nat.{ℕ, _*_, _≤_};
 ghost use lib.Dec.{leb};
 ghost use lib.ListN.{length, replicate};
 ghost use Rattle.sheet.specs.Sheet.{grid, cells};
+ghost use Rattle.sheet.specs.Record.{labelPlaces};
 ghost use Rattle.sheet.specs.Label.{areasOf, labelsOf};
 ghost use Rattle.sheet.specs.Refusal.{written, ifAccepted, both, outcomeFrom17, outcome, outcomeValues, lentAfter};
 ghost use Rattle.directions.specs.Sizes.{mostCells, Sized};
@@ -26,12 +27,12 @@ pub fn clear_places(places: &mut [u32])
     }
 }
 
-// Sets the labels of the first n cells to 0.
-fn clear_labels(labels: &mut [u64], n: usize)
-    requires { ⌜ n ≤ length (now labels) ⌝ }
-    ensures { λ _. ⌜ now (labels .exit) ≡ written (replicate n 0) (now (labels .entry)) ⌝ }
+// Sets the first numbers of a slice of labels to 0, so many.
+fn clear_labels(labels: &mut [u64], numbers: usize)
+    requires { ⌜ numbers ≤ length (now labels) ⌝ }
+    ensures { λ _. ⌜ now (labels .exit) ≡ written (replicate numbers 0) (now (labels .entry)) ⌝ }
 {
-    for i in 0..n {
+    for i in 0..numbers {
         labels[i] = 0;
     }
 }
@@ -65,7 +66,7 @@ fn write_labels(
     drainage::measure::measure(dirs, rows, cols, weights, work, queued, areas);
     order::positions::arrange(dirs, rows, cols, areas, queued, work);
     let n = rows * cols;
-    clear_labels(labels, n);
+    clear_labels(labels, 2 * n);
     let cells = parts::CELLS * n;
     let cells_end = cells + queued;
     let sizes = parts::ORDERED_SIZES * n;
@@ -250,7 +251,7 @@ fn slices_fit(
 ) -> bool
     requires { ⌜ n ≤ mostCells ⌝ }
     ensures { λ r. ⌜ r ≡ both (leb n dirs)
-        (both (leb rows weights) (both (leb n areas) (both (leb n labels) (leb (8 * n) work)))) ⌝ }
+        (both (leb rows weights) (both (leb n areas) (both (leb n (labelPlaces labels)) (leb (8 * n) work)))) ⌝ }
 {
     if dirs < n {
         return false;
@@ -261,7 +262,7 @@ fn slices_fit(
     if areas < n {
         return false;
     }
-    if labels < n {
+    if labels / 2 < n {
         return false;
     }
     8 * n <= work

@@ -11,7 +11,9 @@ use borrow.Author.Tests.{leb-true, leb-false, le-leb, lt-leb}
 use Rattle.sheet.specs.declared.Outcome.{Outcome}
 use Rattle.sheet.specs.declared.Outcome.the-variants.{Accepted, Refused as NotLabelled}
 use Rattle.sheet.specs.Sheet.{Sheet, cells}
+use Rattle.sheet.specs.Record.{numbersOf, labelPlaces}
 use Rattle.sheet.specs.Refusal.{Lent, both, outcome, written, lentAfter}
+use Rattle.sheet.proofs.Slices.{numbers-length, places-enough}
 use Rattle.labelling.specs.Labelling.{lent, firstChecks}
 use Rattle.index.specs.declared.Indexed.{Indexed}
 use Rattle.index.specs.declared.Indexed.the-variants.{Units, Refused}
@@ -32,6 +34,12 @@ part-written new old m l k =
     ∙ ap (λ (rest : List ℕ). new ++ rest)
     (sym (drop-append-le (length new) (take m old) (drop m old) (rw (length-take-le m old k) l))
     ∙ ap (drop (length new)) (take-append-drop m old))
+
+-- a slice of labels cut to so many places
+pub cut-places : (labels : List ℕ) (most : ℕ) → most ≤ labelPlaces (length labels)
+    → labelPlaces (length (take (2 * most) labels)) ≡ most
+unfolding labelPlaces
+cut-places labels most l = rw (length-take-le (2 * most) labels (places-enough most (length labels) l)) (omega arith)
 
 -- no more than either of two
 leb-min : (n a b : ℕ) → leb n (min a b) ≡ both (leb n a) (leb n b)
@@ -94,19 +102,19 @@ module _ (S : Sheet) (L : Lent) (I : LentIndex) (total : ℕ) (D : List ℕ) whe
         let a = index-refused S L I e in
         answered (ap (λ (x : Indexed). withDues x D) (a .0) ∙ sym answer-then) (a .1 .1 .0 ∙ sym lent-then) refl refl
 
-    -- the slice of the units' labels, cut to no more places than the dues have
-    module _ (most : ℕ) (shorter : most ≡ min (length (I .labels)) (length D)) where
+    -- the slice of the units' labels, cut to no more whole places than the dues have
+    module _ (most : ℕ) (shorter : most ≡ min (labelPlaces (length (I .labels))) (length D)) where
       abbrev cut : LentIndex
-      cut = lentIndex (take most (I .labels)) (I .outlets) (I .counts)
+      cut = lentIndex (take (2 * most) (I .labels)) (I .outlets) (I .counts)
 
-      cut-length : length (take most (I .labels)) ≡ most
-      cut-length = length-take-le most (I .labels) (omega (arith, shorter))
+      enough : most ≤ labelPlaces (length (I .labels))
+      enough = omega (arith, shorter)
 
       cut-room : (n : ℕ) → roomFor n cut ≡ withDues (roomFor n I) D
       unfolding roomFor indexFits withDues
       cut-room n =
-          rw (cut-length, shorter, leb-min n (length (I .labels)) (length D))
-          (go (leb n (length (I .labels))) (leb n (length D))
+          rw (cut-places (I .labels) most enough, shorter, leb-min n (labelPlaces (length (I .labels))) (length D))
+          (go (leb n (labelPlaces (length (I .labels)))) (leb n (length D))
           (both (leb n (length (I .outlets))) (leb n (length (I .counts)))) refl)
         where
           go : (a d b : Bool) → leb n (length D) ≡ d
@@ -130,29 +138,36 @@ module _ (S : Sheet) (L : Lent) (I : LentIndex) (total : ℕ) (D : List ℕ) whe
       -- what is written in the cut slice is written in the whole
       cut-written : {units′ outlets counts : List ℕ} {r : Indexed} → r ≡ indexed S L cut
           → lentIndex units′ outlets counts ≡ ifIndexed r (units S) cut
-          → lentIndex (units′ ++ drop most (I .labels)) outlets counts ≡ ifIndexed r (units S) I
+          → lentIndex (units′ ++ drop (2 * most) (I .labels)) outlets counts ≡ ifIndexed r (units S) I
       cut-written {units′} {outlets} {counts} {r} a = go r refl
         where
           glued : {J : LentIndex} → lentIndex units′ outlets counts ≡ J
-              → lentIndex (units′ ++ drop most (I .labels)) outlets counts
-              ≡ lentIndex (J .labels ++ drop most (I .labels)) (J .outlets) (J .counts)
-          glued h = ap (λ (K : LentIndex). lentIndex (K .labels ++ drop most (I .labels)) (K .outlets) (K .counts)) h
+              → lentIndex (units′ ++ drop (2 * most) (I .labels)) outlets counts
+              ≡ lentIndex (J .labels ++ drop (2 * most) (I .labels)) (J .outlets) (J .counts)
+          glued h =
+              ap (λ (K : LentIndex). lentIndex (K .labels ++ drop (2 * most) (I .labels)) (K .outlets) (K .counts)) h
 
           whole : {x : List ℕ} {os ns : List ℕ} → x ≡ I .labels → lentIndex x os ns ≡ lentIndex (I .labels) os ns
           whole {x} {os} {ns} h = ap (λ (y : List ℕ). lentIndex y os ns) h
 
           go : (x : Indexed) → r ≡ x → lentIndex units′ outlets counts ≡ ifIndexed x (units S) cut
-              → lentIndex (units′ ++ drop most (I .labels)) outlets counts ≡ ifIndexed x (units S) I
+              → lentIndex (units′ ++ drop (2 * most) (I .labels)) outlets counts ≡ ifIndexed x (units S) I
           go (Units count) e h =
               let room = fits-room cut (length (units S)) (index-filled S L cut count (sym a ∙ e) .fits) in
               let new = map (λ (u : UnitEntry). u .label) (units S) in
-              let few : length new ≤ most =
-              omega (arith, length-map (units S) (λ (u : UnitEntry). u .label), room .labels, cut-length) in
+              let few : length (numbersOf new) ≤ 2 * most =
+              omega (
+                arith,
+                numbers-length new,
+                length-map (units S) (λ (u : UnitEntry). u .label),
+                room .labels,
+                cut-places (I .labels) most enough,
+              ) in
               glued h
               ∙ ap (λ (y : List ℕ). lentIndex y (written (map (λ (u : UnitEntry). u .outlet) (units S)) (I .outlets))
               (written (map (λ (u : UnitEntry). u .count) (units S)) (I .counts)))
-              (part-written new (I .labels) most few (omega (arith, shorter)))
-          go (Refused number place) e h = glued h ∙ whole (take-append-drop most (I .labels))
+              (part-written (numbersOf new) (I .labels) (2 * most) few (places-enough most (length (I .labels)) enough))
+          go (Refused number place) e h = glued h ∙ whole (take-append-drop (2 * most) (I .labels))
 
       -- after the first checks
       pub levied-after : firstChecks S L ≡ Accepted
@@ -161,7 +176,7 @@ module _ (S : Sheet) (L : Lent) (I : LentIndex) (total : ℕ) (D : List ℕ) whe
           (lent areas labels work) cut (lentIndex units′ outlets counts) r
           → D′ ≡ ifLevied r (duesOf S total) D
           → Answered r (lent areas labels (work ++ drop (8 * cells (S .grid)) (L .work)))
-          (lentIndex (units′ ++ drop most (I .labels)) outlets counts) D′
+          (lentIndex (units′ ++ drop (2 * most) (I .labels)) outlets counts) D′
       levied-after passed f d =
           let a = indexed-after S L cut passed f in
           answered (a .0 ∙ cut-answer ∙ sym answer-then) (a .1 .1 .0 ∙ sym lent-then) (cut-written (a .0) (f .index)) d

@@ -10,7 +10,8 @@ use Rattle.sheet.specs.declared.Outcome.{Outcome}
 use Rattle.sheet.specs.declared.Outcome.the-variants.{Accepted}
 use Rattle.sheet.specs.Sheet.{Sheet, cells}
 use Rattle.sheet.specs.Area.{rowWeight, weight, area}
-use Rattle.sheet.specs.Label.{areasOf, labelAt, outlet}
+use Rattle.sheet.specs.Record.{labelPlaces, labelAt}
+use Rattle.sheet.specs.Label.{areasOf, outlet}
 use Rattle.sheet.specs.Refusal.{Lent, outcome, written, lentAfter}
 use Rattle.sheet.proofs.Cells.{cells-most, row-lt, inside-lt}
 use Rattle.sheet.proofs.Lists.{written-at}
@@ -39,10 +40,10 @@ use Rattle.dues.proofs.UnitWeights.{listed-parts}
 -- the lengths of the slices after labelling and the index call
 pub record Lengths (S : Sheet) (L′ : Lent) (I I′ : LentIndex) (dues : List ℕ) : Type 0 where
   pub areas : cells (S .grid) ≤ length (L′ .areas)
-  pub labels : cells (S .grid) ≤ length (L′ .labels)
+  pub labels : cells (S .grid) ≤ labelPlaces (length (L′ .labels))
   pub work : length (L′ .work) ≡ 8 * cells (S .grid)
   pub counts : length (I′ .counts) ≡ length (I .counts)
-  pub dues-room : length (I .labels) ≤ length dues
+  pub dues-room : labelPlaces (length (I .labels)) ≤ length dues
 
 -- ---- a sheet that passed the first checks, after labelling and the index call
 module _ (S : Sheet) (L : Lent) (passed : firstChecks S L ≡ Accepted) (fit : Fitting S L) {L′ : Lent}

@@ -7,6 +7,7 @@ use sheet::Outcome;
 ghost use mathlib.Core.Path.{_≡_};
 ghost use Prim.Native.Nat.{_≤_, min};
 ghost use lib.ListN.{length};
+ghost use Rattle.sheet.specs.Record.{labelPlaces};
 ghost use Rattle.labelling.specs.Labelling.{sheet, lent, firstChecks, Fitting};
 ghost use Rattle.index.specs.Index.{lentIndex, indexedValues};
 ghost use Rattle.index.specs.Steps.{IndexedFitting};
@@ -40,7 +41,7 @@ fn levy_fitting(
     requires { ⌜ firstChecks (sheet rows cols depth least split (now dirs) (now weights))
         (lent (now areas) (now labels) (now work))
         ≡ Outcome.Accepted ⌝ }
-    requires { ⌜ (total ≤ greatestTotal) × (length (now units) ≤ length (now dues)) ⌝ }
+    requires { ⌜ (total ≤ greatestTotal) × (labelPlaces (length (now units)) ≤ length (now dues)) ⌝ }
     ensures index { λ r. ⌜ IndexedFitting (sheet rows cols depth least split (now (dirs .entry)) (now (weights .entry)))
         (lent (now (areas .entry)) (now (labels .entry)) (now (work .entry)))
         (lent (now (areas .exit)) (now (labels .exit)) (now (work .exit)))
@@ -81,7 +82,7 @@ fn levy_fitting(
     answer
 }
 
-// The smaller of two lengths.
+// The smaller of two numbers of places.
 fn smaller(a: usize, b: usize) -> usize
     ensures { λ r. ⌜ r ≡ min a b ⌝ }
 {
@@ -147,7 +148,7 @@ pub fn levy(
     ) {
         Outcome::Accepted => {
             let places = 8 * (rows * cols);
-            let most = smaller(units.len(), dues.len());
+            let most = smaller(units.len() / 2, dues.len());
             levy_fitting(
                 rows,
                 cols,
@@ -159,7 +160,7 @@ pub fn levy(
                 areas,
                 labels,
                 &mut work[..places],
-                &mut units[..most],
+                &mut units[..2 * most],
                 outlets,
                 counts,
                 total,

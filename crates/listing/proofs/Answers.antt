@@ -8,6 +8,7 @@ use borrow.Author.Tests.{le-leb, lt-leb}
 use lib.Dec.{leb}
 use lib.ListN.{length, take, drop}
 use lib.Seq.{take-append-seam, drop-append-seam}
+use Rattle.sheet.specs.Record.{labelPlaces}
 use Rattle.sheet.specs.Sheet.{grid}
 use Rattle.sheet.proofs.Cells.{cells-most}
 use Rattle.sheet.specs.Refusal.{sizesFit}
@@ -44,12 +45,14 @@ module _ (rows cols : ℕ) (dirs areas labels buffer : List ℕ) where
     unfolding placesFit
     refused-areas d a = refused-places (rw (le-leb _ _ d, lt-leb _ _ a))
 
-    pub refused-labels : rows * cols ≤ length dirs → rows * cols ≤ length areas → length labels < rows * cols
+    pub refused-labels : rows * cols ≤ length dirs → rows * cols ≤ length areas
+        → labelPlaces (length labels) < rows * cols
         → refused 3 buffer ≡ listingInto (grid rows cols dirs) areas labels buffer
     unfolding placesFit
     refused-labels d a l = refused-places (rw (le-leb _ _ d, le-leb _ _ a, lt-leb _ _ l))
 
-    module _ (d : rows * cols ≤ length dirs) (a : rows * cols ≤ length areas) (l : rows * cols ≤ length labels) where
+    module _ (d : rows * cols ≤ length dirs) (a : rows * cols ≤ length areas)
+        (l : rows * cols ≤ labelPlaces (length labels)) where
       pub listable : Listable rows cols dirs areas labels
       listable = let most = rows-cols-most rows cols sizes in record {
         rows-most = most .0;

@@ -10,12 +10,18 @@ use Rattle.sheet.specs.Label.{areasOf, labelsOf}
 use Rattle.sheet.specs.Cases.{sampleA, sheet}
 use Rattle.listing.specs.declared.Listing.the-variants.{Bytes, Refused}
 use Rattle.listing.specs.Listing.{listingText, refusalText}
+use Rattle.listing.specs.AsBefore.{listingOfNumbers}
 use Rattle.listing.specs.Writing.{listingValues, listingInto, refusalInto}
 
 -- the bytes of lines, each ended by a line feed
 abbrev lines : List String → List ℕ
 lines [] = []
 lines (s ∷ ss) = ascii s ++ (lineFeed ∷ lines ss)
+
+-- a slice of labels of at most 18 digits
+abbrev oneNumberEach : List ℕ → List ℕ
+oneNumberEach [] = []
+oneNumberEach (a ∷ numbers) = a ∷ 0 ∷ oneNumberEach numbers
 
 -- what document 01 prints for sample A
 abbrev sampleLines : List ℕ
@@ -36,7 +42,7 @@ sampleLines =
     ∷ [])
 
 pub sample-listing : listingText sampleA (0 ∷ 2 ∷ 1 ∷ 1 ∷ 11 ∷ 9 ∷ 4 ∷ 2 ∷ 1 ∷ 1 ∷ 1 ∷ 1 ∷ [])
-    (0 ∷ 8 ∷ 8 ∷ 92 ∷ 1 ∷ 3 ∷ 91 ∷ 93 ∷ 2 ∷ 4 ∷ 6 ∷ 93 ∷ []) ≡ sampleLines
+    (oneNumberEach (0 ∷ 8 ∷ 8 ∷ 92 ∷ 1 ∷ 3 ∷ 91 ∷ 93 ∷ 2 ∷ 4 ∷ 6 ∷ 93 ∷ [])) ≡ sampleLines
 unfolding listingText
 sample-listing = refl
 
@@ -44,6 +50,23 @@ sample-listing = refl
 pub sample-defined : listingText sampleA (areasOf (sheet sampleA 2)) (labelsOf (sheet sampleA 2)) ≡ sampleLines
 unfolding listingText areasOf labelsOf
 sample-defined = refl
+
+-- and as document 01 has it, from labels that are one number each
+pub sample-as-before : listingOfNumbers sampleA (0 ∷ 2 ∷ 1 ∷ 1 ∷ 11 ∷ 9 ∷ 4 ∷ 2 ∷ 1 ∷ 1 ∷ 1 ∷ 1 ∷ [])
+    (0 ∷ 8 ∷ 8 ∷ 92 ∷ 1 ∷ 3 ∷ 91 ∷ 93 ∷ 2 ∷ 4 ∷ 6 ∷ 93 ∷ []) ≡ sampleLines
+unfolding listingOfNumbers
+sample-as-before = refl
+
+-- a row of two cells with labels of 19 and of 36 digits
+pub long-labels : listingText (grid 1 2 (1 ∷ 1 ∷ [])) (1 ∷ 2 ∷ [])
+    (123456789123456789 ∷ 5 ∷ 999999999999999999 ∷ 888888888888888888 ∷ [])
+    ≡ lines
+    ("row,col,area,label"
+    ∷ "0,0,1,1234567891234567895"
+    ∷ "0,1,2,999999999999999999888888888888888888"
+    ∷ [])
+unfolding listingText
+long-labels = refl
 
 -- refusal 7 at place 1
 pub refusal-lines : refusalText 7 1 ≡ lines ("refused,place" ∷ "7,1" ∷ [])
@@ -54,22 +77,22 @@ refusal-lines = refl
 abbrev oneCell : List ℕ
 oneCell = lines ("row,col,area,label" ∷ "0,0,1,0" ∷ [])
 
-pub room-to-spare : listingInto (grid 1 1 (1 ∷ [])) (1 ∷ []) (0 ∷ [])
+pub room-to-spare : listingInto (grid 1 1 (1 ∷ [])) (1 ∷ []) (0 ∷ 0 ∷ [])
     (replicate 29 46) ≡ record { answer = Bytes 27; buffer = oneCell ++ (46 ∷ 46 ∷ []) }
 unfolding listingInto
 room-to-spare = refl
 
-pub just-room : listingInto (grid 1 1 (1 ∷ [])) (1 ∷ []) (0 ∷ [])
+pub just-room : listingInto (grid 1 1 (1 ∷ [])) (1 ∷ []) (0 ∷ 0 ∷ [])
     (replicate 27 46) ≡ record { answer = Bytes 27; buffer = oneCell }
 unfolding listingInto
 just-room = refl
 
-pub one-byte-short : listingInto (grid 1 1 (1 ∷ [])) (1 ∷ []) (0 ∷ [])
+pub one-byte-short : listingInto (grid 1 1 (1 ∷ [])) (1 ∷ []) (0 ∷ 0 ∷ [])
     (replicate 26 46) ≡ record { answer = Refused 3; buffer = replicate 26 46 }
 unfolding listingInto
 one-byte-short = refl
 
--- 257 rows give 1, though nothing is lent; a missing label gives 3
+-- 257 rows give 1, though nothing is lent; a missing label gives 3, and one number is no label
 pub many-rows : listingValues (listingInto (grid 257 1 []) [] [] [] .answer) .number ≡ 1
 unfolding listingInto
 many-rows = refl
@@ -77,6 +100,17 @@ many-rows = refl
 pub no-label : listingValues (listingInto (grid 1 1 (1 ∷ [])) (1 ∷ []) [] (replicate 27 46) .answer) .number ≡ 3
 unfolding listingInto
 no-label = refl
+
+pub one-number : listingValues (listingInto (grid 1 1 (1 ∷ [])) (1 ∷ []) (0 ∷ []) (replicate 27 46) .answer)
+    .number ≡ 3
+unfolding listingInto
+one-number = refl
+
+-- an odd number at the end is no place
+pub odd-number : listingInto (grid 1 1 (1 ∷ [])) (1 ∷ []) (0 ∷ 0 ∷ 7 ∷ [])
+    (replicate 27 46) ≡ record { answer = Bytes 27; buffer = oneCell }
+unfolding listingInto
+odd-number = refl
 
 pub refusal-in-buffer : refusalInto 14 1
     (replicate 20 46) ≡ record { answer = Bytes 19; buffer = lines ("refused,place" ∷ "14,1" ∷ []) ++ (46 ∷ []) }

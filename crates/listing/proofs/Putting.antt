@@ -89,6 +89,11 @@ pub field-end : (text : List ℕ) (after : ℕ) {a b : List ℕ} {at next : ℕ}
     → next ≡ at + length text + 1
 field-end text after p = omega (arith, p .next-is, field-length text after)
 
+-- two texts, and the byte after them
+pub field-join : (s t : List ℕ) (after : ℕ) → s ++ field t after ≡ field (s ++ t) after
+unfolding field
+field-join s t after = sym (append-assoc s t (after ∷ []))
+
 -- ---- a text at the start of a buffer
 
 module _ (text buffer : List ℕ) where
@@ -108,7 +113,7 @@ promises e = (e, ap (λ (x : Listed). listingValues (x .answer)) e)
 
 -- ---- the lines of cells
 
-module _ (G : Grid) (areas labels : List ℕ) (cell : ℕ) where
+module _ (G : Grid) (areas : List ℕ) (labels : ℕ → List ℕ) (cell : ℕ) where
   -- an outside cell has no line
   pub put-outside : {a b : List ℕ} {at next : ℕ} → dirAt G cell ≡ 0 → Put a b at next (linesBelow G areas labels cell)
       → Put a b at next (linesBelow G areas labels (cell + 1))

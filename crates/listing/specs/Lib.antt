@@ -1,3 +1,4 @@
 pub mod Listing
 pub mod Writing
 pub mod Steps
+pub mod AsBefore

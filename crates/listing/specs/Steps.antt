@@ -4,6 +4,7 @@ use mathlib.Core.List.{List}
 use Prim.Native.Nat.{ℕ, _+_, _*_, _<_, _≤_}
 use lib.ListN.{length}
 use Rattle.decimal.specs.Text.{overwrite}
+use Rattle.sheet.specs.Record.{labelPlaces}
 
 -- a text was written into a buffer from a position on, and `next` is the position after it
 pub record Put (before after : List ℕ) (at next : ℕ) (text : List ℕ) : Type 0 where
@@ -17,4 +18,4 @@ pub record Listable (rows cols : ℕ) (dirs areas labels : List ℕ) : Type 0 wh
   pub cols-some : 0 < cols
   pub dirs-long : rows * cols ≤ length dirs
   pub areas-long : rows * cols ≤ length areas
-  pub labels-long : rows * cols ≤ length labels
+  pub labels-long : rows * cols ≤ labelPlaces (length labels)

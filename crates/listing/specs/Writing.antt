@@ -4,6 +4,7 @@ use mathlib.Core.List.{List}
 use Prim.Native.Nat.{ℕ}
 use lib.Dec.{leb}
 use lib.ListN.{length}
+use Rattle.sheet.specs.Record.{labelPlaces}
 use Rattle.sheet.specs.Sheet.{Grid, cells}
 use Rattle.sheet.specs.Refusal.{both, sizesFit, written}
 use Rattle.listing.specs.declared.Listing.{Listing}
@@ -36,10 +37,12 @@ accepted text buffer = record { answer = Bytes (length text); buffer = written t
 unfoldable pub textInto : List ℕ → List ℕ → Listed
 textInto text buffer = cond (leb (length text) (length buffer)) (accepted text buffer) (refused 3 buffer)
 
--- with n = rows × columns: n directions, n areas, n labels
+-- with n = rows × columns: n directions, n areas, n labels, where a label is two numbers of its slice
 unfoldable pub placesFit : Grid → List ℕ → List ℕ → Bool
+unfolding labelPlaces
 placesFit G areas labels =
-    both (leb (cells G) (length (G .dirs))) (both (leb (cells G) (length areas)) (leb (cells G) (length labels)))
+    both (leb (cells G) (length (G .dirs)))
+    (both (leb (cells G) (length areas)) (leb (cells G) (labelPlaces (length labels))))
 
 -- the listing in a lent buffer: 1, then 3
 unfoldable pub listingInto : Grid → List ℕ → List ℕ → List ℕ → Listed

@@ -4,7 +4,7 @@ ghost use Prim.Native.Nat.{_+_, _*_, _<_, _≤_};
 ghost use lib.ListN.{length};
 ghost use Rattle.decimal.specs.Text.{decimalText};
 ghost use Rattle.sheet.specs.Sheet.{grid};
-ghost use Rattle.listing.specs.Listing.{labelText, field, cellLine, linesBelow};
+ghost use Rattle.listing.specs.Listing.{labelText, labelTexts, field, cellLine, linesBelow};
 ghost use Rattle.listing.specs.Writing.{listingValues, listingInto, refusalInto};
 ghost use Rattle.listing.specs.Steps.{Listable, Put};
 use checks::sizes_fit;
@@ -12,6 +12,7 @@ use decimal::COMMA;
 use decimal::LINE_FEED;
 use decimal::Written;
 use decimal::decimal_length;
+use sheet::Label;
 
 // The answer of a call that writes a text: the count of its bytes, or document 01's number of a refusal.
 pub enum Listing {
@@ -20,15 +21,23 @@ pub enum Listing {
 }
 
 // The bytes of a label.
-fn label_length(label: u64) -> usize
+fn label_length(label: Label) -> usize
     ensures { λ r. ⌜ r ≡ length (labelText label) ⌝ }
 {
-    decimal_length(label)
+    if label.rest == 0 {
+        return decimal_length(label.first);
+    }
+    if label.first == 0 {
+        return decimal_length(label.rest);
+    }
+    let first_digits = decimal_length(label.first);
+    let rest_digits = decimal_length(label.rest);
+    first_digits + rest_digits
 }
 
 // The bytes of the line of a cell.
-fn cell_length(row: usize, col: usize, area: u32, label: u64) -> usize
-    ensures { λ r. ⌜ r ≡ length (cellLine row col area label) ⌝ }
+fn cell_length(row: usize, col: usize, area: u32, label: Label) -> usize
+    ensures { λ r. ⌜ r ≡ length (cellLine row col area (labelText label)) ⌝ }
 {
     let row_digits = decimal_length(row as u64);
     let col_digits = decimal_length(col as u64);
@@ -41,7 +50,7 @@ fn cell_length(row: usize, col: usize, area: u32, label: u64) -> usize
 fn lines_length(rows: usize, cols: usize, dirs: &[u8], areas: &[u32], labels: &[u64]) -> usize
     requires { ⌜ Listable rows cols (now dirs) (now areas) (now labels) ⌝ }
     ensures { λ r. ⌜ r ≡ length (linesBelow (grid rows cols (now (dirs .entry))) (now (areas .entry))
-        (now (labels .entry)) (rows * cols)) ⌝ }
+        (labelTexts (now (labels .entry))) (rows * cols)) ⌝ }
 {
     let n = rows * cols;
     let mut count = 0;
@@ -49,7 +58,8 @@ fn lines_length(rows: usize, cols: usize, dirs: &[u8], areas: &[u32], labels: &[
         if dirs[cell] == 0 {
             continue;
         }
-        count += cell_length(cell / cols, cell % cols, areas[cell], labels[cell]);
+        let label = checks::label_at(labels, cell);
+        count += cell_length(cell / cols, cell % cols, areas[cell], label);
     }
     count
 }
@@ -67,30 +77,46 @@ fn put_text(text: &[u8], out: &mut [u8], at: usize) -> usize
     at + i
 }
 
+// Writes a value.
+fn put_value(value: u64, out: &mut [u8], at: usize) -> usize
+    requires { ⌜ at + length (decimalText value) ≤ length (now out) ⌝ }
+    ensures { λ r. ⌜ Put (now (out .entry)) (now (out .exit)) at r (decimalText value) ⌝ }
+{
+    let Written::End(end) = decimal::write_decimal(value, out, at) else {
+        return at;
+    };
+    end
+}
+
 // Writes a value and the byte after it.
 fn put_field(value: u64, after: u8, out: &mut [u8], at: usize) -> usize
     requires { ⌜ at + length (decimalText value) < length (now out) ⌝ }
     ensures { λ r. ⌜ Put (now (out .entry)) (now (out .exit)) at r (field (decimalText value) after) ⌝ }
 {
-    let Written::End(end) = decimal::write_decimal(value, out, at) else {
-        return at;
-    };
+    let end = put_value(value, out, at);
     out[end] = after;
     end + 1
 }
 
-// Writes a label and the byte after it.
-fn put_label(label: u64, after: u8, out: &mut [u8], at: usize) -> usize
+// Writes a label and the byte after it: the digits of its two numbers with no gap.
+fn put_label(label: Label, after: u8, out: &mut [u8], at: usize) -> usize
     requires { ⌜ at + length (labelText label) < length (now out) ⌝ }
     ensures { λ r. ⌜ Put (now (out .entry)) (now (out .exit)) at r (field (labelText label) after) ⌝ }
 {
-    put_field(label, after, out, at)
+    if label.rest == 0 {
+        return put_field(label.first, after, out, at);
+    }
+    if label.first == 0 {
+        return put_field(label.rest, after, out, at);
+    }
+    let rest_at = put_value(label.first, out, at);
+    put_field(label.rest, after, out, rest_at)
 }
 
 // Writes the line of a cell.
-fn put_cell(row: usize, col: usize, area: u32, label: u64, out: &mut [u8], at: usize) -> usize
-    requires { ⌜ at + length (cellLine row col area label) ≤ length (now out) ⌝ }
-    ensures { λ r. ⌜ Put (now (out .entry)) (now (out .exit)) at r (cellLine row col area label) ⌝ }
+fn put_cell(row: usize, col: usize, area: u32, label: Label, out: &mut [u8], at: usize) -> usize
+    requires { ⌜ at + length (cellLine row col area (labelText label)) ≤ length (now out) ⌝ }
+    ensures { λ r. ⌜ Put (now (out .entry)) (now (out .exit)) at r (cellLine row col area (labelText label)) ⌝ }
 {
     let col_at = put_field(row as u64, COMMA, out, at);
     let area_at = put_field(col as u64, COMMA, out, col_at);
@@ -109,10 +135,11 @@ fn put_lines(
     at: usize,
 ) -> usize
     requires { ⌜ Listable rows cols (now dirs) (now areas) (now labels)
-        × (at + length (linesBelow (grid rows cols (now dirs)) (now areas) (now labels) (rows * cols)) ≤ length
-        (now out)) ⌝ }
+        × (at + length (linesBelow (grid rows cols (now dirs)) (now areas) (labelTexts (now labels)) (rows * cols))
+        ≤ length (now out)) ⌝ }
     ensures { λ r. ⌜ Put (now (out .entry)) (now (out .exit)) at r
-        (linesBelow (grid rows cols (now (dirs .entry))) (now (areas .entry)) (now (labels .entry)) (rows * cols)) ⌝ }
+        (linesBelow (grid rows cols (now (dirs .entry))) (now (areas .entry)) (labelTexts (now (labels .entry)))
+        (rows * cols)) ⌝ }
 {
     let n = rows * cols;
     let mut next = at;
@@ -121,14 +148,8 @@ fn put_lines(
         if code == 0 {
             continue;
         }
-        next = put_cell(
-            cell / cols,
-            cell % cols,
-            areas[cell],
-            labels[cell],
-            out,
-            next,
-        );
+        let label = checks::label_at(labels, cell);
+        next = put_cell(cell / cols, cell % cols, areas[cell], label, out, next);
     }
     next
 }
@@ -157,7 +178,7 @@ pub fn write_listing(
         if areas.len() < n {
             return Listing::Refused(3);
         }
-        if labels.len() < n {
+        if labels.len() / 2 < n {
             return Listing::Refused(3);
         }
         let heading = b"row,col,area,label\n";

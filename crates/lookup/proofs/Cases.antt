@@ -2,63 +2,118 @@
 use mathlib.Core.Path.{_≡_, refl}
 use mathlib.Core.List.{List, [], _∷_}
 use Prim.Native.Nat.{ℕ}
+use Rattle.sheet.specs.declared.Label.{Label}
+use Rattle.sheet.specs.Record.{labelOfNumbers, labelsIn, numbersOf}
+use Rattle.lookup.specs.declared.LookupAnswer.{LookupAnswer}
 use Rattle.lookup.specs.declared.LookupAnswer.the-variants.{Part, Refused}
 use Rattle.lookup.specs.Lookup.{lookupAnswer, lookupPart, lookupPlace, lookupValues}
 
-abbrev labels : List ℕ
-labels = 1 ∷ 2 ∷ 21 ∷ 3 ∷ 91 ∷ 92 ∷ 93 ∷ []
+-- ---- labels of up to 18 digits
+
+abbrev short : ℕ → Label
+short first = labelOfNumbers first 0
+
+abbrev shorts : List ℕ → List Label
+shorts [] = []
+shorts (m ∷ numbers) = short m ∷ shorts numbers
+
+-- the lookup among such labels
+abbrev lookupShort : ℕ → List ℕ → LookupAnswer
+lookupShort leading numbers = lookupAnswer (short leading) (shorts numbers)
+
+abbrev numbers : List ℕ
+numbers = 1 ∷ 2 ∷ 21 ∷ 3 ∷ 91 ∷ 92 ∷ 93 ∷ []
 
 -- leading 9; 2, which begins 21 and stands before it; no digits at all, which begin every label
-pub lookup-found : lookupAnswer 9 labels ∷ lookupAnswer 2 labels ∷ lookupAnswer 92 labels ∷ lookupAnswer 0 labels ∷
+pub lookup-found : lookupShort 9 numbers ∷ lookupShort 2 numbers ∷ lookupShort 92 numbers ∷ lookupShort 0 numbers ∷
     [] ≡ Part 4 3 ∷ Part 1 2 ∷ Part 5 1 ∷ Part 0 7 ∷ []
 unfolding lookupAnswer
 lookup-found = refl
 
 -- the empty part at the place that the leading digits would take
-pub lookup-empty : lookupAnswer 11 labels ∷ lookupAnswer 5 labels ∷ lookupAnswer 94 labels ∷ lookupAnswer 9 [] ∷
+pub lookup-empty : lookupShort 11 numbers ∷ lookupShort 5 numbers ∷ lookupShort 94 numbers ∷ lookupShort 9 [] ∷
     [] ≡ Part 1 0 ∷ Part 4 0 ∷ Part 7 0 ∷ Part 0 0 ∷ []
 unfolding lookupAnswer
 lookup-empty = refl
 
 -- labels of different lengths between those that begin so
-pub lookup-long : lookupAnswer 2 (0 ∷ 19 ∷ 2 ∷ 21 ∷ 211 ∷ 29 ∷ 3 ∷ []) ∷ lookupAnswer 21 (0 ∷ 19 ∷ 2 ∷ 211 ∷ []) ∷
+pub lookup-lengths : lookupShort 2 (0 ∷ 19 ∷ 2 ∷ 21 ∷ 211 ∷ 29 ∷ 3 ∷ []) ∷ lookupShort 21 (0 ∷ 19 ∷ 2 ∷ 211 ∷ []) ∷
     [] ≡ Part 2 4 ∷ Part 3 1 ∷ []
 unfolding lookupAnswer
-lookup-long = refl
+lookup-lengths = refl
 
 -- 11 for the leading digits, though the list does not rise, and for an entry, though the list does not rise
-pub lookup-label : lookupAnswer 105 (2 ∷ 1 ∷ []) ∷ lookupAnswer 9 (2 ∷ 1 ∷ 105 ∷ []) ∷ lookupAnswer 9 (1 ∷ 20 ∷ []) ∷
+pub lookup-label : lookupShort 105 (2 ∷ 1 ∷ []) ∷ lookupShort 9 (2 ∷ 1 ∷ 105 ∷ []) ∷ lookupShort 9 (1 ∷ 20 ∷ []) ∷
     [] ≡ Refused 11 ∷ Refused 11 ∷ Refused 11 ∷ []
 unfolding lookupAnswer
 lookup-label = refl
 
--- 18 digits pass, 19 do not
-pub lookup-depth : lookupAnswer 999999999999999999 (9 ∷ 999999999999999999 ∷ []) ∷ lookupAnswer 1111111111111111111 [] ∷
-    lookupAnswer 1 (1111111111111111111 ∷ []) ∷ [] ≡ Part 1 1 ∷ Refused 11 ∷ Refused 11 ∷ []
-unfolding lookupAnswer
-lookup-depth = refl
-
 -- 16 for equal neighbours, for 21 before 2, for 9 before 12
-pub lookup-rising : lookupAnswer 9 (1 ∷ 2 ∷ 2 ∷ []) ∷ lookupAnswer 9 (21 ∷ 2 ∷ []) ∷ lookupAnswer 9 (9 ∷ 12 ∷ []) ∷
+pub lookup-rising : lookupShort 9 (1 ∷ 2 ∷ 2 ∷ []) ∷ lookupShort 9 (21 ∷ 2 ∷ []) ∷ lookupShort 9 (9 ∷ 12 ∷ []) ∷
     [] ≡ Refused 16 ∷ Refused 16 ∷ Refused 16 ∷ []
 unfolding lookupAnswer
 lookup-rising = refl
 
--- the part, and where it lies in a slice whose first entry lies at byte 100 of block 7; refused, the empty part at the
--- slice's start
-pub lookup-parts : lookupPart 9 labels ∷ lookupPart 5 labels ∷ lookupPart 105 labels ∷ [] ≡
-    (91 ∷ 92 ∷ 93 ∷ []) ∷ [] ∷ [] ∷ []
-unfolding lookupPart
+-- ---- longer labels
+
+-- 18 nines
+abbrev nines : ℕ
+nines = 999999999999999999
+
+-- a label of 18 nines and these digits
+abbrev long : ℕ → Label
+long rest = labelOfNumbers nines rest
+
+-- 18 digits pass in either number, 19 do not; a second number beside a first of fewer than 18 digits, and a digit 0 in
+-- it, are refused
+pub lookup-depth : lookupAnswer (short nines) (short 9 ∷ short nines ∷ []) ∷ lookupAnswer (long nines)
+    (short nines ∷ long nines ∷ []) ∷ lookupAnswer (short 1111111111111111111) [] ∷ lookupAnswer
+    (long 1111111111111111111) [] ∷ lookupAnswer (labelOfNumbers 99999999999999999 1) [] ∷ lookupAnswer (short 9)
+    (long 10 ∷ []) ∷ [] ≡ Part 1 1 ∷ Part 1 1 ∷ Refused 11 ∷ Refused 11 ∷ Refused 11 ∷ Refused 11 ∷ []
+unfolding lookupAnswer
+lookup-depth = refl
+
+-- labels of 18, 19, 20 and 36 digits that begin alike, in the order of their digits, not of their second numbers
+abbrev longs : List Label
+longs = short 998 ∷ short nines ∷ long 1 ∷ long 12 ∷ long 2 ∷ long nines ∷ []
+
+pub lookup-long : lookupAnswer (short 9) longs ∷ lookupAnswer (short nines) longs ∷ lookupAnswer (long 1)
+    longs ∷ lookupAnswer (long 2) longs ∷ lookupAnswer (long 9) longs ∷ lookupAnswer (long nines) longs ∷ lookupAnswer
+    (long 13) longs ∷ [] ≡ Part 0 6 ∷ Part 1 5 ∷ Part 2 2 ∷ Part 4 1 ∷ Part 5 1 ∷ Part 5 1 ∷ Part 4 0 ∷ []
+unfolding lookupAnswer
+lookup-long = refl
+
+-- 16 for neighbours that differ only in the second number, in the wrong order, and for equal ones; a label of 19 digits
+-- before the 18 that it begins with
+pub long-rising : lookupAnswer (short 9) (long 2 ∷ long 12 ∷ []) ∷ lookupAnswer (short 9) (long 2 ∷ long 2 ∷ []) ∷
+    lookupAnswer (short 9) (long 1 ∷ short nines ∷ []) ∷ [] ≡ Refused 16 ∷ Refused 16 ∷ Refused 16 ∷ []
+unfolding lookupAnswer
+long-rising = refl
+
+-- ---- what is handed back
+
+-- the part as numbers; refused, no numbers
+pub lookup-parts : numbersOf (lookupPart (short 9) (shorts numbers)) ∷ numbersOf (lookupPart (short 5) (shorts numbers))
+    ∷ numbersOf (lookupPart (short 105) (shorts numbers)) ∷ numbersOf (lookupPart (long 1) longs) ∷ [] ≡
+    (91 ∷ 0 ∷ 92 ∷ 0 ∷ 93 ∷ 0 ∷ []) ∷ [] ∷ [] ∷ (nines ∷ 1 ∷ nines ∷ 12 ∷ []) ∷ []
+unfolding lookupPart numbersOf
 lookup-parts = refl
 
-pub lookup-places : lookupPlace 9 labels (7, 100) ∷ lookupPlace 5 labels (7, 100) ∷ lookupPlace 105 labels (7, 100) ∷
-    [] ≡ (7, 132) ∷ (7, 132) ∷ (7, 100) ∷ []
+-- where it lies in a slice whose first entry lies at byte 100 of block 7; refused, at the slice's start
+pub lookup-places : lookupPlace (short 9) (shorts numbers) (7, 100) ∷ lookupPlace (short 5) (shorts numbers) (7, 100) ∷
+    lookupPlace (short 105) (shorts numbers) (7, 100) ∷ [] ≡ (7, 164) ∷ (7, 164) ∷ (7, 100) ∷ []
 unfolding lookupPlace
 lookup-places = refl
 
+-- an odd number at the end of a slice, here no label, is no entry
+pub lookup-odd : lookupAnswer (short 9) (labelsIn (2 ∷ 0 ∷ 9 ∷ 0 ∷ 105 ∷ [])) ∷ lookupAnswer (short 9)
+    (labelsIn (105 ∷ [])) ∷ [] ≡ Part 1 1 ∷ Part 0 0 ∷ []
+unfolding lookupAnswer labelsIn
+lookup-odd = refl
+
 -- the numbers and values of the answers
-pub numbers : lookupValues (lookupAnswer 9 labels) .number ∷ lookupValues (lookupAnswer 9 labels) .start
-    ∷ lookupValues (lookupAnswer 9 labels) .length ∷ lookupValues (lookupAnswer 105 labels) .number ∷ []
+pub values : lookupValues (lookupShort 9 numbers) .number ∷ lookupValues (lookupShort 9 numbers) .start
+    ∷ lookupValues (lookupShort 9 numbers) .length ∷ lookupValues (lookupShort 105 numbers) .number ∷ []
     ≡ 0 ∷ 4 ∷ 3 ∷ 11 ∷ []
 unfolding lookupAnswer
-numbers = refl
+values = refl

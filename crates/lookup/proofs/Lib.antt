@@ -3,6 +3,7 @@ pub mod Rising
 pub mod Counted
 pub mod Exactly
 pub mod PaddedOrder
+pub mod PaddedHalves
 pub mod Limits
 pub mod Zeros
 pub mod Answers

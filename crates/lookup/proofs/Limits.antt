@@ -4,22 +4,21 @@ use mathlib.Core.Bool.{true}
 use mathlib.Core.List.{List}
 use Prim.Native.Nat.{ℕ, _+_}
 use lib.Dec.{ltb}
-use lib.ListN.{length}
-use Rattle.sheet.specs.Label.{digitsOf}
+use Rattle.sheet.specs.declared.Label.{Label}
 use Rattle.sheet.specs.Flow.{every, isLabel}
 use Rattle.lookup.specs.declared.LookupAnswer.the-variants.{Part}
 use Rattle.lookup.specs.Lookup.{greatestDepth, startOf, lengthOf, partFound}
-use Rattle.lookup.specs.Padded.{withZeros, padded, paddedEnd, countBelow}
+use Rattle.lookup.specs.Padded.{padded, paddedEnd, countBelow}
 use Rattle.lookup.proofs.Counted.{counted-agree}
 use Rattle.lookup.proofs.Exactly.{ahead, notPast, not-past-counted}
 use Rattle.lookup.proofs.PaddedOrder.{before-padded, not-past-padded}
 
 -- the part, by its two numbers
-pub part-by : (leading : ℕ) (labels : List ℕ) (start count : ℕ) → start ≡ startOf leading labels
+pub part-by : (leading : Label) (labels : List Label) (start count : ℕ) → start ≡ startOf leading labels
     → count ≡ lengthOf leading labels → Part start count ≡ partFound leading labels
 part-by leading labels start count e f = rw (e, f)
 
-module _ (leading : ℕ) (labels : List ℕ) (label : isLabel greatestDepth leading ≡ true)
+module _ (leading : Label) (labels : List Label) (label : isLabel greatestDepth leading ≡ true)
     (entries : every (isLabel greatestDepth) labels ≡ true) where
   pub start-below : countBelow (padded leading) labels ≡ startOf leading labels
   unfolding countBelow startOf
@@ -33,13 +32,3 @@ module _ (leading : ℕ) (labels : List ℕ) (label : isLabel greatestDepth lead
       sym (counted-agree (isLabel greatestDepth) (notPast leading) (λ m. ltb (padded m) (paddedEnd leading)) labels
       (λ m e. not-past-padded m leading e label) entries)
       ∙ not-past-counted leading labels
-
-  -- the same by numbers that are known: the digits of the leading digits, the limit, and the count
-  module _ (count limit r : ℕ) (count-is : count ≡ length (digitsOf leading)) (r-is : r ≡ countBelow limit labels) where
-    pub start-by : limit ≡ withZeros leading count → r ≡ startOf leading labels
-    unfolding padded
-    start-by e = r-is ∙ rw (e, count-is) start-below
-
-    pub end-by : limit ≡ withZeros (leading + 1) count → r ≡ startOf leading labels + lengthOf leading labels
-    unfolding paddedEnd
-    end-by e = r-is ∙ rw (e, count-is) end-below

@@ -1,33 +1,33 @@
 -- Padded labels stand as numbers in the order of the dictionary, and those that begin with leading digits in a range.
-use mathlib.Core.Path.{_≡_, refl, sym, ap, _∙_}
+use mathlib.Core.Path.{_≡_, refl, sym, _∙_}
 use mathlib.Core.Bool.{Bool, true, false, cond}
-use mathlib.Core.List.{List, [], _∷_, _++_}
-use Prim.Native.Nat.{ℕ, zero, suc, _+_, _*_, _/_, _%_, _-_, _^_, _≤_, _<_}
+use mathlib.Core.List.{List, [], _∷_}
+use Prim.Native.Nat.{ℕ, zero, suc, _+_, _*_, _-_, _^_, _≤_, _<_}
 use native.Mathlib.Omega.{arith}
-use native.Mathlib.Nat.{mul-le-mul-right, one-le-pow, pow-suc, sub-zero, pow-le-pow-right}
-use lib.Dec.{eqb, ltb}
-use lib.ListN.{length, length-append}
-use borrow.Author.Tests.{lt-ltb, le-ltb, ltb-true, ltb-false, eq-eqb, ne-eqb, eqb-true}
+use native.Mathlib.Nat.{mul-le-mul-right, one-le-pow, pow-suc, sub-zero}
+use lib.Dec.{ltb}
+use lib.ListN.{length}
+use borrow.Author.Tests.{lt-ltb, le-ltb, ltb-true, ltb-false, eq-eqb, ne-eqb}
 use Rattle.claims.specs.Dictionary.{isBefore}
-use Rattle.sheet.specs.Label.{Digits, digits-none, digits-cons, numberFrom, number, digitsWithin, digitsOf}
+use Rattle.sheet.specs.declared.Label.{Label}
+use Rattle.sheet.specs.Record.{Digits, digits-none, digits-cons, numberFrom, number, digitsOf}
 use Rattle.sheet.specs.Flow.{isLabel}
-use Rattle.sheet.proofs.Digits.{number-digits}
-use Rattle.sheet.proofs.Within.{label-digits}
+use Rattle.sheet.proofs.Records.{label-shape}
 use Rattle.lookup.specs.Lookup.{greatestDepth, begins, standsBefore, beginsWith}
 use Rattle.lookup.specs.Padded.{withZeros, padded, paddedEnd}
 
 -- ---- digits in k places, the most significant first, with zeros behind them
 
-value : ℕ → List ℕ → ℕ
+unfoldable pub value : ℕ → List ℕ → ℕ
 value k [] = 0
 value zero (a ∷ x) = 0
 value (suc k) (a ∷ x) = a * 10 ^ k + value k x
 
-power-some : (k : ℕ) → 1 ≤ 10 ^ k
+pub power-some : (k : ℕ) → 1 ≤ 10 ^ k
 power-some k = one-le-pow k 10 (omega arith)
 
 -- how many numbers of k places begin with so many digits
-abbrev span : ℕ → ℕ → ℕ
+abbrev pub span : ℕ → ℕ → ℕ
 span k count = 10 ^ (k - count)
 
 span-next : (k count : ℕ) → span (suc k) (suc count) ≡ span k count
@@ -43,10 +43,10 @@ value-span (suc k) (a ∷ x) (digits-cons low high d) h =
     let one : suc a ≤ 10 = omega arith in
     omega (arith, mul-le-mul-right (10 ^ k) one, pow-suc 10 k, span-next k (length x))
 
-value-below : (k : ℕ) (x : List ℕ) → Digits 9 x → length x ≤ k → value k x < 10 ^ k
+pub value-below : (k : ℕ) (x : List ℕ) → Digits 9 x → length x ≤ k → value k x < 10 ^ k
 value-below k x d h = omega (arith, value-span k x d h, power-some (k - length x))
 
-number-value : (k m : ℕ) (x : List ℕ) → length x ≤ k → numberFrom m x * span k (length x) ≡ m * 10 ^ k + value k x
+pub number-value : (k m : ℕ) (x : List ℕ) → length x ≤ k → numberFrom m x * span k (length x) ≡ m * 10 ^ k + value k x
 unfolding numberFrom value
 number-value k m [] h = rw (sub-zero k) (omega arith)
 number-value zero m (a ∷ x) h = absurd (omega arith)
@@ -105,57 +105,26 @@ not-past-value k w x (past i j l) = rw (i, j, le-ltb (value k x) (value k w + sp
 
 -- ---- labels as numbers
 
--- a number with at most k digits is below 10 ^ k
-below-within : (places k m : ℕ) → k < places → length (digitsWithin places m) ≤ k → m < 10 ^ k
-unfolding digitsWithin
-below-within zero k m l h = absurd (omega arith)
-below-within (suc places) zero m l h = go (eqb m 0) refl h
-  where
-    go : (b : Bool) → eqb m 0 ≡ b → length (cond b [] (digitsWithin places (m / 10) ++ (m % 10 ∷ []))) ≤ 0 → m < 10 ^ 0
-    go true e h = omega (arith, eqb-true m 0 e)
-    go false e h = absurd (omega (arith, simp length-append at h))
-below-within (suc places) (suc k) m l h = go (eqb m 0) refl h (below-within places k (m / 10) (omega arith))
-  where
-    go : (b : Bool) → eqb m 0 ≡ b
-        → length (cond b [] (digitsWithin places (m / 10) ++ (m % 10 ∷ []))) ≤ suc k
-        → (length (digitsWithin places (m / 10)) ≤ k → m / 10 < 10 ^ k) → m < 10 ^ suc k
-    go true e h rest = omega (arith, eqb-true m 0 e, power-some (suc k))
-    go false e h rest = omega (arith, pow-suc 10 k, rest (omega (arith, simp length-append at h)))
-
-digits-below : (m : ℕ) → length (digitsOf m) ≤ greatestDepth → m < 10 ^ length (digitsOf m)
-unfolding digitsOf
-digits-below m h = below-within 20 (length (digitsOf m)) m (omega arith) (omega arith)
-
--- what is known of a label: its digits, and its padded number by them
-pub record KnownLabel (m : ℕ) : Type 0 where
+-- what is known of a label: its digits
+pub record KnownLabel (m : Label) : Type 0 where
   pub digits : Digits 9 (digitsOf m)
   pub most : length (digitsOf m) ≤ greatestDepth
-  pub below : m < 10 ^ length (digitsOf m)
-  pub small : m < 10 ^ greatestDepth
 
-pub known : (m : ℕ) → isLabel greatestDepth m ≡ true → KnownLabel m
-unfolding isLabel
-known m e =
-    let d = label-digits greatestDepth (digitsOf m) e in
-    let below = digits-below m (d .1) in
-    let small : m < 10 ^ greatestDepth = omega (arith, pow-le-pow-right {n = 10} (omega arith) (d .1)) in
-    record { digits = d .0; most = d .1; below = below; small = small }
+pub known : (m : Label) → isLabel greatestDepth m ≡ true → KnownLabel m
+known m e = let s = label-shape greatestDepth m e in record { digits = s .1; most = s .2 }
 
-module _ (m : ℕ) (k : KnownLabel m) where
-  padded-value : padded m ≡ value greatestDepth (digitsOf m)
-  unfolding padded number
-  padded-value =
-      let places = length (digitsOf m) in
-      ap (λ n. n * span greatestDepth places) (sym (number-digits m (omega (arith, k .small))))
-      ∙ number-value greatestDepth 0 (digitsOf m) (k .most)
-      ∙ omega arith
+-- its padded number by them
+module _ (m : Label) (k : KnownLabel m) where
+  pub padded-value : padded m ≡ value greatestDepth (digitsOf m)
+  unfolding padded withZeros number
+  padded-value = number-value greatestDepth 0 (digitsOf m) (k .most) ∙ omega arith
 
-  padded-end : paddedEnd m ≡ value greatestDepth (digitsOf m) + span greatestDepth (length (digitsOf m))
+  pub padded-end : paddedEnd m ≡ value greatestDepth (digitsOf m) + span greatestDepth (length (digitsOf m))
   unfolding paddedEnd withZeros padded
   padded-end = omega (arith, padded-value)
 
 -- a label stands before another exactly if its padded number is less
-pub before-padded : (m w : ℕ) → isLabel greatestDepth m ≡ true → isLabel greatestDepth w ≡ true
+pub before-padded : (m w : Label) → isLabel greatestDepth m ≡ true → isLabel greatestDepth w ≡ true
     → standsBefore m w ≡ ltb (padded m) (padded w)
 unfolding standsBefore
 before-padded m w e f =
@@ -165,13 +134,8 @@ before-padded m w e f =
     (before-value greatestDepth (digitsOf w) (digitsOf m)
     (stands greatestDepth (digitsOf w) (digitsOf m) (b .digits) (a .digits) (b .most) (a .most)))
 
--- the same by numbers that are known to be the padded ones
-pub before-by : (m w a b : ℕ) → isLabel greatestDepth m ≡ true → isLabel greatestDepth w ≡ true → a ≡ padded m
-    → b ≡ padded w → standsBefore m w ≡ ltb a b
-before-by m w a b e f p q = rw (p, q) (before-padded m w e f)
-
 -- a label stands before leading digits or begins with them exactly if its padded number is less than their end
-pub not-past-padded : (m w : ℕ) → isLabel greatestDepth m ≡ true → isLabel greatestDepth w ≡ true
+pub not-past-padded : (m w : Label) → isLabel greatestDepth m ≡ true → isLabel greatestDepth w ≡ true
     → cond (standsBefore m w) true (beginsWith w m) ≡ ltb (padded m) (paddedEnd w)
 unfolding standsBefore beginsWith
 not-past-padded m w e f =

@@ -1,3 +1,4 @@
 pub mod Lookup
 pub mod Padded
+pub mod PaddedHalves
 pub mod Exactly

@@ -1,14 +1,20 @@
 // Looking up leading digits: the part of a slice of labels whose labels begin so.
-use digits::count_digits;
+use checks::label_at;
+use digits::count_decimal_digits;
 use digits::is_label;
+use sheet::Label;
 ghost use mathlib.Core.Path.{_≡_};
 ghost use mathlib.Core.Bool.{true};
-ghost use Prim.Native.Nat.{_≤_, _^_};
+ghost use Prim.Native.Nat.{_≤_, _^_, _/_};
+ghost use lib.Dec.{ltb};
+ghost use lib.ListN.{length};
 ghost use denote.Ref.{ptr};
+ghost use Rattle.sheet.specs.Record.{decimalDigits, numberDigits, labelsIn, numbersOf};
 ghost use Rattle.sheet.specs.Flow.{every, isLabel};
 ghost use Rattle.lookup.specs.Lookup.{greatestDepth, isRising, partFound};
 ghost use Rattle.lookup.specs.Lookup.{lookupAnswer, lookupValues, lookupPart, lookupPlace};
-ghost use Rattle.lookup.specs.Padded.{withZeros, padded as paddedOf, countBelow};
+ghost use Rattle.lookup.specs.Padded.{padded as paddedOf, paddedEnd, countBelow};
+ghost use Rattle.lookup.specs.PaddedHalves.{numberWithZeros, paddedNumber, HalvesOf, joined};
 
 // The answer of find: where the part starts and how many labels it has, or the number of the refusal.
 pub enum LookupAnswer {
@@ -16,16 +22,33 @@ pub enum LookupAnswer {
     Refused(u8),
 }
 
+// A number of 36 digits in two halves, the first 18 digits and the next 18.
+struct Halves {
+    first: u64,
+    rest: u64,
+}
+
 // The most digits of any label.
-const GREATEST_DEPTH: usize = 18;
+const GREATEST_DEPTH: usize = 36;
+
+// The most digits of each of its numbers.
+const NUMBER_DIGITS: usize = 18;
+
+// How many labels a slice holds; an odd number at the end is none.
+fn label_count(labels: &[u64]) -> usize
+    ensures { λ r. ⌜ r ≡ length (now (labels .entry)) / 2 ⌝ }
+{
+    labels.len() / 2
+}
 
 // Each entry is a label.
 fn all_labels(labels: &[u64]) -> bool
-    ensures { λ r. ⌜ r ≡ every (isLabel greatestDepth) (now (labels .entry)) ⌝ }
+    ensures { λ r. ⌜ r ≡ every (isLabel greatestDepth) (labelsIn (now (labels .entry))) ⌝ }
 {
+    let count = label_count(labels);
     let mut i = 0;
-    while i < labels.len() {
-        if is_label(GREATEST_DEPTH, labels[i]) {
+    while i < count {
+        if is_label(GREATEST_DEPTH, label_at(labels, i)) {
             i += 1;
         } else {
             return false;
@@ -34,37 +57,86 @@ fn all_labels(labels: &[u64]) -> bool
     true
 }
 
-// A number of count digits, or the one past the last of those, with zeros behind it.
+// A number of count digits, or the one past the last of those, with zeros behind it, up to 18 digits.
 fn with_zeros(number: u64, count: usize) -> u64
     requires { ⌜ number ≤ 10 ^ count ⌝ }
-    requires { ⌜ count ≤ greatestDepth ⌝ }
-    ensures { λ r. ⌜ r ≡ withZeros number count ⌝ }
+    requires { ⌜ count ≤ numberDigits ⌝ }
+    ensures { λ r. ⌜ r ≡ numberWithZeros number count ⌝ }
 {
     let mut m = number;
     let mut k = count;
-    while k < GREATEST_DEPTH {
+    while k < NUMBER_DIGITS {
         m = m * 10;
         k += 1;
     }
     m
 }
 
-// A label with zeros behind it, so that labels compare as in a dictionary.
-fn padded(label: u64) -> u64
-    requires { ⌜ isLabel greatestDepth label ≡ true ⌝ }
-    ensures { λ r. ⌜ r ≡ paddedOf label ⌝ }
+// A number with zeros behind its digits, up to 18 digits; 0 stays 0.
+fn padded_number(number: u64) -> u64
+    requires { ⌜ length (decimalDigits number) ≤ numberDigits ⌝ }
+    ensures { λ r. ⌜ r ≡ paddedNumber number ⌝ }
 {
-    with_zeros(label, count_digits(label))
+    if number == 0 {
+        return 0;
+    }
+    with_zeros(number, count_decimal_digits(number))
+}
+
+// A label with zeros behind its digits, up to 36 digits, so that labels compare as in a dictionary.
+fn padded(label: Label) -> Halves
+    requires { ⌜ isLabel greatestDepth label ≡ true ⌝ }
+    ensures { λ r. ⌜ HalvesOf (paddedOf label) r ⌝ }
+{
+    let first = padded_number(label.first);
+    let rest = padded_number(label.rest);
+    Halves {
+        first: first,
+        rest: rest,
+    }
+}
+
+// The first padded number past those of the labels that begin with the leading digits: one more at their last digit.
+fn padded_end(leading: Label) -> Halves
+    requires { ⌜ isLabel greatestDepth leading ≡ true ⌝ }
+    ensures { λ r. ⌜ HalvesOf (paddedEnd leading) r ⌝ }
+{
+    if leading.rest == 0 {
+        let first = with_zeros(leading.first + 1, count_decimal_digits(leading.first));
+        return Halves {
+            first: first,
+            rest: 0,
+        };
+    }
+    let rest = with_zeros(leading.rest + 1, count_decimal_digits(leading.rest));
+    Halves {
+        first: leading.first,
+        rest: rest,
+    }
+}
+
+// The padded label is less than a limit: by the first half, and where those are equal by the next.
+fn is_below(label: Label, limit: Halves) -> bool
+    requires { ⌜ isLabel greatestDepth label ≡ true ⌝ }
+    requires { ⌜ limit .rest ≤ 10 ^ numberDigits ⌝ }
+    ensures { λ r. ⌜ r ≡ ltb (paddedOf label) (joined limit) ⌝ }
+{
+    let first = padded_number(label.first);
+    if first == limit.first {
+        return padded_number(label.rest) < limit.rest;
+    }
+    first < limit.first
 }
 
 // Each label stands before the next.
 fn is_rising(labels: &[u64]) -> bool
-    requires { ⌜ every (isLabel greatestDepth) (now labels) ≡ true ⌝ }
-    ensures { λ r. ⌜ r ≡ isRising (now (labels .entry)) ⌝ }
+    requires { ⌜ every (isLabel greatestDepth) (labelsIn (now labels)) ≡ true ⌝ }
+    ensures { λ r. ⌜ r ≡ isRising (labelsIn (now (labels .entry))) ⌝ }
 {
+    let count = label_count(labels);
     let mut i = 1;
-    while i < labels.len() {
-        if padded(labels[i - 1]) < padded(labels[i]) {
+    while i < count {
+        if is_below(label_at(labels, i - 1), padded(label_at(labels, i))) {
             i += 1;
         } else {
             return false;
@@ -74,14 +146,16 @@ fn is_rising(labels: &[u64]) -> bool
 }
 
 // How many labels stand before a limit, by their padded numbers.
-fn count_below(limit: u64, labels: &[u64]) -> usize
-    requires { ⌜ every (isLabel greatestDepth) (now labels) ≡ true ⌝ }
-    ensures { λ r. ⌜ r ≡ countBelow limit (now (labels .entry)) ⌝ }
+fn count_below(limit: Halves, labels: &[u64]) -> usize
+    requires { ⌜ limit .rest ≤ 10 ^ numberDigits ⌝ }
+    requires { ⌜ every (isLabel greatestDepth) (labelsIn (now labels)) ≡ true ⌝ }
+    ensures { λ r. ⌜ r ≡ countBelow (joined limit) (labelsIn (now (labels .entry))) ⌝ }
 {
+    let entries = label_count(labels);
     let mut count = 0;
     let mut i = 0;
-    while i < labels.len() {
-        if padded(labels[i]) < limit {
+    while i < entries {
+        if is_below(label_at(labels, i), limit) {
             count += 1;
         }
         i += 1;
@@ -90,22 +164,21 @@ fn count_below(limit: u64, labels: &[u64]) -> usize
 }
 
 // Where the labels that begin with the leading digits start, and how many there are.
-fn part_found(leading: u64, labels: &[u64]) -> LookupAnswer
+fn part_found(leading: Label, labels: &[u64]) -> LookupAnswer
     requires { ⌜ isLabel greatestDepth leading ≡ true ⌝ }
-    requires { ⌜ every (isLabel greatestDepth) (now labels) ≡ true ⌝ }
-    ensures { λ r. ⌜ r ≡ partFound leading (now (labels .entry)) ⌝ }
+    requires { ⌜ every (isLabel greatestDepth) (labelsIn (now labels)) ≡ true ⌝ }
+    ensures { λ r. ⌜ r ≡ partFound leading (labelsIn (now (labels .entry))) ⌝ }
 {
-    let count = count_digits(leading);
-    let start = count_below(with_zeros(leading, count), labels);
-    let end = count_below(with_zeros(leading + 1, count), labels);
+    let start = count_below(padded(leading), labels);
+    let end = count_below(padded_end(leading), labels);
     LookupAnswer::Part(start, end - start)
 }
 
 // Where the part starts and how many labels it has. Refused by 11 for the leading digits, 11 for the entries, 16, in
 // this order.
-pub fn find(leading: u64, labels: &[u64]) -> LookupAnswer
-    ensures answer { λ r. ⌜ r ≡ lookupAnswer leading (now (labels .entry)) ⌝ }
-    ensures values { λ r. ⌜ lookupValues r ≡ lookupValues (lookupAnswer leading (now (labels .entry))) ⌝ }
+pub fn find(leading: Label, labels: &[u64]) -> LookupAnswer
+    ensures answer { λ r. ⌜ r ≡ lookupAnswer leading (labelsIn (now (labels .entry))) ⌝ }
+    ensures values { λ r. ⌜ lookupValues r ≡ lookupValues (lookupAnswer leading (labelsIn (now (labels .entry)))) ⌝ }
 {
     if is_label(GREATEST_DEPTH, leading) {
         if all_labels(labels) {
@@ -121,16 +194,18 @@ pub fn find(leading: u64, labels: &[u64]) -> LookupAnswer
 
 // The part of the slice whose labels begin with the leading digits, empty at the place they would take if none does;
 // refused, the empty part at the slice's start. The refusal's number, or 0, goes to the lent number.
-pub fn lookup<'a>(leading: u64, labels: &'a [u64], refusal: &mut u8) -> &'a [u64]
-    ensures part { λ r. ⌜ now r ≡ lookupPart leading (now (labels .entry)) ⌝ }
-    ensures place { λ r. ⌜ ptr r ≡ lookupPlace leading (now (labels .entry)) (ptr (labels .entry)) ⌝ }
-    ensures refusal { λ _. ⌜ now (refusal .exit) ≡ lookupValues (lookupAnswer leading (now (labels .entry))) .number ⌝ }
+pub fn lookup<'a>(leading: Label, labels: &'a [u64], refusal: &mut u8) -> &'a [u64]
+    ensures part { λ r. ⌜ now r ≡ numbersOf (lookupPart leading (labelsIn (now (labels .entry)))) ⌝ }
+    ensures place { λ r. ⌜ ptr r ≡ lookupPlace leading (labelsIn (now (labels .entry))) (ptr (labels .entry)) ⌝ }
+    ensures refusal { λ _. ⌜ now (refusal .exit)
+        ≡ lookupValues (lookupAnswer leading (labelsIn (now (labels .entry)))) .number ⌝ }
 {
     match find(leading, labels) {
         LookupAnswer::Part(start, length) => {
             *refusal = 0;
-            let end = start + length;
-            return &labels[start..end];
+            let from = 2 * start;
+            let to = from + 2 * length;
+            return &labels[from..to];
         }
         LookupAnswer::Refused(number) => {
             *refusal = number;

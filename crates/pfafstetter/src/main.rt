@@ -3,6 +3,7 @@
 use listing::Listing;
 use programs::CELLS;
 use programs::Input;
+use programs::LABEL_NUMBERS;
 use programs::REPORT_BYTES;
 use programs::ROWS;
 use programs::WORK_PLACES;
@@ -40,7 +41,7 @@ fn main() {
     let mut dirs = [0u8; CELLS];
     let mut weights = [0u16; ROWS];
     let mut areas = [0u32; CELLS];
-    let mut labels = [0u64; CELLS];
+    let mut labels = [0u64; LABEL_NUMBERS];
     let mut work = [0u32; WORK_PLACES];
     let mut out = [0u8; REPORT_BYTES];
     match read_input(&mut dirs, &mut weights) {

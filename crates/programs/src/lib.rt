@@ -7,14 +7,17 @@ use reading::Reader;
 // The cells of the largest sheet that a program takes. A direction byte, an area and a label are lent for each.
 pub const CELLS: usize = 2048;
 
+// The numbers of their labels, two each.
+pub const LABEL_NUMBERS: usize = 4096;
+
 // The rows of the largest sheet. A weight is lent for each.
 pub const ROWS: usize = 256;
 
 // 8 work places a cell.
 pub const WORK_PLACES: usize = 16384;
 
-// 36 bytes of text a cell, beside the heading.
-pub const REPORT_BYTES: usize = 73747;
+// 54 bytes of text a cell, beside the heading.
+pub const REPORT_BYTES: usize = 110611;
 
 // The number of the error of a call that a signal interrupted.
 const INTERRUPTED: i32 = 4;

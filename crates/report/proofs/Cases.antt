@@ -16,7 +16,7 @@ abbrev sheet12 : LentSheet
 sheet12 = lentSheet (replicate 12 0) (replicate 3 0)
 
 abbrev lent12 : Lent
-lent12 = record { areas = replicate 12 0; labels = replicate 12 0; work = replicate 96 0 }
+lent12 = record { areas = replicate 12 0; labels = replicate 24 0; work = replicate 96 0 }
 
 -- what document 01 prints for sample A
 pub sample-report : report sheet12 lent12 sampleA
@@ -64,3 +64,20 @@ pub least-refused : report sheet12 lent12 (ascii "least,rows,cols,depth,split\n6
     ≡ ascii "refused,place\n19,2\n"
 unfolding report readFile linesOf readFrom lineAfter endAfter endTaken verdictOf readLent reportText refusalText
 least-refused = refl
+
+-- a depth of 36 is the largest
+pub depth-36 : report sheet12 lent12 (ascii "rows,cols,depth\n1,2,36\nrow,col,dir\n0,0,16\n0,1,16\n")
+    ≡ ascii "row,col,area,label\n0,0,2,0\n0,1,1,0\n"
+unfolding report readFile linesOf readFrom lineAfter endAfter endTaken verdictOf readLent intakeLent reportText listingText
+depth-36 = refl
+
+pub depth-37 : report sheet12 lent12 (ascii "rows,cols,depth\n1,2,37\n") ≡ ascii "refused,place\n2,2\n"
+unfolding report readFile linesOf readFrom lineAfter endAfter endTaken verdictOf readLent reportText refusalText
+depth-37 = refl
+
+-- 3 where three numbers are lent for the labels of two cells
+pub labels-short : report sheet12 (record { areas = replicate 12 0; labels = replicate 3 0; work = replicate 96 0 })
+    (ascii "rows,cols,depth\n1,2,36\nrow,col,dir\n0,0,16\n0,1,16\n")
+    ≡ ascii "refused,place\n3,0\n"
+unfolding report readFile linesOf readFrom lineAfter endAfter endTaken verdictOf readLent intakeLent reportText listingText refusalText
+labels-short = refl

@@ -19,6 +19,7 @@ use Rattle.report.proofs.Numbers.{AllOf, one-of}
 use Rattle.report.proofs.Endings.{file-ending, listing-no-refusal}
 use Rattle.report.proofs.Files.{file-refused, file-listed}
 use Rattle.report.proofs.Lengths.{program-report}
+use Rattle.report.proofs.AsBefore.{file-as-before}
 
 -- ---- which numbers a refusal can have
 
@@ -43,7 +44,7 @@ abbrev sheet2 : LentSheet
 sheet2 = lentSheet (replicate 2 0) (replicate 1 0)
 
 abbrev lent2 : Lent
-lent2 = record { areas = replicate 2 0; labels = replicate 2 0; work = replicate 16 0 }
+lent2 = record { areas = replicate 2 0; labels = replicate 4 0; work = replicate 16 0 }
 
 abbrev refusedWith : (number place : ℕ) (bytes : List ℕ) → fileVerdict sheet2 lent2 bytes ≡ Refused number place
     → RefusedWith number
@@ -104,6 +105,7 @@ demand-one = record {
   numbers = file-refusals;
   refused = file-refused;
   listed = file-listed;
+  as-before = file-as-before;
   apart = listing-no-refusal;
   in-pieces = λ pieces line buffer T L room few.
       ap (λ (f : FileRead). reportInto (f .read) (f .lent) L buffer)

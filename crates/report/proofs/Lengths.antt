@@ -3,29 +3,31 @@ use mathlib.Core.Path.{_≡_, refl, ap, _∙_}
 use mathlib.Core.Bool.{Bool, true, false}
 use mathlib.Core.List.{List, [], _∷_}
 use Prim.Native.Nat.{ℕ, suc, _+_, _*_, _^_, _<_, _≤_}
-use native.Mathlib.Nat.{pow-le-pow-right, mul-le-mul-right}
+use native.Mathlib.Nat.{mul-le-mul-right}
 use native.Mathlib.Omega.{arith}
 use lib.Dec.{eqb}
 use lib.ListN.{length, length-append}
 use Rattle.sheet.specs.declared.Outcome.the-variants.{Accepted}
 use Rattle.sheet.specs.Sheet.{Sheet, cells, inside}
 use Rattle.sheet.specs.Area.{area}
-use Rattle.sheet.specs.Label.{areasOf, labelOf, labelDigits, labelsOf}
-use Rattle.sheet.specs.Refusal.{Lent, written, outcome}
-use Rattle.sheet.proofs.Digits.{number-bound}
+use Rattle.sheet.specs.Record.{digitsOf, labelAt}
+use Rattle.sheet.specs.Label.{areasOf, labelsOf}
+use Rattle.sheet.specs.Refusal.{Lent, outcome}
+use Rattle.sheet.proofs.Cells.{inside-lt}
 use Rattle.intake.specs.declared.Intake.{Intake}
 use Rattle.intake.specs.Intake.{LentSheet}
 use Rattle.intake.proofs.Laws.{line-long}
 use Rattle.claims.proofs.Theorems.{area-bounds}
 use Rattle.claims.proofs.Sheets.{accepted-passed}
-use Rattle.sheet.proofs.Lists.{length-list, written-at}
-use Rattle.claims.proofs.Written.{one-to-nine, at-most-depth}
+use Rattle.sheet.proofs.Lists.{list-at}
+use Rattle.claims.specs.Demand.{Inside}
+use Rattle.claims.proofs.Written.{at-most-depth, digits-written}
 use Rattle.lines.specs.Fields.{longer}
 use Rattle.listing.specs.Listing.{listingText}
 use Rattle.listing.specs.Writing.{textInto, accepted}
 use Rattle.sheet.proofs.Within.{rows-cols-most, depth-most}
 use Rattle.listing.proofs.Answers.{text-into}
-use Rattle.listing.proofs.Lengths.{refusal-most, Bounded, listing-written, listing-most}
+use Rattle.listing.proofs.Lengths.{refusal-most, listing-most-36-digits}
 use Rattle.reading.specs.Lines.{linesOf}
 use Rattle.reading.specs.Feed.{largestCount}
 use Rattle.report.specs.declared.Verdict.{Verdict}
@@ -37,6 +39,7 @@ use Rattle.report.specs.Conditions.{Ending, line-refused, end-refused, s
 use Rattle.report.specs.Demand.{fileSheet, programCells, programBytes}
 use Rattle.report.proofs.Numbers.{AllOf, one-of, file-number, file-fits}
 use Rattle.report.proofs.Endings.{file-ending}
+use Rattle.report.proofs.ReportLaws.{label-listed}
 use Rattle.report.proofs.Files.{file-refused, file-listed, file-accepted}
 
 -- ---- lines
@@ -72,40 +75,22 @@ module _ (S : Sheet) (L : Lent) (accepted : outcome S L ≡ Accepted) where
       go true e = let b = area-bounds S L accepted in omega (arith, b .most c e, b .most-of-all)
       go false e = rw e (omega arith)
 
-  label-small : (c : ℕ) → labelOf S c < 10 ^ 18
-  unfolding labelOf
-  label-small c = go (inside (S .grid) c) refl
-    where
-      go : (t : Bool) → inside (S .grid) c ≡ t → labelOf S c < 10 ^ 18
-      go true e =
-          let few : length (labelDigits S c) ≤ 18 = omega (
-            arith,
-            at-most-depth S L accepted c,
-            depth-most (S .depth) (accepted-passed S L accepted .depth),
-          ) in
-          rw e (omega (
-            arith,
-            number-bound (labelDigits S c) (one-to-nine S L accepted c e),
-            pow-le-pow-right {n = 10} (omega arith) few,
-          ))
-      go false e = rw e (omega arith)
+  label-short : (c : ℕ) → Inside S c → length (digitsOf (labelAt (labelsOf S) c)) ≤ 36
+  label-short c i =
+      rw (label-listed S L accepted c i, digits-written S L accepted c i)
+      (omega (
+        arith,
+        at-most-depth S L accepted c,
+        depth-most (S .depth) (accepted-passed S L accepted .depth),
+      ))
 
-  pub listed-most : length (listingText (S .grid) (areasOf S) (labelsOf S)) ≤ 19 + cells (S .grid) * 36
-  unfolding areasOf labelsOf
+  pub listed-most : length (listingText (S .grid) (areasOf S) (labelsOf S)) ≤ 19 + cells (S .grid) * 54
+  unfolding areasOf
   listed-most =
       let n = cells (S .grid) in
       let most = rows-cols-most (S .grid .rows) (S .grid .cols) (accepted-passed S L accepted .sizes) in
-      let bounded : Bounded (S .grid) (written (areasOf S) []) (written (labelsOf S) []) 8 18 = record {
-        rows-most = most .0;
-        cols-most = most .1;
-        area-digits = omega arith;
-        label-digits = omega arith;
-        areas-below = λ c l. rw (written-at (area S) n c [] l) (area-small c);
-        labels-below = λ c l. rw (written-at (labelOf S) n c [] l) (label-small c);
-      } in
-      rw (← listing-written (S .grid) (areasOf S) (labelsOf S) [] [] (length-list (area S) 0 n)
-      (length-list (labelOf S) 0 n))
-      (listing-most (S .grid) (written (areasOf S) []) (written (labelsOf S) []) bounded)
+      listing-most-36-digits (S .grid) (areasOf S) (labelsOf S) (most .0) (most .1)
+      (λ c i. rw (list-at (area S) 0 n c (inside-lt (S .grid) c i)) (area-small (0 + c))) label-short
 
 -- ---- the report
 
@@ -142,7 +127,7 @@ module _ (T : LentSheet) (L : Lent) (bytes : List ℕ) (few : length bytes < lar
   )
   ending-small (labelled {z} r) = omega (arith, file-fits (r .file) .dirs-enough, takes-length (r .file .lines .takes))
 
-  module _ (most : ℕ) (refusal : 39 ≤ most) (listing : 19 + length (T .dirs) * 36 ≤ most) where
+  module _ (most : ℕ) (refusal : 39 ≤ most) (listing : 19 + length (T .dirs) * 54 ≤ most) where
     verdict-most : (v : Verdict) → fileVerdict T L bytes ≡ v → Small v → length (report T L bytes) ≤ most
     verdict-most (Refused number place) e s =
         rw (file-refused T L bytes number place e) (omega (
@@ -151,12 +136,12 @@ module _ (T : LentSheet) (L : Lent) (bytes : List ℕ) (few : length bytes < lar
         ))
     verdict-most (Labelled z) e s =
         rw (file-listed T L bytes z e)
-        (omega (arith, listed-most (fileSheet T bytes z) L (file-accepted T L bytes z e), mul-le-mul-right 36 s))
+        (omega (arith, listed-most (fileSheet T bytes z) L (file-accepted T L bytes z e), mul-le-mul-right 54 s))
 
     pub report-most : length (report T L bytes) ≤ most
     report-most = verdict-most (fileVerdict T L bytes) refl (ending-small (file-ending T L bytes))
 
--- the program lends 2,048 direction bytes and a buffer of 19 + 2,048 × 36 bytes: no report is longer
+-- the program lends 2,048 direction bytes and a buffer of 19 + 2,048 × 54 bytes: no report is longer
 pub program-report : (T : LentSheet) (L : Lent) (bytes buffer : List ℕ) → length bytes < largestCount
     → length (T .dirs) ≡ programCells → length buffer ≡ programBytes
     → textInto (report T L bytes) buffer ≡ accepted (report T L bytes) buffer

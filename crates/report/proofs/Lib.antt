@@ -4,4 +4,5 @@ pub mod Endings
 pub mod ReportLaws
 pub mod Files
 pub mod Lengths
+pub mod AsBefore
 pub mod Demand

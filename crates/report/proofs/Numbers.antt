@@ -300,7 +300,7 @@ sheet-or false x y hx hy = hy
 -- sizes within their bounds pass checks 1, 2 and 19, and weights from 1 to 1000 pass 17
 module _ (S : Sheet) (L : Lent) (rows-some : 1 ≤ S .grid .rows) (rows-most : S .grid .rows ≤ 256)
     (cols-some : 1 ≤ S .grid .cols) (cols-most : S .grid .cols ≤ 256) (depth-some : 1 ≤ S .depth)
-    (depth-most : S .depth ≤ 18) (least-some : 1 ≤ S .least) (least-most : S .least ≤ 65536000)
+    (depth-most : S .depth ≤ 36) (least-some : 1 ≤ S .least) (least-most : S .least ≤ 65536000)
     (split-some : 1 ≤ S .split) (split-most : S .split ≤ 4)
     (weights-fit : weightsFit (S .grid .rows) (S .weights) ≡ true) where
   sizes-passed : sizesFit (S .grid .rows) (S .grid .cols) ≡ true
@@ -315,7 +315,7 @@ module _ (S : Sheet) (L : Lent) (rows-some : 1 ≤ S .grid .rows) (rows-most : S
 
   depth-passed : depthFits (S .depth) ≡ true
   unfolding depthFits
-  depth-passed = rw (le-leb 1 (S .depth) depth-some, le-leb (S .depth) 18 depth-most)
+  depth-passed = rw (le-leb 1 (S .depth) depth-some, le-leb (S .depth) 36 depth-most)
 
   split-passed : leastAndSplitFit (S .least) (S .split) ≡ true
   unfolding leastAndSplitFit

@@ -1,23 +1,27 @@
 -- The text of a verdict in a buffer, and what a file's report is.
 use mathlib.Core.Option.{Option, none, some}
-use mathlib.Core.Path.{_≡_, refl, ap, _∙_}
+use mathlib.Core.Path.{_≡_, refl, sym, ap, _∙_}
 use mathlib.Core.List.{List}
-use Prim.Native.Nat.{ℕ, _≤_}
+use Prim.Native.Nat.{ℕ, suc, _*_, _≤_}
 use native.Mathlib.Omega.{arith}
 use borrow.Author.Tests.{leb-true}
 use lib.Dec.{leb}
-use lib.ListN.{length, length-append}
+use lib.ListN.{length, drop, length-append}
 use Rattle.sheet.specs.declared.Outcome.{Outcome}
 use Rattle.sheet.specs.declared.Outcome.the-variants.{Accepted, Refused as NotLabelled}
 use Rattle.sheet.specs.Sheet.{Sheet, cells}
+use Rattle.sheet.specs.Record.{labelPlaces, labelAt}
 use Rattle.sheet.specs.Label.{areasOf, labelsOf, labelOf}
 use Rattle.sheet.specs.Area.{area}
 use Rattle.sheet.specs.Refusal.{Lent, slicesFit, outcome, ifAccepted, lentAfter}
 use Rattle.sheet.proofs.Within.{both-true}
 use Rattle.faults.specs.declared.Sizes.{Sizes}
 use Rattle.intake.specs.Intake.{LentSheet, endedSizes}
+use Rattle.claims.specs.Demand.{Inside}
 use Rattle.claims.proofs.Sheets.{accepted-passed}
+use Rattle.sheet.proofs.Cells.{inside-lt}
 use Rattle.sheet.proofs.Lists.{length-list}
+use Rattle.sheet.proofs.Slices.{numbers-enough, label-kept, numbers-listed-length}
 use Rattle.labelling.specs.FromIntake.{sheetOf, lentWith, intakeLent}
 use Rattle.listing.specs.declared.Listing.{Listing}
 use Rattle.listing.specs.Listing.{listingText}
@@ -41,17 +45,32 @@ module _ (S : Sheet) (L : Lent) (accepted : outcome S L ≡ Accepted) where
       leb-true _ _
       (both-true (leb (cells (S .grid)) (length (S .grid .dirs))) _ (accepted-passed S L accepted .slices) .0)
 
-  written-long : (new old : List ℕ) → length new ≡ cells (S .grid)
-      → cells (S .grid) ≤ length (ifAccepted (outcome S L) new old)
-  written-long new old e = rw accepted (simp length-append (omega arith))
+  written-long : (new old : List ℕ) → length new ≤ length (ifAccepted (outcome S L) new old)
+  written-long new old = rw accepted (simp length-append (omega arith))
 
   pub areas-long : cells (S .grid) ≤ length (lentAfter S L .areas)
   unfolding lentAfter areasOf
-  areas-long = written-long (areasOf S) (L .areas) (length-list (area S) 0 (cells (S .grid)))
+  areas-long =
+      omega (arith, written-long (areasOf S) (L .areas), length-list (area S) 0 (cells (S .grid)))
 
-  pub labels-long : cells (S .grid) ≤ length (lentAfter S L .labels)
-  unfolding lentAfter labelsOf
-  labels-long = written-long (labelsOf S) (L .labels) (length-list (labelOf S) 0 (cells (S .grid)))
+  -- each label is two numbers
+  pub labels-length : length (labelsOf S) ≡ 2 * cells (S .grid)
+  unfolding labelsOf
+  labels-length = numbers-listed-length (labelOf S) 0 (cells (S .grid))
+
+  pub labels-long : cells (S .grid) ≤ labelPlaces (length (lentAfter S L .labels))
+  unfolding lentAfter
+  labels-long =
+      numbers-enough (cells (S .grid)) (length (lentAfter S L .labels))
+      (omega (arith, written-long (labelsOf S) (L .labels), labels-length))
+
+  -- the label that the listing of the sheet has is the one that was written
+  pub label-listed : (c : ℕ) → Inside S c → labelAt (labelsOf S) c ≡ labelAt (lentAfter S L .labels) c
+  unfolding lentAfter
+  label-listed c i =
+      rw accepted
+      (sym (label-kept (labelsOf S) (drop (length (labelsOf S)) (L .labels)) c
+      (numbers-enough (suc c) (length (labelsOf S)) (omega (arith, labels-length, inside-lt (S .grid) c i)))))
 
   -- its listing is in the buffer, if it fits
   sheet-into : (buffer : List ℕ) → listingInto (S .grid) (lentAfter S L .areas) (lentAfter S L .labels) buffer
@@ -65,8 +84,8 @@ module _ (S : Sheet) (L : Lent) (accepted : outcome S L ≡ Accepted) where
   unfolding lentAfter areasOf labelsOf
   sheet-text =
       rw accepted
-      (listing-written (S .grid) (areasOf S) (labelsOf S) (L .areas) (L .labels)
-      (length-list (area S) 0 (cells (S .grid))) (length-list (labelOf S) 0 (cells (S .grid))))
+      (listing-written (S .grid) (areasOf S) (L .areas) (labelsOf S) (L .labels)
+      (length-list (area S) 0 (cells (S .grid))) labels-length)
 
 -- ---- the verdict and its text
 

@@ -3,7 +3,7 @@
 use mathlib.Core.Path.{_≡_}
 use mathlib.Core.Bool.{true}
 use mathlib.Core.List.{List}
-use Prim.Native.Nat.{ℕ, _<_}
+use Prim.Native.Nat.{ℕ, _<_, _≤_}
 use lib.ListN.{length}
 use Rattle.lines.specs.Fields.{lineBytes}
 use Rattle.sheet.specs.Sheet.{Grid, Sheet}
@@ -11,8 +11,10 @@ use Rattle.sheet.specs.Label.{areasOf, labelsOf}
 use Rattle.sheet.specs.Refusal.{Lent}
 use Rattle.faults.specs.declared.Sizes.{Sizes}
 use Rattle.intake.specs.Intake.{LentSheet}
+use Rattle.claims.specs.AsBefore.{numberLabels}
 use Rattle.labelling.specs.FromIntake.{sheetOf}
 use Rattle.listing.specs.Listing.{listingText, refusalText}
+use Rattle.listing.specs.AsBefore.{listingOfNumbers}
 use Rattle.listing.specs.Writing.{textInto, accepted}
 use Rattle.reading.specs.Lines.{readFile}
 use Rattle.reading.specs.Feed.{largestCount}
@@ -42,13 +44,17 @@ fileSheet T bytes z = sheetOf z (readFile T bytes .lent)
 abbrev pub sheetListing : Sheet → List ℕ
 sheetListing S = listingText (S .grid) (areasOf S) (labelsOf S)
 
+-- its listing as document 01 has it, with a label as one decimal number
+abbrev pub numberListing : Sheet → List ℕ
+numberListing S = listingOfNumbers (S .grid) (areasOf S) (numberLabels S)
+
 -- what the program lends: 2,048 direction bytes (and 256 weights, on which the length of a report does not depend), and
--- a buffer for a heading and 36 bytes a cell, which is enough for areas of up to 8 digits
+-- a buffer for a heading and 54 bytes a cell, which is enough for areas of up to 8 digits and labels of up to 36
 abbrev pub programCells : ℕ
 programCells = 2048
 
 abbrev pub programBytes : ℕ
-programBytes = 73747
+programBytes = 110611
 
 pub record DemandOne : Type 0 where
   -- a file is labelled or refused, by document 01's conditions and in its order
@@ -60,6 +66,9 @@ pub record DemandOne : Type 0 where
   -- the report of a labelled one is its full listing
   pub listed : (T : LentSheet) (L : Lent) (bytes : List ℕ) (z : Sizes)
       → fileVerdict T L bytes ≡ Labelled z → report T L bytes ≡ sheetListing (fileSheet T bytes z)
+  -- "a sheet of depth 18 or less lists the same bytes" as before
+  pub as-before : (T : LentSheet) (L : Lent) (bytes : List ℕ) (z : Sizes)
+      → fileVerdict T L bytes ≡ Labelled z → z .depth ≤ 18 → report T L bytes ≡ numberListing (fileSheet T bytes z)
   -- no text is both
   pub apart : (G : Grid) (areas labels : List ℕ) (number place : ℕ)
       → listingText G areas labels ≡ refusalText number place → ⊥

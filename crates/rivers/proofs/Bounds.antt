@@ -4,6 +4,7 @@ use mathlib.Core.List.{List}
 use Prim.Native.Nat.{ℕ, suc, _+_, _*_, _^_, _≤_, _<_}
 use native.Mathlib.Nat.{mul-le-mul-right, suc-mul, le-refl, le-add-right, le-trans}
 use native.Mathlib.Nat.{lt-of-lt-of-le, add-lt-add-of-le-of-lt}
+use Rattle.sheet.specs.Record.{labelPlaces}
 use Rattle.rivers.specs.UnitAt.{Places}
 
 -- the measure: the digits left, and then the run's length
@@ -21,6 +22,7 @@ pub measure-length : (d : ℕ) {n m : ℕ} → n < m → measure d n < measure d
 unfolding measure
 measure-length d h = add-lt-add-of-le-of-lt (le-refl (d * 2 ^ 64)) h
 
-pub places-at : {cell size : List ℕ} {areas n m split : ℕ} → m ≡ n → Places cell size areas n split
-    → Places cell size areas m split
-places-at {cell} {size} {areas} {split = split} q l = subst (λ (k : ℕ). Places cell size areas k split) (sym q) l
+pub places-at : {cell size : List ℕ} {areas n m split : ℕ} → m ≡ n
+    → Places cell size areas (labelPlaces n) split → Places cell size areas (labelPlaces m) split
+places-at {cell} {size} {areas} {split = split} q l =
+    subst (λ (k : ℕ). Places cell size areas (labelPlaces k) split) (sym q) l

@@ -1,4 +1,4 @@
--- The law of the order of labels for labels as they are written, as numbers.
+-- The law of the order of labels for labels as they are written, as records.
 use mathlib.Core.Path.{_≡_, sym, ap, _∙_}
 use mathlib.Core.List.{List}
 use Prim.Native.Nat.{ℕ, _+_, _≤_, _<_}
@@ -7,18 +7,19 @@ use lib.ListN.{length, getD}
 use Rattle.sheet.specs.declared.Next.{Next}
 use Rattle.sheet.specs.Water.{Passes}
 use Rattle.sheet.specs.River.{river}
-use Rattle.sheet.specs.Label.{Digits, digits-none, digits-cons, holds, label, number, digitsOf}
-use Rattle.sheet.proofs.Digits.{digits-number}
+use Rattle.sheet.specs.Record.{Digits, digits-none, digits-cons, recordOf, digitsOf, labelPlaces}
+use Rattle.sheet.specs.Label.{holds, label}
+use Rattle.sheet.proofs.Records.{digits-record}
 use Rattle.claims.specs.Demand.{Shares, digitsAt}
 use Rattle.claims.proofs.Lawful.{in-test}
 use Rattle.claims.proofs.Parts.{test-true}
 use Rattle.claims.proofs.Rivers.{river-headed, river-covers}
 use Rattle.claims.proofs.Mouths.{label-at-most, label-range}
 use Rattle.claims.proofs.Units.{digitsIn, drains-map}
-use Rattle.rivers.specs.Labelled.{relabelled}
+use Rattle.rivers.specs.Labelled.{cellsLabelled}
 use Rattle.rivers.specs.UnitAt.{NetworkOf, Places}
 use Rattle.rivers.specs.LabelOrder.{InLabelOrder}
-use Rattle.rivers.proofs.Relabelled.{relabelled-at}
+use Rattle.rivers.proofs.Relabelled.{labelled-at}
 use Rattle.rivers.proofs.LabelOrder.{river-in-order}
 
 -- the same cells and labels, given in another way
@@ -68,11 +69,12 @@ digits-most h (digits-cons low high d) = digits-cons low (omega arith) (digits-m
 -- the labels of the river whose mouth stands at position m, written for its cells
 module _ {cell size area : List ℕ} {areas split least : ℕ} (old : List ℕ) (depth m : ℕ)
     (n : NetworkOf cell size area split least)
-    (places : Places cell size areas (length old) split) (depth-most : depth ≤ 18) (on : m < length cell) where
+    (places : Places cell size areas (labelPlaces (length old)) split) (depth-most : depth ≤ 36)
+    (on : m < length cell) where
   abbrev labelled : List ℕ
   labelled =
-      relabelled (holds (n .network) (river (n .network) (getD cell m 0)))
-      (λ c. number (label (n .network) depth (river (n .network) (getD cell m 0)) c)) old
+      cellsLabelled (holds (n .network) (river (n .network) (getD cell m 0)))
+      (λ c. recordOf (label (n .network) depth (river (n .network) (getD cell m 0)) c)) old
 
   back : (c : ℕ) → Passes (n .network .next) c (getD cell m 0)
       → digitsIn (n .network) (getD cell m 0) depth c ≡ digitsAt labelled c
@@ -80,13 +82,13 @@ module _ {cell size area : List ℕ} {areas split least : ℕ} (old : List ℕ) 
       let i = river-covers (n .lawful) (getD cell m 0) c h in
       let at = n .laid-out .covering c m on h in
       let within = places .for-labels .within m on in
-      let room : c < length old = rw (at .3) at (places .for-labels .on (at .0) (omega (arith, at .2))) in
+      let room : c < labelPlaces (length old) = rw (at .3) at (places .for-labels .on (at .0) (omega (arith, at .2))) in
       let headed = river-headed (n .lawful) (getD cell m 0) in
       let range = label-range (n .lawful) depth (river (n .network) (getD cell m 0)) c headed i in
       let nine = digits-most {more = 9} (omega (arith, places .split-most, n .laid-out .split-is)) range in
       let short = label-at-most (n .network) depth (river (n .network) (getD cell m 0)) c in
       let held = test-true (in-test (n .lawful) (river (n .network) (getD cell m 0)) c) i in
-      sym (ap digitsOf (relabelled-at _ _ old c room ∙ rw held) ∙ digits-number _ nine (omega arith))
+      sym (ap digitsOf (labelled-at _ _ old c room ∙ rw held) ∙ digits-record _ nine (omega arith))
 
   pub written-in-order : {labels : List ℕ} → labels ≡ labelled
       → InLabelOrder (n .network .next) (λ c. Passes (n .network .next) c (getD cell m 0)) (digitsAt labels)

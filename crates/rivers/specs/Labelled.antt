@@ -5,7 +5,9 @@ use Prim.Native.Nat.{ℕ, zero, suc}
 use lib.Dec.{eqb}
 use lib.ListN.{getD}
 use Rattle.sheet.specs.River.{Network, Run}
-use Rattle.sheet.specs.Label.{holds, label, number}
+use Rattle.sheet.specs.declared.Label.{Label}
+use Rattle.sheet.specs.Record.{recordOf, placeAt, numberIn}
+use Rattle.sheet.specs.Label.{holds, label}
 
 -- the list with f c at each place c that passes the test, and its own value elsewhere; its places are counted from i
 unfoldable pub relabelledFrom : (ℕ → Bool) → (ℕ → ℕ) → ℕ → List ℕ → List ℕ
@@ -16,11 +18,14 @@ unfoldable pub relabelled : (ℕ → Bool) → (ℕ → ℕ) → List ℕ → Li
 unfolding relabelledFrom
 relabelled test f l = relabelledFrom test f 0 l
 
--- the cells that a unit holds have their labels: the digits gathered, and at most `digits` more; every other place
--- keeps its value
+-- a slice of labels in which the cells that pass the test have the labels f; every other number keeps its value
+unfoldable pub cellsLabelled : (ℕ → Bool) → (ℕ → Label) → List ℕ → List ℕ
+cellsLabelled test f l = relabelled (λ i. test (placeAt i)) (numberIn f) l
+
+-- the cells that a unit holds have their labels: the digits gathered, and at most `digits` more
 unfoldable pub unitLabelled : Network → Run → ℕ → List ℕ → List ℕ → List ℕ
-unfolding relabelled holds label number
-unitLabelled N R digits gathered l = relabelled (holds N R) (λ c. number (gathered ++ label N digits R c)) l
+unfolding holds label recordOf
+unitLabelled N R digits gathered l = cellsLabelled (holds N R) (λ c. recordOf (gathered ++ label N digits R c)) l
 
 -- c stands at one of the n positions of the layout from lo on
 unfoldable pub stands : List ℕ → ℕ → ℕ → ℕ → Bool

@@ -3,11 +3,12 @@ use mathlib.Core.Path.{_≡_}
 use mathlib.Core.List.{List}
 use Prim.Native.Nat.{ℕ, _+_, _≤_}
 use lib.ListN.{length}
-use Rattle.sheet.specs.Label.{Digits, number}
+use Rattle.sheet.specs.declared.Label.{Label}
+use Rattle.sheet.specs.Record.{Digits, recordOf}
 
--- a label of at most 18 digits may have `more` digits after those gathered
-pub record Prefix (prefix more : ℕ) : Type 0 where
+-- a label of at most 36 digits may have `more` digits after those gathered
+pub record Prefix (prefix : Label) (more : ℕ) : Type 0 where
   pub gathered : List ℕ
-  pub held : prefix ≡ number gathered
+  pub held : prefix ≡ recordOf gathered
   pub one-to-nine : Digits 9 gathered
-  pub room : length gathered + more ≤ 18
+  pub room : length gathered + more ≤ 36

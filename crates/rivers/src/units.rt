@@ -3,8 +3,9 @@ ghost use Prim.Native.Nat.{ℕ, _+_, _-_, _≤_, _<_};
 ghost use mathlib.Core.Path.{_≡_};
 ghost use lib.ListN.{length, getD};
 ghost use Rattle.sheet.specs.River.{river};
-ghost use Rattle.sheet.specs.Label.{holds, label, number};
-ghost use Rattle.rivers.specs.Labelled.{relabelled, unitLabelled, stands};
+ghost use Rattle.sheet.specs.Record.{recordOf, labelPlaces};
+ghost use Rattle.sheet.specs.Label.{holds, label};
+ghost use Rattle.rivers.specs.Labelled.{cellsLabelled, unitLabelled, stands};
 ghost use Rattle.rivers.specs.Prefix.{Prefix};
 ghost use Rattle.rivers.specs.UnitAt.{NetworkOf, UnitAt, Places};
 use crate::heaviest::Rule;
@@ -12,17 +13,20 @@ use crate::heaviest::UnitSpan;
 use crate::heaviest::heaviest;
 use crate::keys::key_at;
 use crate::prefix::with_digit;
+use sheet::Label;
 
 // Gives the cells at positions lo to hi the same label.
-fn fill(lo: usize, hi: usize, prefix: u64, cell: &[u32], labels: &mut [u64])
+fn fill(lo: usize, hi: usize, prefix: Label, cell: &[u32], labels: &mut [u64])
     requires { ⌜ hi ≤ length (now cell) ⌝ }
-    requires { ⌜ ((j : ℕ) → j < length (now cell) → getD (now cell) j 0 < length (now labels)) ⌝ }
+    requires { ⌜ ((j : ℕ) → j < length (now cell)
+        → getD (now cell) j 0 < labelPlaces (length (now labels))) ⌝ }
     ensures { λ _. ⌜ now (labels .exit)
-        ≡ relabelled (stands (now (cell .entry)) lo (hi - lo)) (λ c. prefix) (now (labels .entry)) ⌝ }
+        ≡ cellsLabelled (stands (now (cell .entry)) lo (hi - lo)) (λ c. prefix) (now (labels .entry)) ⌝ }
 {
     for j in lo..hi {
-        let at = cell[j] as usize;
-        labels[at] = prefix;
+        let at = 2 * cell[j] as usize;
+        labels[at] = prefix.first;
+        labels[at + 1] = prefix.rest;
     }
 }
 
@@ -30,7 +34,7 @@ fn fill(lo: usize, hi: usize, prefix: u64, cell: &[u32], labels: &mut [u64])
 fn label_run(
     span: UnitSpan,
     digits: usize,
-    prefix: u64,
+    prefix: Label,
     rule: Rule,
     cell: &[u32],
     size: &[u32],
@@ -39,7 +43,7 @@ fn label_run(
 )
     requires { ⌜ UnitAt (now cell) (now size) (now area) (rule .split) (rule .least)
         (span .end) (span .lo) (span .hi) ⌝ }
-    requires { ⌜ Places (now cell) (now size) (length (now area)) (length (now labels)) (rule .split) ⌝ }
+    requires { ⌜ Places (now cell) (now size) (length (now area)) (labelPlaces (length (now labels))) (rule .split) ⌝ }
     requires { ⌜ Prefix prefix digits ⌝ }
     ensures { λ _. ⌜ ((u : UnitAt (now (cell .entry)) (now (size .entry)) (now (area .entry)) (rule .split)
         (rule .least) (span .end) (span .lo) (span .hi)) (p : Prefix prefix digits) → now (labels .exit)
@@ -88,7 +92,7 @@ fn label_run(
 pub fn label_river(
     j: usize,
     digits: usize,
-    prefix: u64,
+    prefix: Label,
     rule: Rule,
     cell: &[u32],
     size: &[u32],
@@ -97,7 +101,7 @@ pub fn label_river(
 )
     requires { ⌜ j < length (now cell) ⌝ }
     requires { ⌜ NetworkOf (now cell) (now size) (now area) (rule .split) (rule .least) ⌝ }
-    requires { ⌜ Places (now cell) (now size) (length (now area)) (length (now labels)) (rule .split) ⌝ }
+    requires { ⌜ Places (now cell) (now size) (length (now area)) (labelPlaces (length (now labels))) (rule .split) ⌝ }
     requires { ⌜ Prefix prefix digits ⌝ }
     ensures { λ _. ⌜ ((n : NetworkOf (now (cell .entry)) (now (size .entry)) (now (area .entry)) (rule .split)
         (rule .least)) (p : Prefix prefix digits) → now (labels .exit)
@@ -123,16 +127,17 @@ pub fn label_basin(
     area: &[u32],
     labels: &mut [u64],
 )
-    requires { ⌜ depth ≤ 18 ⌝ }
+    requires { ⌜ depth ≤ 36 ⌝ }
     requires { ⌜ 0 < length (now cell) ⌝ }
     requires { ⌜ NetworkOf (now cell) (now size) (now area) split least ⌝ }
-    requires { ⌜ Places (now cell) (now size) (length (now area)) (length (now labels)) split ⌝ }
+    requires { ⌜ Places (now cell) (now size) (length (now area)) (labelPlaces (length (now labels))) split ⌝ }
     ensures { λ _. ⌜ ((n : NetworkOf (now (cell .entry)) (now (size .entry)) (now (area .entry)) split least)
         → now (labels .exit)
-        ≡ relabelled (holds (n .network) (river (n .network) (getD (now (cell .entry)) 0 0)))
-        (λ c. number (label (n .network) depth (river (n .network) (getD (now (cell .entry)) 0 0)) c))
+        ≡ cellsLabelled (holds (n .network) (river (n .network) (getD (now (cell .entry)) 0 0)))
+        (λ c. recordOf (label (n .network) depth (river (n .network) (getD (now (cell .entry)) 0 0)) c))
         (now (labels .entry))) ⌝ }
 {
     let rule = Rule { split, least };
-    label_river(0, depth, 0, rule, cell, size, area, labels);
+    let none = Label { first: 0, rest: 0 };
+    label_river(0, depth, none, rule, cell, size, area, labels);
 }

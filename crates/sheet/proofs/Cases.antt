@@ -2,12 +2,33 @@
 use mathlib.Core.Path.{_≡_, refl}
 use Rattle.sheet.specs.Cases.{cases, listing, refusals, orders, traps, outletFlows, weighted, words}
 use Rattle.sheet.specs.Cases.{ditch, splits, nineteens, leastFlows}
+use Rattle.sheet.specs.Cases.{nineteenth, records, elevens, slices, longFlows}
 use Rattle.sheet.specs.Cases.{allComputed, allStated}
 
--- a case that is small enough for a refused edit to show what it computes instead
+-- cases that are small enough for a refused edit to show what it computes instead
 pub small-ditch : allComputed ditch ≡ allStated ditch
 unfolding ditch
 small-ditch = refl
+
+pub small-nineteenth : allComputed nineteenth ≡ allStated nineteenth
+unfolding nineteenth
+small-nineteenth = refl
+
+pub all-records : allComputed records ≡ allStated records
+unfolding records
+all-records = refl
+
+pub all-elevens : allComputed elevens ≡ allStated elevens
+unfolding elevens
+all-elevens = refl
+
+pub all-slices : allComputed slices ≡ allStated slices
+unfolding slices
+all-slices = refl
+
+pub all-long-flows : allComputed longFlows ≡ allStated longFlows
+unfolding longFlows
+all-long-flows = refl
 
 -- all cases marked * in document 01
 pub all-cases : allComputed cases ≡ allStated cases

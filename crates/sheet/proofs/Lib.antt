@@ -4,6 +4,8 @@ pub mod First
 pub mod Lists
 pub mod Digits
 pub mod Within
+pub mod Records
+pub mod Slices
 pub mod Weights
 pub mod Words
 pub mod Questions

@@ -14,12 +14,12 @@ pub written-whole : (new old : List ℕ) → length new ≤ length old → sets 
 written-whole new old l =
     sets-eq new old 0 (omega arith) ∙ ap (λ (k : ℕ). new ++ drop k old) (zero-add (length new))
 
-module _ (f : ℕ → ℕ) where
-  pub length-list : (i m : ℕ) → length (listFrom f i m) ≡ m
-  unfolding listFrom
-  length-list i zero = refl
-  length-list i (suc m) = ap suc (length-list (suc i) m)
+pub length-list : {A : Type 0} (f : ℕ → A) (i m : ℕ) → length (listFrom f i m) ≡ m
+unfolding listFrom
+length-list f i zero = refl
+length-list f i (suc m) = ap suc (length-list f (suc i) m)
 
+module _ (f : ℕ → ℕ) where
   pub list-at : (i m k : ℕ) → k < m → getD (listFrom f i m) k 0 ≡ f (i + k)
   unfolding listFrom
   list-at i zero k l = absurd (omega arith)
@@ -30,4 +30,4 @@ module _ (f : ℕ → ℕ) where
   pub written-at : (n c : ℕ) (old : List ℕ) → c < n → getD (written (listFrom f 0 n) old) c 0 ≡ f c
   written-at n c old l =
       List·getD-append (listFrom f 0 n) (drop (length (listFrom f 0 n)) old) 0 c
-      (rw (length-list 0 n) l) ∙ list-at 0 n c l ∙ ap f (omega arith)
+      (rw (length-list f 0 n) l) ∙ list-at 0 n c l ∙ ap f (omega arith)

@@ -2,22 +2,22 @@
 use mathlib.Core.Path.{_≡_, refl}
 use mathlib.Core.Bool.{Bool, true, false, cond}
 use Prim.Native.Nat.{ℕ}
-use lib.Dec.{eqb}
 use lib.ListN.{length}
 use Rattle.sheet.specs.declared.Flow.the-variants.{Refused}
 use Rattle.sheet.specs.declared.OutletFlow.{OutletFlow}
 use Rattle.sheet.specs.declared.OutletFlow.the-variants.{Same as OutletSame, Refused as OutletRefused}
-use Rattle.sheet.specs.Label.{digitsOf}
+use Rattle.sheet.specs.declared.Label.{Label}
+use Rattle.sheet.specs.Record.{digitsOf, sameLabel}
 use Rattle.sheet.specs.Refusal.{both, depthFits, leastFits}
 use Rattle.sheet.specs.Flow.{isLabel, answerUnequal, outletFlow, stemAlone, cellAnswer, flow}
 
 -- the flow question, from the outlet question, where least fits
-pub from-outlet-flow : (depth least p q : ℕ) → leastFits least ≡ true
+pub from-outlet-flow : (depth least : ℕ) (p q : Label) → leastFits least ≡ true
     → flow depth least p q ≡ cellAnswer (stemAlone depth least (length (digitsOf p))) (outletFlow depth p q)
 unfolding flow outletFlow
 from-outlet-flow depth least p q fits =
     let judged : OutletFlow =
-    cond (both (isLabel depth p) (isLabel depth q)) (cond (eqb p q) OutletSame (answerUnequal p q))
+    cond (both (isLabel depth p) (isLabel depth q)) (cond (sameLabel p q) OutletSame (answerUnequal p q))
     (OutletRefused 11) in
     rw fits (go (depthFits depth) (stemAlone depth least (length (digitsOf p))) judged)
   where

@@ -7,7 +7,7 @@ use native.Mathlib.Omega.{arith}
 use borrow.Author.Tests.{le-leb, lt-leb, leb-true}
 use lib.Dec.{leb}
 use lib.ListN.{length}
-use Rattle.sheet.specs.Label.{Digits, digits-none, digits-cons}
+use Rattle.sheet.specs.Record.{Digits, digits-none, digits-cons}
 use Rattle.sheet.specs.Refusal.{both, within, sizesFit, depthFits, leastFits, splitFits, leastAndSplitFit}
 use Rattle.sheet.specs.Refusal.{sheetFault}
 use Rattle.sheet.specs.Flow.{every, areDigits}
@@ -47,9 +47,9 @@ pub cols-some : (rows cols : ℕ) → sizesFit rows cols ≡ true → 0 < cols
 unfolding sizesFit
 cols-some rows cols e = within-both 256 cols (both-true (within 256 rows) (within 256 cols) e .1) .0
 
-pub depth-most : (depth : ℕ) → depthFits depth ≡ true → depth ≤ 18
+pub depth-most : (depth : ℕ) → depthFits depth ≡ true → depth ≤ 36
 unfolding depthFits
-depth-most depth e = within-both 18 depth e .1
+depth-most depth e = within-both 36 depth e .1
 
 -- checks 1, 2 and 19
 module _ (rows cols depth least split : ℕ) where

@@ -1,7 +1,7 @@
 -- Worked cases: what the definitions compute beside what documents 01 and 02 state. Those that document 01 marks *
 -- stand in one list, in its order.
 use mathlib.Core.Bool.{cond}
-use mathlib.Core.List.{List, [], _∷_, _++_}
+use mathlib.Core.List.{List, [], _∷_, _++_, map}
 use Prim.Native.Nat.{ℕ, _*_}
 use lib.Dec.{eqb}
 use lib.ListN.{replicate}
@@ -9,9 +9,11 @@ use Rattle.sheet.specs.Sheet.{Grid, Sheet, grid}
 use Rattle.sheet.specs.Word.{bytesOf, numberAt, firstBadOf}
 use Rattle.sheet.specs.Area.{drainsInto, area}
 use Rattle.sheet.specs.River.{network, stem, mouth, Run, river}
+use Rattle.sheet.specs.declared.Label.{Label}
+use Rattle.sheet.specs.Record.{labelOfNumbers, recordOf, digitsOf, labelsIn, numbersOf, labelPlaces}
 use Rattle.sheet.specs.Label.{labelOf, outlet, listFrom}
 use Rattle.sheet.specs.Refusal.{Lent, outcome, OutcomeValues, outcomeValues, lentAfter}
-use Rattle.sheet.specs.Flow.{outletFlow, flow, answerNumber, outletAnswerNumber}
+use Rattle.sheet.specs.Flow.{isLabel, outletFlow, flow, answerNumber, outletAnswerNumber}
 
 pub record Case : Type 0 where
   pub computed : List ℕ
@@ -52,9 +54,31 @@ mouthsAt c [] = []
 mouthsAt c (stem s ∷ R) = cond (eqb s c) (mouths R) (mouthsAt c R)
 mouthsAt c (mouth v ∷ R) = mouthsAt c R
 
--- what is lent for n cells, each place holding 7
+-- what is lent for n cells, each number 7
 abbrev lentFor : ℕ → Lent
-lentFor n = record { areas = replicate n 7; labels = replicate n 7; work = replicate (8 * n) 7 }
+lentFor n = record { areas = replicate n 7; labels = replicate (2 * n) 7; work = replicate (8 * n) 7 }
+
+-- a label of at most 18 digits, and the numbers of several
+abbrev short : ℕ → Label
+short m = labelOfNumbers m 0
+
+abbrev shorts : List ℕ → List ℕ
+shorts [] = []
+shorts (m ∷ ms) = m ∷ 0 ∷ shorts ms
+
+-- the labels of cells, as the numbers of their records
+abbrev labelsAt : Sheet → List ℕ → List ℕ
+labelsAt S cs = numbersOf (map (labelOf S) cs)
+
+abbrev labelsBelow : Sheet → ℕ → List ℕ
+labelsBelow S n = numbersOf (listFrom (labelOf S) 0 n)
+
+-- the numbers of the answers to the flow question and to the outlet question about labels of at most 18 digits
+abbrev asked : ℕ → ℕ → ℕ → ℕ → ℕ
+asked depth least p q = answerNumber (flow depth least (short p) (short q))
+
+abbrev outletAsked : ℕ → ℕ → ℕ → ℕ
+outletAsked depth p q = outletAnswerNumber (outletFlow depth (short p) (short q))
 
 -- number and place of the outcome; both are 0 where it is accepted
 abbrev outcomeIs : Sheet → Lent → List ℕ
@@ -62,20 +86,20 @@ outcomeIs S L = let v : OutcomeValues = outcomeValues (outcome S L) in v .number
 
 -- the cases marked *
 unfoldable pub cases : List Case
-unfolding area network river labelOf outlet outcome flow
+unfolding area network river labelOf outlet outcome flow numbersOf
 cases =
     case (area (sheet sampleA 2) 4 ∷ []) (11 ∷ [])
     ∷ case (mouthsAt 5 (river (network (sheet sampleA 2)) (outlet sampleA))) (9 ∷ 10 ∷ 1 ∷ [])
-    ∷ case (labelOf (sheet sampleA 2) 3 ∷ labelOf (sheet sampleA 2) 11 ∷ []) (92 ∷ 93 ∷ [])
-    ∷ case (labelOf (sheet sampleA 1) 3 ∷ labelOf (sheet sampleA 1) 6 ∷ labelOf (sheet sampleA 1) 7 ∷ labelOf
-    (sheet sampleA 1) 11 ∷ []) (9 ∷ 9 ∷ 9 ∷ 9 ∷ [])
-    ∷ case (area (sheet (grid 1 1 (1 ∷ [])) 1) 0 ∷ labelOf (sheet (grid 1 1 (1 ∷ [])) 1) 0 ∷ []) (1 ∷ 0 ∷ [])
+    ∷ case (labelsAt (sheet sampleA 2) (3 ∷ 11 ∷ [])) (shorts (92 ∷ 93 ∷ []))
+    ∷ case (labelsAt (sheet sampleA 1) (3 ∷ 6 ∷ 7 ∷ 11 ∷ [])) (shorts (9 ∷ 9 ∷ 9 ∷ 9 ∷ []))
+    ∷ case (area (sheet (grid 1 1 (1 ∷ [])) 1) 0 ∷ labelsAt (sheet (grid 1 1 (1 ∷ [])) 1) (0 ∷ []))
+    (1 ∷ shorts (0 ∷ []))
     ∷ case (outcomeIs (sheet (grid 1 2 (1 ∷ 16 ∷ [])) 1) (lentFor 2)) (6 ∷ 0 ∷ [])
     ∷ case (outcomeIs (sheet (grid 1 2 (16 ∷ 1 ∷ [])) 1) (lentFor 2)) (7 ∷ 1 ∷ [])
-    ∷ case (answerNumber (flow 3 1 91 92) ∷ answerNumber (flow 3 1 92 91) ∷ answerNumber (flow 3 1 21 3) ∷ [])
+    ∷ case (asked 3 1 91 92 ∷ asked 3 1 92 91 ∷ asked 3 1 21 3 ∷ [])
     (1 ∷ 0 ∷ 0 ∷ [])
-    ∷ case (answerNumber (flow 3 1 131 14) ∷ []) (3 ∷ [])
-    ∷ case (answerNumber (flow 3 1 9 91) ∷ answerNumber (flow 3 1 105 9) ∷ []) (140 ∷ 139 ∷ [])
+    ∷ case (asked 3 1 131 14 ∷ []) (3 ∷ [])
+    ∷ case (asked 3 1 9 91 ∷ asked 3 1 105 9 ∷ []) (140 ∷ 139 ∷ [])
     ∷ []
 
 -- sample A whole: it is accepted, and of slices for 13 cells the first 12 areas and labels are those that document 01
@@ -86,7 +110,7 @@ listing =
     let after : Lent = lentAfter (sheet sampleA 2) (lentFor 13) in
     case (outcomeIs (sheet sampleA 2) (lentFor 13)) (0 ∷ 0 ∷ [])
     ∷ case (after .areas) (0 ∷ 2 ∷ 1 ∷ 1 ∷ 11 ∷ 9 ∷ 4 ∷ 2 ∷ 1 ∷ 1 ∷ 1 ∷ 1 ∷ 7 ∷ [])
-    ∷ case (after .labels) (0 ∷ 8 ∷ 8 ∷ 92 ∷ 1 ∷ 3 ∷ 91 ∷ 93 ∷ 2 ∷ 4 ∷ 6 ∷ 93 ∷ 7 ∷ [])
+    ∷ case (after .labels) (shorts (0 ∷ 8 ∷ 8 ∷ 92 ∷ 1 ∷ 3 ∷ 91 ∷ 93 ∷ 2 ∷ 4 ∷ 6 ∷ 93 ∷ []) ++ replicate 2 7)
     ∷ case (after .work) (replicate 96 0 ++ replicate 8 7)
     ∷ []
 
@@ -95,20 +119,20 @@ unfoldable pub refusals : List Case
 unfolding lentAfter
 refusals =
     let circle : Lent = lentAfter (sheet (grid 1 2 (1 ∷ 16 ∷ [])) 1) (lentFor 2) in
-    let short : Lent = lentAfter (sheet (grid 1 2 (1 ∷ 16 ∷ [])) 1) (lentFor 1) in
-    case (circle .areas ++ circle .labels ++ circle .work) (replicate 4 7 ++ replicate 16 0)
-    ∷ case (short .areas ++ short .labels ++ short .work) (replicate 10 7)
+    let few : Lent = lentAfter (sheet (grid 1 2 (1 ∷ 16 ∷ [])) 1) (lentFor 1) in
+    case (circle .areas ++ circle .labels ++ circle .work) (replicate 6 7 ++ replicate 16 0)
+    ∷ case (few .areas ++ few .labels ++ few .work) (replicate 11 7)
     ∷ []
 
 -- sheets that fail two checks get the earlier number: 1 before 2, 2 before 3, 3 before 4, 4 before 6, 6 before 7
 unfoldable pub orders : List Case
 unfolding outcome
 orders =
-    case (outcomeIs (sheet (grid 257 1 []) 19) (lentFor 0)) (1 ∷ 0 ∷ [])
-    ∷ case (outcomeIs (sheet (grid 1 1 (1 ∷ [])) 19) (lentFor 0)) (2 ∷ 0 ∷ [])
-    ∷ case (outcomeIs (sheet (grid 1 1 (3 ∷ [])) 18) (lentFor 0)) (3 ∷ 0 ∷ [])
-    ∷ case (outcomeIs (sheet (grid 1 3 (1 ∷ 16 ∷ 3 ∷ [])) 18) (lentFor 3)) (4 ∷ 2 ∷ [])
-    ∷ case (outcomeIs (sheet (grid 1 4 (16 ∷ 1 ∷ 16 ∷ 1 ∷ [])) 18) (lentFor 4)) (6 ∷ 1 ∷ [])
+    case (outcomeIs (sheet (grid 257 1 []) 37) (lentFor 0)) (1 ∷ 0 ∷ [])
+    ∷ case (outcomeIs (sheet (grid 1 1 (1 ∷ [])) 37) (lentFor 0)) (2 ∷ 0 ∷ [])
+    ∷ case (outcomeIs (sheet (grid 1 1 (3 ∷ [])) 36) (lentFor 0)) (3 ∷ 0 ∷ [])
+    ∷ case (outcomeIs (sheet (grid 1 3 (1 ∷ 16 ∷ 3 ∷ [])) 36) (lentFor 3)) (4 ∷ 2 ∷ [])
+    ∷ case (outcomeIs (sheet (grid 1 4 (16 ∷ 1 ∷ 16 ∷ 1 ∷ [])) 36) (lentFor 4)) (6 ∷ 1 ∷ [])
     ∷ []
 
 -- a basin whose outlet, cell 3, has the donors 0, 1, 7 and 4, and cell 4 the donors 2, 6 and 8. Of the equal mouths 0,
@@ -119,20 +143,19 @@ confluences = grid 3 3 (4 ∷ 8 ∷ 8 ∷ 16 ∷ 16 ∷ 0 ∷ 128 ∷ 32 ∷ 32 
 -- one case for each of document 01's traps (a stem chosen afresh, ties by list place, digits that slide, a later even
 -- digit, a circle), then the order of the flow question's answers
 unfoldable pub traps : List Case
-unfolding labelOf area outcome flow
+unfolding labelOf area outcome flow numbersOf
 traps =
-    case (labelOf (sheet confluences 2) 3 ∷ labelOf (sheet confluences 2) 0 ∷ []) (11 ∷ 12 ∷ [])
-    ∷ case (labelOf (sheet confluences 2) 1 ∷ labelOf (sheet confluences 2) 2 ∷ []) (2 ∷ 6 ∷ [])
-    ∷ case (labelOf (sheet confluences 2) 7 ∷ labelOf (sheet confluences 2) 6 ∷ labelOf (sheet confluences 2) 8 ∷ [])
-    (4 ∷ 8 ∷ 9 ∷ [])
-    ∷ case (answerNumber (flow 3 1 12 3) ∷ answerNumber (flow 3 1 114 3) ∷ answerNumber (flow 3 1 11 3) ∷ [])
+    case (labelsAt (sheet confluences 2) (3 ∷ 0 ∷ [])) (shorts (11 ∷ 12 ∷ []))
+    ∷ case (labelsAt (sheet confluences 2) (1 ∷ 2 ∷ [])) (shorts (2 ∷ 6 ∷ []))
+    ∷ case (labelsAt (sheet confluences 2) (7 ∷ 6 ∷ 8 ∷ [])) (shorts (4 ∷ 8 ∷ 9 ∷ []))
+    ∷ case (asked 3 1 12 3 ∷ asked 3 1 114 3 ∷ asked 3 1 11 3 ∷ [])
     (0 ∷ 0 ∷ 1 ∷ [])
     ∷ case (outcomeIs (sheet (grid 1 3 (4 ∷ 1 ∷ 16 ∷ [])) 1) (lentFor 3)) (6 ∷ 1 ∷ [])
-    ∷ case (answerNumber (flow 3 1 132 14) ∷ answerNumber (flow 3 1 0 0) ∷ answerNumber (flow 3 1 0 5) ∷ [])
+    ∷ case (asked 3 1 132 14 ∷ asked 3 1 0 0 ∷ asked 3 1 0 5 ∷ [])
     (0 ∷ 2 ∷ 140 ∷ [])
-    ∷ case (answerNumber (flow 3 1 9 105) ∷ answerNumber (flow 3 1 105 105) ∷ answerNumber (flow 0 1 105 105) ∷ [])
+    ∷ case (asked 3 1 9 105 ∷ asked 3 1 105 105 ∷ asked 0 1 105 105 ∷ [])
     (139 ∷ 139 ∷ 130 ∷ [])
-    ∷ case (answerNumber (flow 19 1 1 2) ∷ answerNumber (flow 18 1 1 2) ∷ []) (130 ∷ 1 ∷ [])
+    ∷ case (asked 37 1 1 2 ∷ asked 36 1 1 2 ∷ []) (130 ∷ 1 ∷ [])
     ∷ []
 
 -- The outlet question: as the flow question, but for Yes where the label has as many digits as the depth (14 past
@@ -140,18 +163,18 @@ traps =
 unfoldable pub outletFlows : List Case
 unfolding outletFlow
 outletFlows =
-    case (outletAnswerNumber (outletFlow 3 91 92) ∷ outletAnswerNumber (outletFlow 3 92 91)
-    ∷ outletAnswerNumber (outletFlow 3 21 3) ∷ []) (1 ∷ 0 ∷ 0 ∷ [])
-    ∷ case (outletAnswerNumber (outletFlow 3 131 14) ∷ outletAnswerNumber (outletFlow 2 91 92)
-    ∷ outletAnswerNumber (outletFlow 1 1 9) ∷ []) (1 ∷ 1 ∷ 1 ∷ [])
-    ∷ case (outletAnswerNumber (outletFlow 3 132 14) ∷ outletAnswerNumber (outletFlow 3 12 3)
-    ∷ outletAnswerNumber (outletFlow 3 114 3) ∷ []) (0 ∷ 0 ∷ 0 ∷ [])
-    ∷ case (outletAnswerNumber (outletFlow 0 105 105) ∷ outletAnswerNumber (outletFlow 19 1 2)
-    ∷ outletAnswerNumber (outletFlow 18 1 2) ∷ []) (130 ∷ 130 ∷ 1 ∷ [])
-    ∷ case (outletAnswerNumber (outletFlow 3 105 105) ∷ outletAnswerNumber (outletFlow 3 9 105)
-    ∷ outletAnswerNumber (outletFlow 3 1111 2) ∷ []) (139 ∷ 139 ∷ 139 ∷ [])
-    ∷ case (outletAnswerNumber (outletFlow 3 0 0) ∷ outletAnswerNumber (outletFlow 2 91 91)
-    ∷ outletAnswerNumber (outletFlow 3 0 5) ∷ outletAnswerNumber (outletFlow 3 9 91) ∷ []) (2 ∷ 2 ∷ 140 ∷ 140 ∷ [])
+    case (outletAsked 3 91 92 ∷ outletAsked 3 92 91
+    ∷ outletAsked 3 21 3 ∷ []) (1 ∷ 0 ∷ 0 ∷ [])
+    ∷ case (outletAsked 3 131 14 ∷ outletAsked 2 91 92
+    ∷ outletAsked 1 1 9 ∷ []) (1 ∷ 1 ∷ 1 ∷ [])
+    ∷ case (outletAsked 3 132 14 ∷ outletAsked 3 12 3
+    ∷ outletAsked 3 114 3 ∷ []) (0 ∷ 0 ∷ 0 ∷ [])
+    ∷ case (outletAsked 0 105 105 ∷ outletAsked 37 1 2
+    ∷ outletAsked 36 1 2 ∷ []) (130 ∷ 130 ∷ 1 ∷ [])
+    ∷ case (outletAsked 3 105 105 ∷ outletAsked 3 9 105
+    ∷ outletAsked 3 1111 2 ∷ []) (139 ∷ 139 ∷ 139 ∷ [])
+    ∷ case (outletAsked 3 0 0 ∷ outletAsked 2 91 91
+    ∷ outletAsked 3 0 5 ∷ outletAsked 3 9 91 ∷ []) (2 ∷ 2 ∷ 140 ∷ 140 ∷ [])
     ∷ []
 
 -- two cells that flow into the one between them, the outlet: one cell a row
@@ -160,19 +183,19 @@ confluence = grid 3 1 (4 ∷ 16 ∷ 64 ∷ [])
 
 -- the areas of the first n cells, then their labels
 abbrev areasAndLabels : Sheet → ℕ → List ℕ
-areasAndLabels S n = listFrom (area S) 0 n ++ listFrom (labelOf S) 0 n
+areasAndLabels S n = listFrom (area S) 0 n ++ labelsBelow S n
 
 -- Weights: the heavier row is the river; of equal areas the larger cell number, as without weights; a weight is that of
 -- its row, and those past the rows are not looked at. 17 at 0 and 1001, not at 1 and 1000, and for a row without an
 -- inside cell. 3 is tested before it, 4 after it; after it the work places are 0, and nothing else is written.
 unfoldable pub weighted : List Case
-unfolding area labelOf listFrom outcome lentAfter
+unfolding area labelOf listFrom outcome lentAfter numbersOf
 weighted =
     let refused : Lent = lentAfter (weightedSheet confluence 1 (1 ∷ 1001 ∷ 1 ∷ [])) (lentFor 3) in
-    case (areasAndLabels (weightedSheet confluence 1 (5 ∷ 1 ∷ 3 ∷ [])) 3) (5 ∷ 9 ∷ 3 ∷ 3 ∷ 1 ∷ 2 ∷ [])
-    ∷ case (areasAndLabels (weightedSheet confluence 1 (3 ∷ 1 ∷ 3 ∷ [])) 3) (3 ∷ 7 ∷ 3 ∷ 2 ∷ 1 ∷ 3 ∷ [])
-    ∷ case (areasAndLabels (sheet confluence 1) 3) (1 ∷ 3 ∷ 1 ∷ 2 ∷ 1 ∷ 3 ∷ [])
-    ∷ case (areasAndLabels (weightedSheet (grid 1 2 (16 ∷ 16 ∷ [])) 1 (7 ∷ 0 ∷ [])) 2) (14 ∷ 7 ∷ 0 ∷ 0 ∷ [])
+    case (areasAndLabels (weightedSheet confluence 1 (5 ∷ 1 ∷ 3 ∷ [])) 3) (5 ∷ 9 ∷ 3 ∷ shorts (3 ∷ 1 ∷ 2 ∷ []))
+    ∷ case (areasAndLabels (weightedSheet confluence 1 (3 ∷ 1 ∷ 3 ∷ [])) 3) (3 ∷ 7 ∷ 3 ∷ shorts (2 ∷ 1 ∷ 3 ∷ []))
+    ∷ case (areasAndLabels (sheet confluence 1) 3) (1 ∷ 3 ∷ 1 ∷ shorts (2 ∷ 1 ∷ 3 ∷ []))
+    ∷ case (areasAndLabels (weightedSheet (grid 1 2 (16 ∷ 16 ∷ [])) 1 (7 ∷ 0 ∷ [])) 2) (14 ∷ 7 ∷ shorts (0 ∷ 0 ∷ []))
     ∷ case (outcomeIs (weightedSheet (grid 1 2 (16 ∷ 16 ∷ [])) 1 (7 ∷ 0 ∷ [])) (lentFor 2)) (0 ∷ 0 ∷ [])
     ∷ case (outcomeIs (weightedSheet confluence 1 (1000 ∷ 1 ∷ 1000 ∷ [])) (lentFor 3)) (0 ∷ 0 ∷ [])
     ∷ case (outcomeIs (weightedSheet confluence 1 (0 ∷ 1 ∷ 1 ∷ [])) (lentFor 3)) (17 ∷ 0 ∷ [])
@@ -181,21 +204,21 @@ weighted =
     ∷ case (outcomeIs (weightedSheet confluence 1 (0 ∷ 0 ∷ [])) (lentFor 3)) (3 ∷ 0 ∷ [])
     ∷ case (outcomeIs (weightedSheet confluence 1 (0 ∷ 0 ∷ 0 ∷ [])) (lentFor 2)) (3 ∷ 0 ∷ [])
     ∷ case (outcomeIs (weightedSheet (grid 1 1 (3 ∷ [])) 1 (0 ∷ [])) (lentFor 1)) (17 ∷ 0 ∷ [])
-    ∷ case (refused .areas ++ refused .labels ++ refused .work) (replicate 6 7 ++ replicate 24 0)
+    ∷ case (refused .areas ++ refused .labels ++ refused .work) (replicate 9 7 ++ replicate 24 0)
     ∷ []
 
 -- a river along the first row, where cells weigh 2, with the mouth 3, of area 1, at its outlet, and the mouth 2, of area
 -- 2, at its next cell. At least 2 the mouth 2 alone is counted, and 3 stays in unit 1
 unfoldable pub ditch : List Case
-unfolding labelOf listFrom
+unfolding labelOf listFrom numbersOf
 ditch =
-    case (listFrom (labelOf (record {
+    case (labelsBelow (record {
       grid = grid 2 3 (16 ∷ 16 ∷ 16 ∷ 64 ∷ 64 ∷ 16 ∷ []);
       depth = 2;
       least = 2;
       split = 4;
       weights = 2 ∷ 1 ∷ [];
-    })) 0 6) (1 ∷ 1 ∷ 2 ∷ 1 ∷ 3 ∷ 3 ∷ [])
+    }) 6) (shorts (1 ∷ 1 ∷ 2 ∷ 1 ∷ 3 ∷ 3 ∷ []))
     ∷ []
 
 -- Least and split. Sample A at least 2: of the mouths 8, 9, 10, 1 and 3 only 1 counts, whose area is 2; the others stay
@@ -203,22 +226,22 @@ ditch =
 -- counts again. Of the basin of confluences one mouth at a time: 7, then 1 in unit 1 and 6 in unit 3; two at a time: 7
 -- and 6. At the greatest least no mouth of sample A counts.
 unfoldable pub splits : List Case
-unfolding labelOf listFrom
+unfolding labelOf listFrom numbersOf
 splits =
-    case (listFrom (labelOf (splitSheet sampleA 2 2 4)) 0 12)
-    (0 ∷ 2 ∷ 2 ∷ 3 ∷ 1 ∷ 1 ∷ 3 ∷ 3 ∷ 1 ∷ 1 ∷ 1 ∷ 3 ∷ [])
-    ∷ case (listFrom (labelOf (splitSheet sampleA 2 3 4)) 0 12) (replicate 12 0)
-    ∷ case (listFrom (labelOf (record {
+    case (labelsBelow (splitSheet sampleA 2 2 4) 12)
+    (shorts (0 ∷ 2 ∷ 2 ∷ 3 ∷ 1 ∷ 1 ∷ 3 ∷ 3 ∷ 1 ∷ 1 ∷ 1 ∷ 3 ∷ []))
+    ∷ case (labelsBelow (splitSheet sampleA 2 3 4) 12) (replicate 24 0)
+    ∷ case (labelsBelow (record {
       grid = sampleA;
       depth = 2;
       least = 3;
       split = 4;
       weights = 2 ∷ 1 ∷ 1 ∷ [];
-    })) 0 12) (0 ∷ 2 ∷ 2 ∷ 3 ∷ 1 ∷ 1 ∷ 3 ∷ 3 ∷ 1 ∷ 1 ∷ 1 ∷ 3 ∷ [])
-    ∷ case (listFrom (labelOf (splitSheet confluences 2 1 1)) 0 9)
-    (11 ∷ 12 ∷ 31 ∷ 11 ∷ 31 ∷ 0 ∷ 32 ∷ 2 ∷ 33 ∷ [])
-    ∷ case (listFrom (labelOf (splitSheet confluences 1 1 2)) 0 9) (1 ∷ 1 ∷ 3 ∷ 1 ∷ 3 ∷ 0 ∷ 4 ∷ 2 ∷ 5 ∷ [])
-    ∷ case (listFrom (labelOf (splitSheet sampleA 2 65536000 4)) 0 12) (replicate 12 0)
+    }) 12) (shorts (0 ∷ 2 ∷ 2 ∷ 3 ∷ 1 ∷ 1 ∷ 3 ∷ 3 ∷ 1 ∷ 1 ∷ 1 ∷ 3 ∷ []))
+    ∷ case (labelsBelow (splitSheet confluences 2 1 1) 9)
+    (shorts (11 ∷ 12 ∷ 31 ∷ 11 ∷ 31 ∷ 0 ∷ 32 ∷ 2 ∷ 33 ∷ []))
+    ∷ case (labelsBelow (splitSheet confluences 1 1 2) 9) (shorts (1 ∷ 1 ∷ 3 ∷ 1 ∷ 3 ∷ 0 ∷ 4 ∷ 2 ∷ 5 ∷ []))
+    ∷ case (labelsBelow (splitSheet sampleA 2 65536000 4) 12) (replicate 24 0)
     ∷ []
 
 -- 19 at least 0 and 65,536,001 and at split 0 and 5, not at the bounds; 2 is tested before it, 3 after it; it writes
@@ -232,25 +255,86 @@ nineteens =
     ∷ case (outcomeIs (splitSheet (grid 1 1 (1 ∷ [])) 1 65536000 1) (lentFor 1)) (0 ∷ 0 ∷ [])
     ∷ case (outcomeIs (splitSheet (grid 1 1 (1 ∷ [])) 1 1 0) (lentFor 1)) (19 ∷ 0 ∷ [])
     ∷ case (outcomeIs (splitSheet (grid 1 1 (1 ∷ [])) 1 1 5) (lentFor 1)) (19 ∷ 0 ∷ [])
-    ∷ case (outcomeIs (splitSheet (grid 1 1 (1 ∷ [])) 19 0 5) (lentFor 1)) (2 ∷ 0 ∷ [])
-    ∷ case (outcomeIs (splitSheet (grid 1 1 (1 ∷ [])) 18 0 4) (lentFor 0)) (19 ∷ 0 ∷ [])
-    ∷ case (refused .areas ++ refused .labels ++ refused .work) (replicate 10 7)
+    ∷ case (outcomeIs (splitSheet (grid 1 1 (1 ∷ [])) 37 0 5) (lentFor 1)) (2 ∷ 0 ∷ [])
+    ∷ case (outcomeIs (splitSheet (grid 1 1 (1 ∷ [])) 36 0 4) (lentFor 0)) (19 ∷ 0 ∷ [])
+    ∷ case (refused .areas ++ refused .labels ++ refused .work) (replicate 11 7)
     ∷ []
 
 -- The flow question told least: on sample A at least 2, water from cell 6, label 3, does not pass cell 8, label 1,
 -- though the digit rule is met and the label has fewer digits than the depth: Undecided, where least 1 gives Yes. 2
 -- before 19, 19 before 11.
 unfoldable pub leastFlows : List Case
-unfolding flow labelOf drainsInto
+unfolding flow labelOf drainsInto numbersOf
 leastFlows =
-    case (labelOf (splitSheet sampleA 2 2 4) 6 ∷ labelOf (splitSheet sampleA 2 2 4) 8 ∷ []) (3 ∷ 1 ∷ [])
+    case (labelsAt (splitSheet sampleA 2 2 4) (6 ∷ 8 ∷ [])) (shorts (3 ∷ 1 ∷ []))
     ∷ case (cond (drainsInto sampleA 8 6) 1 0 ∷ cond (drainsInto sampleA 4 6) 1 0 ∷ []) (0 ∷ 1 ∷ [])
-    ∷ case (answerNumber (flow 2 2 1 3) ∷ answerNumber (flow 2 1 1 3) ∷ answerNumber (flow 2 65536000 1 3) ∷ [])
+    ∷ case (asked 2 2 1 3 ∷ asked 2 1 1 3 ∷ asked 2 65536000 1 3 ∷ [])
     (3 ∷ 1 ∷ 3 ∷ [])
-    ∷ case (answerNumber (flow 2 2 3 1) ∷ answerNumber (flow 2 2 3 3) ∷ answerNumber (flow 2 2 3 31) ∷ [])
+    ∷ case (asked 2 2 3 1 ∷ asked 2 2 3 3 ∷ asked 2 2 3 31 ∷ [])
     (0 ∷ 2 ∷ 140 ∷ [])
-    ∷ case (answerNumber (flow 3 0 105 105) ∷ answerNumber (flow 3 65536001 9 91) ∷ answerNumber (flow 19 0 1 1) ∷ [])
+    ∷ case (asked 3 0 105 105 ∷ asked 3 65536001 9 91 ∷ asked 37 0 1 1 ∷ [])
     (147 ∷ 147 ∷ 130 ∷ [])
+    ∷ []
+
+-- 19 digits, to a record and back
+unfoldable pub nineteenth : List Case
+unfolding recordOf digitsOf
+nineteenth = case (digitsOf (recordOf (replicate 18 1 ++ (2 ∷ [])))) (replicate 18 1 ++ (2 ∷ [])) ∷ []
+
+-- Records: no digits, 1 and 18 digits are one number, the 19th stands in the second, 36 fill both; and back
+unfoldable pub records : List Case
+unfolding recordOf digitsOf numbersOf
+records =
+    case (numbersOf (recordOf [] ∷ recordOf (7 ∷ []) ∷ [])) (0 ∷ 0 ∷ 7 ∷ 0 ∷ [])
+    ∷ case (numbersOf (recordOf (replicate 18 9) ∷ recordOf (replicate 18 1 ++ (2 ∷ [])) ∷ []))
+    (999999999999999999 ∷ 0 ∷ 111111111111111111 ∷ 2 ∷ [])
+    ∷ case (numbersOf (recordOf (replicate 36 8) ∷ [])) (888888888888888888 ∷ 888888888888888888 ∷ [])
+    ∷ case (digitsOf (labelOfNumbers 111111111111111111 23)) (replicate 18 1 ++ (2 ∷ 3 ∷ []))
+    ∷ case (digitsOf (labelOfNumbers 0 0)) []
+    ∷ []
+
+-- the record of two numbers is a label at a depth
+abbrev judged : ℕ → ℕ → ℕ → ℕ
+judged depth first rest = cond (isLabel depth (labelOfNumbers first rest)) 1 0
+
+-- 11, each part alone: labels of 19, 36 and no digits; more digits than the depth, in the first number and in both; a 0
+-- digit in either; a second number beside a first of 17 digits and of none; a first and a second of 19 digits
+unfoldable pub elevens : List Case
+unfolding isLabel
+elevens =
+    case (judged 19 111111111111111111 1 ∷ judged 36 999999999999999999 999999999999999999 ∷ judged 1 0 0 ∷ [])
+    (1 ∷ 1 ∷ 1 ∷ [])
+    ∷ case (judged 17 111111111111111111 0 ∷ judged 18 111111111111111111 1 ∷ []) (0 ∷ 0 ∷ [])
+    ∷ case (judged 36 101111111111111111 1 ∷ judged 36 111111111111111111 10 ∷ []) (0 ∷ 0 ∷ [])
+    ∷ case (judged 36 11111111111111111 1 ∷ judged 36 0 1 ∷ []) (0 ∷ 0 ∷ [])
+    ∷ case (judged 36 1111111111111111111 0 ∷ judged 36 111111111111111111 1111111111111111111 ∷ []) (0 ∷ 0 ∷ [])
+    ∷ []
+
+-- Slices of labels: an odd number at the end is no place. A sheet of one cell wants two numbers; of three the last
+-- keeps its value.
+unfoldable pub slices : List Case
+unfolding labelsIn numbersOf labelPlaces outcome lentAfter
+slices =
+    let lend : List ℕ → Lent = λ labels. record { areas = 7 ∷ []; labels = labels; work = replicate 8 7 } in
+    let one : Sheet = sheet (grid 1 1 (1 ∷ [])) 36 in
+    case (numbersOf (labelsIn (1 ∷ 2 ∷ 3 ∷ []))) (1 ∷ 2 ∷ [])
+    ∷ case (labelPlaces 0 ∷ labelPlaces 1 ∷ labelPlaces 2 ∷ labelPlaces 3 ∷ []) (0 ∷ 0 ∷ 1 ∷ 1 ∷ [])
+    ∷ case (outcomeIs one (lend (7 ∷ [])) ++ outcomeIs one (lend (7 ∷ 7 ∷ []))) (3 ∷ 0 ∷ 0 ∷ 0 ∷ [])
+    ∷ case (lentAfter one (lend (7 ∷ 7 ∷ 7 ∷ [])) .labels) (0 ∷ 0 ∷ 7 ∷ [])
+    ∷ []
+
+-- the numbers of the answers about labels of 18 ones and one more digit each
+abbrev askedOn : ℕ → ℕ → ℕ → ℕ
+askedOn depth p q =
+    answerNumber (flow depth 1 (labelOfNumbers 111111111111111111 p) (labelOfNumbers 111111111111111111 q))
+
+-- the flow question about labels that part at their 19th digit: Yes, Undecided at depth 19, No, Same; 12 where one has
+-- 18 digits and begins the other; 11 at depth 18
+unfoldable pub longFlows : List Case
+unfolding flow
+longFlows =
+    case (askedOn 36 1 3 ∷ askedOn 19 1 3 ∷ askedOn 36 3 1 ∷ askedOn 36 2 3 ∷ []) (1 ∷ 3 ∷ 0 ∷ 0 ∷ [])
+    ∷ case (askedOn 36 3 3 ∷ askedOn 36 0 3 ∷ askedOn 36 3 0 ∷ askedOn 18 1 3 ∷ []) (2 ∷ 140 ∷ 140 ∷ 139 ∷ [])
     ∷ []
 
 -- The word test: words of codes alone, with all nine among them; a bad byte at either end and in the middle; the first

@@ -12,7 +12,8 @@ use Rattle.sheet.specs.declared.Flow.the-variants.{Same, Yes, No, Undeci
 use Rattle.sheet.specs.declared.OutletFlow.{OutletFlow}
 use Rattle.sheet.specs.declared.OutletFlow.the-variants.{Same as OutletSame, Yes as OutletYes, No as OutletNo}
 use Rattle.sheet.specs.declared.OutletFlow.the-variants.{Refused as OutletRefused}
-use Rattle.sheet.specs.Label.{digitsOf}
+use Rattle.sheet.specs.declared.Label.{Label}
+use Rattle.sheet.specs.Record.{digitsOf, isRecord, sameLabel}
 use Rattle.sheet.specs.Refusal.{both, within, depthFits, leastFits}
 
 -- the first place from i on where both have a digit and the digits differ
@@ -26,7 +27,7 @@ unfoldable pub partAt : List ℕ → List ℕ → Found
 unfolding partFrom
 partAt x y = partFrom 0 x y
 
-unfoldable pub every : (ℕ → Bool) → List ℕ → Bool
+unfoldable pub every : {A : Type 0} → (A → Bool) → List A → Bool
 every test [] = true
 every test (a ∷ x) = let r = every test x in cond (test a) r false
 
@@ -44,10 +45,10 @@ unfoldable pub areDigits : ℕ → List ℕ → Bool
 unfolding every within
 areDigits depth x = both (leb (length x) depth) (every (within 9) x)
 
--- a label at a depth, else 11: no digit is 0, and there are no more than depth
-unfoldable pub isLabel : ℕ → ℕ → Bool
-unfolding areDigits digitsOf
-isLabel depth label = areDigits depth (digitsOf label)
+-- a label at a depth, else 11: it is a record of digits, no digit is 0, and there are no more than depth
+unfoldable pub isLabel : ℕ → Label → Bool
+unfolding isRecord areDigits digitsOf
+isLabel depth label = both (isRecord label) (areDigits depth (digitsOf label))
 
 -- the answer for unequal labels: 12 where they do not part, else by the rule
 unfoldable pub answerAt : List ℕ → List ℕ → Found → OutletFlow
@@ -55,19 +56,19 @@ unfolding ruleAt
 answerAt x y Nothing = OutletRefused 12
 answerAt x y (At i) = cond (ruleAt i x y) OutletYes OutletNo
 
--- the answer for unequal labels as numbers
-unfoldable pub answerUnequal : ℕ → ℕ → OutletFlow
+-- the answer for unequal labels as records
+unfoldable pub answerUnequal : Label → Label → OutletFlow
 unfolding answerAt partAt digitsOf
 answerUnequal p q = answerAt (digitsOf p) (digitsOf q) (partAt (digitsOf p) (digitsOf q))
 
 -- the outlet question, does water from the label q pass the outlet of the unit that the label p names? 2, 11, Same, in
 -- this order, then the answer for unequal labels
-unfoldable pub outletFlow : ℕ → ℕ → ℕ → OutletFlow
-unfolding depthFits isLabel answerUnequal
+unfoldable pub outletFlow : ℕ → Label → Label → OutletFlow
+unfolding depthFits isLabel answerUnequal sameLabel
 outletFlow depth p q =
     let unequal : OutletFlow = answerUnequal p q in
     let judged : OutletFlow =
-    cond (both (isLabel depth p) (isLabel depth q)) (cond (eqb p q) OutletSame unequal) (OutletRefused 11) in
+    cond (both (isLabel depth p) (isLabel depth q)) (cond (sameLabel p q) OutletSame unequal) (OutletRefused 11) in
     cond (depthFits depth) judged (OutletRefused 2)
 
 -- the unit of a label with so many digits is known to be stem cells alone: every mouth is counted, and the label has
@@ -85,7 +86,7 @@ cellAnswer alone (OutletRefused number) = Refused number
 
 -- the flow question, does water from the label q pass the label p? 2, 19 of `least`, in this order; the other steps are
 -- those of the outlet question, and then one more
-unfoldable pub flow : ℕ → ℕ → ℕ → ℕ → Flow
+unfoldable pub flow : ℕ → ℕ → Label → Label → Flow
 unfolding depthFits leastFits outletFlow stemAlone digitsOf
 flow depth least p q =
     let answer : Flow = cellAnswer (stemAlone depth least (length (digitsOf p))) (outletFlow depth p q) in

@@ -1,11 +1,12 @@
--- Document 01's labels: the digits of a cell, and the label as one decimal number.
+-- Document 01's labels: the digits of a cell; and document 02's records of them.
 use mathlib.Core.Bool.{Bool, true, false, cond}
-use mathlib.Core.List.{List, [], _∷_, _++_}
-use Prim.Native.Nat.{ℕ, zero, suc, _+_, _*_, _/_, _%_, _≤_}
+use mathlib.Core.List.{List, [], _∷_}
+use Prim.Native.Nat.{ℕ, zero, suc}
 use lib.Dec.{eqb}
-use lib.ListN.{getD}
 use Rattle.sheet.specs.declared.Found.{Found}
 use Rattle.sheet.specs.declared.Found.the-variants.{At, Nothing}
+use Rattle.sheet.specs.declared.Label.{Label}
+use Rattle.sheet.specs.Record.{recordOf, noDigits, numbersOf}
 use Rattle.sheet.specs.Sheet.{Grid, Sheet, cells, inside, next, isOutlet, first}
 use Rattle.sheet.specs.Water.{passes, wayEnd}
 use Rattle.sheet.specs.Area.{area}
@@ -57,30 +58,6 @@ label N (suc depth) R c =
     let digits : List ℕ = p .digit ∷ label N depth (p .unit) c in
     cond (finished N R) [] digits
 
--- all digits lie from 1 to top
-pub data Digits (top : ℕ) : List ℕ → Type 0 where
-  digits-none : Digits top []
-  digits-cons : {a : ℕ} {x : List ℕ} → 1 ≤ a → a ≤ top → Digits top x → Digits top (a ∷ x)
-
--- the digits as one decimal number; no digits at all is 0
-unfoldable pub numberFrom : ℕ → List ℕ → ℕ
-numberFrom m [] = m
-numberFrom m (a ∷ x) = numberFrom (m * 10 + a) x
-
-unfoldable pub number : List ℕ → ℕ
-unfolding numberFrom
-number x = numberFrom 0 x
-
--- the last k digits of m, without leading zeros
-unfoldable pub digitsWithin : ℕ → ℕ → List ℕ
-digitsWithin zero m = []
-digitsWithin (suc k) m = let r = digitsWithin k (m / 10) in cond (eqb m 0) [] (r ++ (m % 10 ∷ []))
-
--- the digits of a 64-bit number, of which there are at most 20; 0 has none
-unfoldable pub digitsOf : ℕ → List ℕ
-unfolding digitsWithin
-digitsOf m = digitsWithin 20 m
-
 abbrev pub cellFound : Found → ℕ
 cellFound (At c) = c
 cellFound Nothing = 0
@@ -100,25 +77,21 @@ unfoldable pub labelDigits : Sheet → ℕ → List ℕ
 unfolding network river outletOf label
 labelDigits S c = label (network S) (S .depth) (river (network S) (outletOf (S .grid) c)) c
 
--- "label" of a cell; outside cells have label 0
-unfoldable pub labelOf : Sheet → ℕ → ℕ
-unfolding inside labelDigits number
-labelOf S c = cond (inside (S .grid) c) (number (labelDigits S c)) 0
+-- "label" of a cell; outside cells have no digits
+unfoldable pub labelOf : Sheet → ℕ → Label
+unfolding inside labelDigits recordOf
+labelOf S c = cond (inside (S .grid) c) (recordOf (labelDigits S c)) noDigits
 
 -- the values of a function at the m cells from i on
-unfoldable pub listFrom : (ℕ → ℕ) → ℕ → ℕ → List ℕ
+unfoldable pub listFrom : {A : Type 0} → (ℕ → A) → ℕ → ℕ → List A
 listFrom f i zero = []
 listFrom f i (suc m) = f i ∷ listFrom f (suc i) m
 
--- the areas and the labels of all cells, in reading order
+-- the areas and the labels of all cells, in reading order; of the labels, the numbers that a slice holds
 unfoldable pub areasOf : Sheet → List ℕ
 unfolding listFrom area
 areasOf S = listFrom (area S) 0 (cells (S .grid))
 
 unfoldable pub labelsOf : Sheet → List ℕ
-unfolding listFrom labelOf
-labelsOf S = listFrom (labelOf S) 0 (cells (S .grid))
-
--- the label that stands for a cell in a slice of labels
-abbrev pub labelAt : List ℕ → ℕ → ℕ
-labelAt labels c = getD labels c 0
+unfolding listFrom labelOf numbersOf
+labelsOf S = numbersOf (listFrom (labelOf S) 0 (cells (S .grid)))

@@ -5,6 +5,7 @@ pub mod Water
 pub mod Area
 pub mod River
 pub mod Unit
+pub mod Record
 pub mod Label
 pub mod Refusal
 pub mod Flow

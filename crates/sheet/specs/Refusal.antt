@@ -12,9 +12,11 @@ use Rattle.sheet.specs.declared.Outcome.the-variants.{Accepted, Refused}
 use Rattle.sheet.specs.Direction.{isCode}
 use Rattle.sheet.specs.Sheet.{Grid, Sheet, cells, dirAt, inside, next, isOutlet, first}
 use Rattle.sheet.specs.Water.{reachesOutlet}
+use Rattle.sheet.specs.Record.{labelPlaces}
 use Rattle.sheet.specs.Label.{areasOf, labelsOf}
 
--- what is lent to labelling beside the directions and weights: areas (32-bit), labels (64-bit), work places (32-bit)
+-- what is lent to labelling beside the directions and weights: areas (32-bit), labels (64-bit, two
+-- numbers each), work places (32-bit)
 pub record Lent : Type 0 where
   pub areas : List ℕ
   pub labels : List ℕ
@@ -34,7 +36,7 @@ sizesFit rows cols = both (within 256 rows) (within 256 cols)
 
 unfoldable pub depthFits : ℕ → Bool
 unfolding within
-depthFits depth = within 18 depth
+depthFits depth = within 36 depth
 
 -- 19: least outside 1 to 65,536,000, or split outside 1 to 4
 unfoldable pub leastFits : ℕ → Bool
@@ -51,12 +53,13 @@ leastAndSplitFit least split = both (leastFits least) (splitFits split)
 
 -- with n = rows × columns: n directions, one weight a row, n areas, n labels, 8n work places
 unfoldable pub slicesFit : Sheet → Lent → Bool
+unfolding labelPlaces
 slicesFit S L =
     let n = cells (S .grid) in
     both (leb n (length (S .grid .dirs)))
     (both (leb (S .grid .rows) (length (S .weights)))
     (both (leb n (length (L .areas)))
-    (both (leb n (length (L .labels))) (leb (8 * n) (length (L .work))))))
+    (both (leb n (labelPlaces (length (L .labels)))) (leb (8 * n) (length (L .work))))))
 
 -- 17: a weight outside 1 to 1000
 unfoldable pub weightFits : ℕ → Bool

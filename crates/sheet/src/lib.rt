@@ -26,6 +26,12 @@ pub enum Found {
     Nothing,
 }
 
+// Document 02's label: its first 18 digits as one decimal number, then the next ones as another, 0 if there are none.
+pub struct Label {
+    pub first: u64,
+    pub rest: u64,
+}
+
 // The answer of labelling: accepted, or refused with document 01's number and place.
 pub enum Outcome {
     Accepted,

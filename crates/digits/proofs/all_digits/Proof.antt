@@ -25,7 +25,7 @@ shared-slice-read-if1 c = search needs
 
 returns : tie.Need-returns Inv-loop μ-loop
 returns c =
-    sym (every-no _ _ _ (c .before .before .loop-test .taken) (within-below 9 _ (omega arith)))
+    sym (every-no 0 _ _ _ (c .before .before .loop-test .taken) (within-below 9 _ (omega arith)))
     ∙ c .before .before .before .loop .inv
 
 shared-slice-read-if2 : tie.Need-shared-slice-read-if2 Inv-loop μ-loop
@@ -33,7 +33,7 @@ shared-slice-read-if2 c = search needs
 
 returns-2 : tie.Need-returns-2 Inv-loop μ-loop
 returns-2 c =
-    sym (every-no _ _ _ (c .before .before .before .before .loop-test .taken) (within-above 9 _ (omega arith)))
+    sym (every-no 0 _ _ _ (c .before .before .before .before .loop-test .taken) (within-above 9 _ (omega arith)))
     ∙ c .before .before .before .before .before .loop .inv
 
 add-i : tie.Need-add-i Inv-loop μ-loop
@@ -44,11 +44,11 @@ loop-less c = omega arith
 
 loop-again : tie.Need-loop-again Inv-loop μ-loop
 loop-again c =
-    every-yes _ _ _ (c .before .before .before .before .loop-test .taken)
+    every-yes 0 _ _ _ (c .before .before .before .before .loop-test .taken)
     (within-yes 9 _ (omega arith) (omega arith)) ∙ c .before .before .before .before .before .loop .inv
 
 returns-3 : tie.Need-returns-3 Inv-loop μ-loop
-returns-3 c = sym (every-end _ _ _ (c .loop-test .left)) ∙ c .before .loop .inv
+returns-3 c = sym (every-end 0 _ _ _ (c .loop-test .left)) ∙ c .before .loop .inv
 
 pub all-digits-spec : {M : Type 1} → statement M
 all-digits-spec =

@@ -1,35 +1,25 @@
--- `count_digits` meets its contract: what is counted and what is left are all the digits.
+-- `count_digits` meets its contract.
 use native.Mathlib.Omega.{arith}
-use mathlib.Core.Path.{_≡_}
-use Prim.Native.Nat.{_+_, _≤_}
-use lib.ListN.{length}
-use Rattle.sheet.specs.Label.{digitsOf}
+use borrow.Author.Needs.{needs}
 use Rattle.sheet.proofs.Digits.{digits-at-most-20}
-use Rattle.digits.proofs.LastDigit.{digits-none, digits-longer}
+use Rattle.digits.proofs.Numbers.{digits-counted}
 use Rattle.digits.proofs.count_digits.Statement.{statement}
 use Rattle.digits.proofs.count_digits.Tie as tie
 
-abbrev Inv-loop : tie.InvT-loop
-Inv-loop label count₀ m₀ count m = (count + length (digitsOf m) ≡ length (digitsOf label)) × (m ≤ label)
+count-decimal-digits-requires : tie.Need-count-decimal-digits-requires
+count-decimal-digits-requires c κs = search needs
 
-abbrev μ-loop : tie.MeasureT-loop
-μ-loop label count₀ m₀ count m = m
+count-decimal-digits-requires-2 : tie.Need-count-decimal-digits-requires-2
+count-decimal-digits-requires-2 c κs = search needs
 
-loop-holds : tie.Need-loop-holds Inv-loop μ-loop
-loop-holds c = (omega arith, omega arith)
+add-result : tie.Need-add-result
+add-result c =
+    let label = c .before .before .args .label in
+    omega (arith, digits-at-most-20 (label .first), digits-at-most-20 (label .rest))
 
-add-count : tie.Need-add-count Inv-loop μ-loop
-add-count c = omega (arith, digits-at-most-20 (c .before .before .args .label))
-
-loop-less : tie.Need-loop-less Inv-loop μ-loop
-loop-less c = omega arith
-
-loop-again : tie.Need-loop-again Inv-loop μ-loop
-loop-again c = (omega (arith, digits-longer (c .before .loop .m) (omega arith) (omega arith)), omega arith)
-
-returns : tie.Need-returns Inv-loop μ-loop
-returns c = omega (arith, digits-none (c .before .loop .m) (c .loop-test .left))
+returns : tie.Need-returns
+returns c = omega (arith, digits-counted (c .before .before .args .label))
 
 pub count-digits-spec : {M : Type 1} → statement M
 count-digits-spec =
-    tie.close (tie.spec Inv-loop μ-loop loop-holds add-count loop-less loop-again returns)
+    tie.close (tie.spec count-decimal-digits-requires count-decimal-digits-requires-2 add-result returns)

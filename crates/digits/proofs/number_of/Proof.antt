@@ -4,7 +4,7 @@ use borrow.Author.Needs.{needs}
 use mathlib.Core.Path.{_≡_, refl, sym, _∙_}
 use Prim.Native.Nat.{_-_}
 use lib.ListN.{length, drop}
-use Rattle.sheet.specs.Label.{number, numberFrom}
+use Rattle.sheet.specs.Record.{number, numberFrom}
 use Rattle.digits.proofs.Places.{number-turn, number-end, number-room}
 use Rattle.digits.proofs.number_of.Statement.{statement}
 use Rattle.digits.proofs.number_of.Tie as tie

@@ -4,7 +4,7 @@ use borrow.Author.Needs.{needs}
 use mathlib.Core.Path.{_≡_, refl, sym, _∙_}
 use Prim.Native.Nat.{_-_, _+_, _≤_}
 use lib.ListN.{length, length-set}
-use Rattle.sheet.specs.Label.{digitsOf}
+use Rattle.sheet.specs.Record.{decimalDigits}
 use Rattle.sheet.specs.Refusal.{written}
 use Rattle.digits.proofs.LastDigit.{digits-some, digits-longer, write-turn, write-end}
 use Rattle.digits.proofs.put_digits.Statement.{statement}
@@ -12,7 +12,7 @@ use Rattle.digits.proofs.put_digits.Tie as tie
 
 abbrev Inv-loop : tie.InvT-loop
 Inv-loop label count out₀ i₀ m₀ out i m =
-    (written (digitsOf m) out ≡ written (digitsOf label) out₀) × (length (digitsOf m) + i ≡ count) ×
+    (written (decimalDigits m) out ≡ written (decimalDigits label) out₀) × (length (decimalDigits m) + i ≡ count) ×
     (length out ≡ length out₀) × (m ≤ label)
 
 abbrev μ-loop : tie.MeasureT-loop
@@ -52,7 +52,7 @@ same-length : tie.Need-same-length Inv-loop μ-loop
 same-length c = c .before .loop .inv .2
 
 returns : tie.Need-returns Inv-loop μ-loop
-returns c = let l = c .before .loop in sym (write-end (digitsOf (l .m)) (l .out) (omega arith)) ∙ l .inv .0
+returns c = let l = c .before .loop in sym (write-end (decimalDigits (l .m)) (l .out) (omega arith)) ∙ l .inv .0
 
 pub put-digits-spec : {M : Type 1} → statement M
 put-digits-spec =

@@ -9,8 +9,8 @@ use Rattle.exports.proofs.pf_lookup.Tie as tie
 find-requires : tie.Need-find-requires
 find-requires c κs = search needs
 
-enum-known-first : tie.Need-enum-known-first
-enum-known-first c = search needs
+enum-known-place : tie.Need-enum-known-place
+enum-known-place c = search needs
 
 enum-known-number : tie.Need-enum-known-number
 enum-known-number c = search needs
@@ -20,7 +20,7 @@ cast-result c = search needs
 
 returns : tie.Need-returns
 returns c =
-    let q = sym (c .before .first .given .1) ∙ c .before .before .before .find .ensures .0 in (
+    let q = sym (c .before .place .given .1) ∙ c .before .before .before .find .ensures .0 in (
       ap (λ (a : LookupAnswer). lookupValues a .number) q,
       (ap (λ (a : LookupAnswer). lookupValues a .start) q, ap (λ (a : LookupAnswer). lookupValues a .length) q),
     )
@@ -35,4 +35,4 @@ returns-2 c =
 pub pf-lookup-spec : {M : Type 1} → statement M
 pf-lookup-spec =
     tie.close
-    (tie.spec find-requires enum-known-first enum-known-number cast-result returns returns-2)
+    (tie.spec find-requires enum-known-place enum-known-number cast-result returns returns-2)

@@ -24,7 +24,7 @@ shared-slice-read-if1 c = search needs
 
 returns : tie.Need-returns Inv-loop μ-loop
 returns c =
-    sym (every-no _ _ _ (c .before .before .loop-test .taken) (ne-eqb _ _ (c .if1 .taken)))
+    sym (every-no 0 _ _ _ (c .before .before .loop-test .taken) (ne-eqb _ _ (c .if1 .taken)))
     ∙ c .before .before .before .loop .inv
 
 add-i : tie.Need-add-i Inv-loop μ-loop
@@ -35,11 +35,11 @@ loop-less c = omega arith
 
 loop-again : tie.Need-loop-again Inv-loop μ-loop
 loop-again c =
-    every-yes _ _ _ (c .before .before .loop-test .taken)
+    every-yes 0 _ _ _ (c .before .before .loop-test .taken)
     (eq-eqb _ _ (c .if1 .left)) ∙ c .before .before .before .loop .inv
 
 returns-2 : tie.Need-returns-2 Inv-loop μ-loop
-returns-2 c = sym (every-end _ _ _ (c .loop-test .left)) ∙ c .before .loop .inv
+returns-2 c = sym (every-end 0 _ _ _ (c .loop-test .left)) ∙ c .before .loop .inv
 
 pub all-odd-spec : {M : Type 1} → statement M
 all-odd-spec =

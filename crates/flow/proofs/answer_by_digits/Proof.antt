@@ -4,21 +4,21 @@ use native.Mathlib.Omega.{arith}
 use mathlib.Core.Path.{_≡_, sym, _∙_}
 use mathlib.Core.Bool.{true}
 use mathlib.Core.List.{List}
-use Prim.Native.Nat.{ℕ, _≤_}
-use lib.ListN.{replicate}
+use Prim.Native.Nat.{ℕ, _-_, _≤_}
+use lib.ListN.{replicate, take, drop}
 use borrow.Author.Needs.{needs}
 use Rattle.sheet.specs.declared.Found.the-variants.{At}
+use Rattle.sheet.specs.Record.{digitsOf}
 use Rattle.sheet.specs.Flow.{isLabel}
-use Rattle.sheet.proofs.Within.{depth-most}
 use Rattle.digits.specs.LastPlaces.{labelStart}
-use Rattle.digits.proofs.LastPlaces.{found-label, found-within, found-digits, found-none}
+use Rattle.digits.proofs.LabelPlaces.{found-label, found-within, found-digits, found-none}
 use Rattle.flow.proofs.Judged.{q-refused, same, unequal}
 use Rattle.flow.proofs.answer_by_digits.Statement.{statement}
 use Rattle.flow.proofs.answer_by_digits.Tie as tie
 
 -- the places that the digits are written to
 abbrev places : List ℕ
-places = replicate 18 0
+places = replicate 36 0
 
 -- Points of the function, each from a later one.
 abbrev start : tie.After-put-label → tie.Start
@@ -32,24 +32,29 @@ abbrev startAt : tie.After-known-told → ℕ
 startAt c = c .before .start .given .0 .0
 
 found : (c : tie.After-known-told)
-    → labelStart ((start (after-put-label c)) .args .depth) ((start (after-put-label c)) .args .q) 18 ≡ At (startAt c)
+    → labelStart ((start (after-put-label c)) .args .depth) ((start (after-put-label c)) .args .q) 36 ≡ At (startAt c)
 found c = sym ((after-put-label c) .put-label .ensures .0) ∙ c .before .start .given .1
 
-room : (c : tie.After-known-told) → (start (after-put-label c)) .args .depth ≤ 18
-room c = depth-most _ ((start (after-put-label c)) .pre .0 .0)
-
-within : (c : tie.After-known-told) → startAt c ≤ 18
+within : (c : tie.After-known-told) → startAt c ≤ 36
 within c = found-within _ _ _ _ (found c)
 
 q-label : (c : tie.After-known-told)
     → isLabel ((start (after-put-label c)) .args .depth) ((start (after-put-label c)) .args .q) ≡ true
 q-label c = found-label _ _ _ _ (found c)
 
+-- what stands in the places from there on
+q-digits : (c : tie.After-known-told)
+    → take (36 - startAt c) (drop (startAt c) ((after-put-label c) .put-label .last .1 .1 .0))
+    ≡ digitsOf ((start (after-put-label c)) .args .q)
+q-digits c =
+    found-digits _ _ places _ _ (omega arith) (omega arith) (omega arith) (found c)
+    ((after-put-label c) .put-label .ensures .1)
+
 slice-aggregate-put-label : tie.Need-slice-aggregate-put-label
 slice-aggregate-put-label c = search needs
 
 put-label-requires : tie.Need-put-label-requires
-put-label-requires c κs = depth-most _ (c .before .before .pre .0 .0)
+put-label-requires c κs = omega arith
 
 enum-told : tie.Need-enum-told
 enum-told c = search needs
@@ -57,19 +62,23 @@ enum-told c = search needs
 enum-known-start : tie.Need-enum-known-start
 enum-known-start c = search needs
 
+same-label-requires : tie.Need-same-label-requires
+same-label-requires c κs = search needs
+
 returns : tie.Need-returns
 returns c =
-    let asked = (start (after-put-label (c .before))) .pre in
-    same _ _ _ _ (asked .0) (asked .1 .0) (q-label (c .before)) (c .if1 .taken)
+    let told = c .before .before in
+    let asked = (start (after-put-label told)) .pre in
+    same _ _ _ _ (asked .0) (asked .1 .0) (q-label told) (sym (c .before .same-label .ensures) ∙ c .if1 .taken)
 
 is-stem-alone-requires : tie.Need-is-stem-alone-requires
 is-stem-alone-requires c κs = search needs
 
 sub-answer-at : tie.Need-sub-answer-at
-sub-answer-at c = within (c .before .before)
+sub-answer-at c = within (c .before .before .before)
 
 part-answer-at-start : tie.Need-part-answer-at-start
-part-answer-at-start c = within (c .before .before .before)
+part-answer-at-start c = within (c .before .before .before .before)
 
 part-answer-at-end : tie.Need-part-answer-at-end
 part-answer-at-end c = search needs
@@ -89,13 +98,12 @@ returns-2 c =
 returns-3 : tie.Need-returns-3
 returns-3 c =
     let alone = c .before .before .before .before in
-    let told = alone .before .before in
+    let test = alone .before .before in
+    let told = test .before in
     let asked = (start (after-put-label told)) .pre in
-    let q-digits =
-    found-digits _ _ places _ _ (omega arith) (room told) (found told)
-    ((after-put-label told) .put-label .ensures .1) in
-    unequal _ _ _ _ (asked .0) (asked .1 .0) (q-label told) (alone .before .if1 .left) _ _
-    (asked .1 .1) q-digits _ (c .before .answer-at .ensures) _
+    let differ = sym (test .same-label .ensures) ∙ alone .before .if1 .left in
+    unequal _ _ _ _ (asked .0) (asked .1 .0) (q-label told) differ _ _
+    (asked .1 .1) (q-digits told) _ (c .before .answer-at .ensures) _
     (rw (alone .is-stem-alone .ensures) at (c .cell-answer .ensures))
 
 pub answer-by-digits-spec : {M : Type 1} → statement M
@@ -106,6 +114,7 @@ answer-by-digits-spec =
     put-label-requires
     enum-told
     enum-known-start
+    same-label-requires
     returns
     is-stem-alone-requires
     sub-answer-at

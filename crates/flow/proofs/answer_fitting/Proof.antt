@@ -6,16 +6,15 @@ use Prim.Native.Nat.{ℕ, _≤_}
 use lib.ListN.{replicate}
 use borrow.Author.Needs.{needs}
 use Rattle.sheet.specs.declared.Found.the-variants.{At}
-use Rattle.sheet.proofs.Within.{depth-most}
 use Rattle.digits.specs.LastPlaces.{labelStart}
-use Rattle.digits.proofs.LastPlaces.{found-label, found-within, found-digits, found-none}
+use Rattle.digits.proofs.LabelPlaces.{found-label, found-within, found-digits, found-none}
 use Rattle.flow.proofs.Judged.{p-refused}
 use Rattle.flow.proofs.answer_fitting.Statement.{statement}
 use Rattle.flow.proofs.answer_fitting.Tie as tie
 
 -- the places that the digits are written to
 abbrev places : List ℕ
-places = replicate 18 0
+places = replicate 36 0
 
 -- Points of the function, each from a later one.
 abbrev start : tie.After-put-label → tie.Start
@@ -29,20 +28,17 @@ abbrev startAt : tie.After-known-told → ℕ
 startAt c = c .before .start .given .0 .0
 
 found : (c : tie.After-known-told)
-    → labelStart ((start (after-put-label c)) .args .depth) ((start (after-put-label c)) .args .p) 18 ≡ At (startAt c)
+    → labelStart ((start (after-put-label c)) .args .depth) ((start (after-put-label c)) .args .p) 36 ≡ At (startAt c)
 found c = sym ((after-put-label c) .put-label .ensures .0) ∙ c .before .start .given .1
 
-room : (c : tie.After-known-told) → (start (after-put-label c)) .args .depth ≤ 18
-room c = depth-most _ ((start (after-put-label c)) .pre .0)
-
-within : (c : tie.After-known-told) → startAt c ≤ 18
+within : (c : tie.After-known-told) → startAt c ≤ 36
 within c = found-within _ _ _ _ (found c)
 
 slice-aggregate-put-label : tie.Need-slice-aggregate-put-label
 slice-aggregate-put-label c = search needs
 
 put-label-requires : tie.Need-put-label-requires
-put-label-requires c κs = depth-most _ (c .before .pre .0)
+put-label-requires c κs = omega arith
 
 enum-told : tie.Need-enum-told
 enum-told c = search needs
@@ -66,7 +62,7 @@ answer-by-digits-requires c κs =
       (start (after-put-label told)) .pre,
       (
         found-label _ _ _ _ (found told),
-        found-digits _ _ places _ _ (omega arith) (room told) (found told) put,
+        found-digits _ _ places _ _ (omega arith) (omega arith) (omega arith) (found told) put,
       ),
     )
 

@@ -3,6 +3,7 @@ use mathlib.Core.Path.{ap, _∙_}
 use Prim.Native.Nat.{ℕ}
 use native.Mathlib.Omega.{arith}
 use lib.ListN.{replicate}
+use Rattle.sheet.specs.Record.{labelPlaces}
 use Rattle.sheet.proofs.Cells.{cells-most}
 use Rattle.index.proofs.Steps.{in-order, indexed-fitting}
 use borrow.Author.Needs.{needs}
@@ -45,7 +46,7 @@ index-in-order-requires c κs =
     let f = l .label-in-order in
     let p = (start (after-slice-known3 l)) .pre .0 in λ e.
     in-order (cells-most (p .sized .rows-most) (p .sized .cols-most)) (f .kept .1 .1 .1 .1 .1 .1 .1 .1 .1 .0 ∙ p .work)
-    (omega (arith, f .kept .1 .1 .1 .1 .1 .1 .1 .1 .0, p .labels)) (f .ensures .order e)
+    (omega (arith, ap labelPlaces (f .kept .1 .1 .1 .1 .1 .1 .1 .1 .0), p .labels)) (f .ensures .order e)
 
 clear-places-requires : tie.Need-clear-places-requires
 clear-places-requires c κs = search needs

@@ -9,10 +9,11 @@ use Rattle.labelling.proofs.clear_labels.Statement.{statement}
 use Rattle.labelling.proofs.clear_labels.Tie as tie
 
 abbrev Inv-loop : tie.InvT-loop
-Inv-loop labels₀ n i₀ labels i = (i ≤ n) × (labels ≡ replicate i 0 ++ drop i labels₀) × (length labels ≡ length labels₀)
+Inv-loop labels₀ numbers i₀ labels i =
+    (i ≤ numbers) × (labels ≡ replicate i 0 ++ drop i labels₀) × (length labels ≡ length labels₀)
 
 abbrev μ-loop : tie.MeasureT-loop
-μ-loop labels₀ n i₀ labels i = n - i
+μ-loop labels₀ numbers i₀ labels i = numbers - i
 
 loop-holds : tie.Need-loop-holds Inv-loop μ-loop
 loop-holds c = (omega arith, refl, refl)
@@ -43,8 +44,8 @@ same-length c = c .before .loop .inv .2
 
 returns : tie.Need-returns Inv-loop μ-loop
 returns c =
-    let e : c .before .loop .i ≡ c .before .before .args .n = omega arith in
-    rw (length-replicate {A = ℕ} (c .before .before .args .n) 0) (rw e at (c .before .loop .inv .1))
+    let e : c .before .loop .i ≡ c .before .before .args .numbers = omega arith in
+    rw (length-replicate {A = ℕ} (c .before .before .args .numbers) 0) (rw e at (c .before .loop .inv .1))
 
 pub clear-labels-spec : {M : Type 1} → statement M
 clear-labels-spec =

@@ -1,6 +1,8 @@
 -- `slices_fit` meets its contract.
+use native.Mathlib.Omega.{arith}
 use borrow.Author.Needs.{needs}
 use borrow.Author.Tests.{le-leb, lt-leb}
+use Rattle.sheet.specs.Record.{labelPlaces}
 use Rattle.labelling.proofs.slices_fit.Statement.{statement}
 use Rattle.labelling.proofs.slices_fit.Tie as tie
 
@@ -15,24 +17,28 @@ returns-3 c =
     simp (le-leb _ _ (c .before .before .if1 .left), le-leb _ _ (c .before .if2 .left), lt-leb _ _ (c .if3 .taken))
 
 returns-4 : tie.Need-returns-4
+unfolding labelPlaces
 returns-4 c =
     simp (
       le-leb _ _ (c .before .before .before .if1 .left),
       le-leb _ _ (c .before .before .if2 .left),
       le-leb _ _ (c .before .if3 .left),
-      lt-leb _ _ (c .if4 .taken),
+      lt-leb (c .before .before .before .before .args .n)
+          (labelPlaces (c .before .before .before .before .args .labels)) (omega (arith, c .if4 .taken)),
     )
 
 mul-result : tie.Need-mul-result
 mul-result c = search needs
 
 returns-5 : tie.Need-returns-5
+unfolding labelPlaces
 returns-5 c =
     simp (
       le-leb _ _ (c .before .before .before .if1 .left),
       le-leb _ _ (c .before .before .if2 .left),
       le-leb _ _ (c .before .if3 .left),
-      le-leb _ _ (c .if4 .left),
+      le-leb (c .before .before .before .before .args .n)
+          (labelPlaces (c .before .before .before .before .args .labels)) (omega (arith, c .if4 .left)),
     )
 
 pub slices-fit-spec : {M : Type 1} → statement M

@@ -1,9 +1,11 @@
 -- `write_labels` meets its contract: each step hands the next what it asks.
 use Prim.Native.Nat.{_*_, _≤_}
-use mathlib.Core.Path.{_≡_, refl, sym, _∙_}
+use mathlib.Core.Path.{_≡_, refl, sym, ap, _∙_}
 use native.Mathlib.Omega.{arith}
 use borrow.Author.Needs.{needs}
+use Rattle.sheet.specs.Record.{labelPlaces}
 use Rattle.sheet.proofs.Cells.{cells-most}
+use Rattle.sheet.proofs.Slices.{places-enough}
 use Rattle.upstream.specs.Work.{cellsPart, orderedSizesPart}
 use Rattle.labelling.specs.Labelling.{sheet}
 use Rattle.labelling.proofs.Steps.{queued-most, surveyed, part-is, network-in, network-of, places, some-cell}
@@ -54,8 +56,15 @@ arrange-requires c κs =
 mul-n : tie.Need-mul-n
 mul-n c = search needs
 
+mul-clear-labels : tie.Need-mul-clear-labels
+mul-clear-labels c =
+    let p = (start (after-measure (c .before .before .before))) .pre in
+    omega (arith, cells-most (p .0 .sized .rows-most) (p .0 .sized .cols-most))
+
 clear-labels-requires : tie.Need-clear-labels-requires
-clear-labels-requires c κs = search needs
+clear-labels-requires c κs =
+    let p = (start (after-measure (c .before .before .before))) .pre in
+    omega (arith, places-enough _ _ (p .0 .labels))
 
 -- so few cells that multiples of their number fit
 few : (c : tie.After-slice-known7)
@@ -153,7 +162,7 @@ label-basin-requires c κs =
               )) (omega (
                 arith,
                 p .0 .labels,
-                c .before .before .before .before .before .before .before .clear-labels .kept .0,
+                ap labelPlaces (c .before .before .before .before .before .before .before .clear-labels .kept .0),
               )) (p .0 .split-some) (p .0 .split-most),
         ),
       ),
@@ -198,6 +207,7 @@ write-labels-spec =
     measure-requires
     arrange-requires
     mul-n
+    mul-clear-labels
     clear-labels-requires
     mul-cells
     add-cells-end

@@ -1,17 +1,18 @@
 -- `levy` meets its contract: by the total, and by what the first checks give.
 use mathlib.Core.Path.{_≡_, sym, _∙_}
-use Prim.Native.Nat.{_*_, _≤_}
+use Prim.Native.Nat.{_*_, _≤_, min}
 use native.Mathlib.Omega.{arith}
-use lib.ListN.{length, length-take}
+use lib.ListN.{length}
 use lib.Seq.{length-take-le}
 use Rattle.sheet.specs.declared.Outcome.the-variants.{Accepted}
 use Rattle.sheet.specs.Sheet.{Sheet, cells}
+use Rattle.sheet.specs.Record.{labelPlaces}
 use Rattle.sheet.specs.Refusal.{Lent}
 use Rattle.labelling.specs.Labelling.{sheet, lent, firstChecks}
 use Rattle.labelling.proofs.Calls.{room, sizes-bounded, fitting, still-passed}
 use Rattle.index.specs.Index.{LentIndex, lentIndex}
 use Rattle.dues.specs.Levy.{greatestTotal}
-use Rattle.levy.proofs.Calls.{too-large, refused-first, levied-after}
+use Rattle.levy.proofs.Calls.{too-large, refused-first, cut-places, levied-after}
 use borrow.Author.Needs.{needs}
 use Rattle.levy.proofs.levy.Statement.{statement}
 use Rattle.levy.proofs.levy.Tie as tie
@@ -60,6 +61,13 @@ enough c = room (S (after-first-checks c)) (L (after-first-checks c)) (passed c)
 within : (c : tie.After-first-checks) → (start c) .args .total ≤ greatestTotal
 within c = omega (arith, c .before .if1 .left)
 
+-- no more units than there are places for their labels and their dues
+shorter : (c : tie.After-smaller)
+    → let d = after-first-checks (c .before) in c .smaller .result
+    ≡ min (labelPlaces (length (I d .labels))) (length ((start d) .args .dues .now))
+unfolding labelPlaces
+shorter c = c .smaller .ensures
+
 returns : tie.Need-returns
 returns c = too-large _ _ _ _ _ (omega (arith, c .if1 .taken))
 
@@ -87,6 +95,9 @@ slice-aggregate-levy-fitting c =
     let d = after-first-checks e in
     sym (length-take-le (8 * cells (S d .grid)) (L d .work) (enough e))
 
+mul-levy-fitting : tie.Need-mul-levy-fitting
+mul-levy-fitting c = omega (arith, c .before .before .before .smaller .ensures)
+
 slice-relend-prefix-levy-fitting-2 : tie.Need-slice-relend-prefix-levy-fitting-2
 slice-relend-prefix-levy-fitting-2 c = omega (arith, c .before .before .before .smaller .ensures)
 
@@ -98,11 +109,12 @@ levy-fitting-requires : tie.Need-levy-fitting-requires
 levy-fitting-requires c κs =
     let e = after-enum-told c in
     let d = after-first-checks e in
-    let m = c .before .before .before .before .before .before .before .smaller in (
+    let m = c .before .before .before .before .before .before .before in
+    let places = cut-places (I d .labels) (m .smaller .result) (omega (arith, shorter m)) in (
       fitting (S d) (L d) (passed e),
       (
         still-passed (S d) (L d) (passed e),
-        (within d, omega (arith, m .ensures, length-take (m .result) (I d .labels))),
+        (within d, omega (arith, shorter m, places)),
       ),
     )
 
@@ -135,8 +147,8 @@ returns-2 c =
     let f = after-levy-fitting c in
     let e = after-enum-told (f .before) in
     let d = after-first-checks e in
-    let m = f .before .before .before .before .before .before .before .before .smaller .ensures in
-    levied-after (S d) (L d) (I d) _ _ (within d) _ m (passed e) (f .levy-fitting .ensures .0)
+    let m = f .before .before .before .before .before .before .before .before in
+    levied-after (S d) (L d) (I d) _ _ (within d) _ (shorter m) (passed e) (f .levy-fitting .ensures .0)
     (f .levy-fitting .ensures .1)
 
 returns-3 : tie.Need-returns-3
@@ -156,6 +168,7 @@ levy-spec =
     smaller-requires
     slice-relend-prefix-levy-fitting
     slice-aggregate-levy-fitting
+    mul-levy-fitting
     slice-relend-prefix-levy-fitting-2
     slice-aggregate-levy-fitting-2
     levy-fitting-requires

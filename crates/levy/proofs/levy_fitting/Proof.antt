@@ -3,6 +3,7 @@ use mathlib.Core.Path.{refl, ap, _∙_}
 use Prim.Native.Nat.{ℕ}
 use native.Mathlib.Omega.{arith}
 use lib.ListN.{replicate}
+use Rattle.sheet.specs.Record.{labelPlaces}
 use Rattle.sheet.proofs.Cells.{cells-most}
 use Rattle.index.proofs.Steps.{in-order, indexed-fitting}
 use Rattle.levy.proofs.Steps.{in-order-dues, dues-written}
@@ -43,7 +44,7 @@ index-in-order-requires c κs =
     let f = l .label-in-order in
     let p = (start l) .pre .0 in λ e.
     in-order (cells-most (p .sized .rows-most) (p .sized .cols-most)) (f .kept .1 .1 .1 .1 .1 .1 .1 .1 .1 .0 ∙ p .work)
-    (omega (arith, f .kept .1 .1 .1 .1 .1 .1 .1 .1 .0, p .labels)) (f .ensures .order e)
+    (omega (arith, ap labelPlaces (f .kept .1 .1 .1 .1 .1 .1 .1 .1 .0), p .labels)) (f .ensures .order e)
 
 dues-in-order-requires : tie.Need-dues-in-order-requires
 dues-in-order-requires c κs =
@@ -55,7 +56,7 @@ dues-in-order-requires c κs =
     refl in λ units e.
     in-order-dues _ _ (p .1 .0) (p .0) (f .ensures) x e (p .1 .1 .0) (record {
       areas = omega (arith, f .kept .1 .1 .1 .1 .1 .1 .1 .0, p .0 .areas);
-      labels = omega (arith, f .kept .1 .1 .1 .1 .1 .1 .1 .1 .0, p .0 .labels);
+      labels = omega (arith, ap labelPlaces (f .kept .1 .1 .1 .1 .1 .1 .1 .1 .0), p .0 .labels);
       work = f .kept .1 .1 .1 .1 .1 .1 .1 .1 .1 .0 ∙ p .0 .work;
       counts = i .index-in-order .kept .1 .1 .1 .1 .1 .1 .0;
       dues-room = p .1 .1 .1;

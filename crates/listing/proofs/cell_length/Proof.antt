@@ -2,7 +2,9 @@
 use Prim.Native.Nat.{_+_, _≤_}
 use native.Mathlib.Omega.{arith}
 use Rattle.decimal.proofs.TextLaws.{text-64-bit, text-32-bit}
-use Rattle.listing.proofs.Lengths.{cell-length, label-64-bit}
+use Rattle.listing.specs.Listing.{labelText}
+use Rattle.listing.proofs.LabelText.{label-most}
+use Rattle.listing.proofs.Lengths.{cell-length}
 use borrow.Author.Needs.{needs}
 use Rattle.listing.proofs.cell_length.Statement.{statement}
 use Rattle.listing.proofs.cell_length.Tie as tie
@@ -19,9 +21,9 @@ decimal-length-requires-3 c κs = search needs
 label-length-requires : tie.Need-label-length-requires
 label-length-requires c κs = search needs
 
--- all the digits of a line are at most 80
+-- all the digits of a line are at most 90
 few : (c : tie.After-label-length)
-    → c .before .before .before .decimal-length .result + c .before .before .decimal-length2 .result + c .before .decimal-length3 .result + c .label-length .result ≤ 80
+    → c .before .before .before .decimal-length .result + c .before .before .decimal-length2 .result + c .before .decimal-length3 .result + c .label-length .result ≤ 90
 few c =
     let s = c .before .before .before .before in
     omega (
@@ -29,7 +31,7 @@ few c =
       text-64-bit (s .args .row) (s .fits .row .fits),
       text-64-bit (s .args .col) (s .fits .col .fits),
       text-32-bit (s .args .area) (s .fits .area .fits),
-      label-64-bit (s .args .label) (s .fits .label .fits),
+      label-most (s .args .label),
     )
 
 add-result : tie.Need-add-result
@@ -47,7 +49,7 @@ add-result-4 c = omega (arith, few c)
 returns : tie.Need-returns
 returns c =
     let a = c .before .before .before .before .args in
-    omega (arith, cell-length (a .row) (a .col) (a .area) (a .label))
+    omega (arith, cell-length (a .row) (a .col) (a .area) (labelText (a .label)))
 
 pub cell-length-spec : {M : Type 1} → statement M
 cell-length-spec =

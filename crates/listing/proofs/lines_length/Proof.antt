@@ -7,22 +7,24 @@ use borrow.Author.Needs.{needs}
 use lib.ListN.{length}
 use Rattle.sheet.specs.Sheet.{grid}
 use Rattle.sheet.proofs.Cells.{cells-most}
-use Rattle.listing.specs.Listing.{linesBelow}
-use Rattle.listing.proofs.Lengths.{lines-outside, lines-inside-length, lines-fit}
+use Rattle.listing.specs.Listing.{labelTexts, lineOf, linesBelow}
+use Rattle.listing.proofs.Lengths.{line-of, lines-outside, lines-inside-length, lines-fit}
 use Rattle.listing.proofs.Answers.{cell-small}
 use Rattle.listing.proofs.lines_length.Statement.{statement}
 use Rattle.listing.proofs.lines_length.Tie as tie
 
 abbrev Inv-loop : tie.InvT-loop
 Inv-loop rows cols dirs areas labels n count₀ cell₀ count cell =
-    (cell ≤ n) × (count ≡ length (linesBelow (grid rows cols dirs) areas labels cell))
+    (cell ≤ n) × (count ≡ length (linesBelow (grid rows cols dirs) areas (labelTexts labels) cell))
 
 abbrev μ-loop : tie.MeasureT-loop
 μ-loop rows cols dirs areas labels n count₀ cell₀ count cell = n - cell
 
 -- the lines of the first cells that are lent
 abbrev lines : tie.Start Inv-loop μ-loop → ℕ → List ℕ
-lines s = let a = s .args in linesBelow (grid (a .rows) (a .cols) (a .dirs .now)) (a .areas .now) (a .labels .now)
+lines s =
+    let a = s .args in
+    linesBelow (grid (a .rows) (a .cols) (a .dirs .now)) (a .areas .now) (labelTexts (a .labels .now))
 
 -- Points of the function, each from a later one.
 abbrev start : tie.At-loop Inv-loop μ-loop → tie.Start Inv-loop μ-loop
@@ -50,6 +52,12 @@ loop-again c =
     let l = c .before .before .before .loop in
     (omega arith, l .inv .1 ∙ ap length (sym (lines-outside _ _ _ (l .cell) (c .if1 .taken))))
 
+label-at-requires : tie.Need-label-at-requires Inv-loop μ-loop
+label-at-requires c κs =
+    let s = c .before .before .before .before .before .before .before in
+    let on = c .before .before .loop-test .taken in
+    omega (arith, on, s .pre .labels-long)
+
 div-cell-length : tie.Need-div-cell-length Inv-loop μ-loop
 div-cell-length c = omega arith
 
@@ -60,24 +68,28 @@ mul-cell-length : tie.Need-mul-cell-length Inv-loop μ-loop
 mul-cell-length c =
     omega (
       arith,
-      cell-small (c .before .before .before .before .before .before .before .pre) (c .before .before .loop-test .taken),
+      cell-small (c .before .before .before .before .before .before .before .before .pre)
+          (c .before .before .before .loop-test .taken),
     )
 
 shared-slice-read-cell-length : tie.Need-shared-slice-read-cell-length Inv-loop μ-loop
 shared-slice-read-cell-length c = omega arith
 
-mul-cell-length-2 : tie.Need-mul-cell-length-2 Inv-loop μ-loop
-mul-cell-length-2 c =
-    omega (
-      arith,
-      cell-small ((start (c .before .before .before .before)) .pre) (c .before .before .before .loop-test .taken),
-    )
-
-shared-slice-read-cell-length-2 : tie.Need-shared-slice-read-cell-length-2 Inv-loop μ-loop
-shared-slice-read-cell-length-2 c = omega arith
-
 cell-length-requires : tie.Need-cell-length-requires Inv-loop μ-loop
 cell-length-requires c κs = search needs
+
+-- the bytes of this cell's line
+line : (c : tie.After-cell-length Inv-loop μ-loop)
+    → let l = c .before .before .before .before .before .before in
+    let a = l .before .before .before .before .args in c .cell-length .result ≡ length
+    (lineOf (grid (a .rows) (a .cols) (a .dirs .now)) (a .areas .now) (labelTexts (a .labels .now)) (l .loop .cell))
+line c =
+    let l = c .before .before .before .before .before .before in
+    let a = l .before .before .before .before .args in
+    c .cell-length .ensures
+    ∙ ap length
+    (line-of (grid (a .rows) (a .cols) (a .dirs .now)) (a .areas .now) (a .labels .now) (l .loop .cell)
+    (c .before .before .label-at .result) (c .before .before .label-at .ensures))
 
 -- the bytes with those of this cell's line
 counted : (c : tie.After-cell-length Inv-loop μ-loop)
@@ -89,8 +101,9 @@ counted c =
     let a = l .before .before .before .before .args in
     omega (
       arith,
-      lines-inside-length (grid (a .rows) (a .cols) (a .dirs .now)) (a .areas .now) (a .labels .now) (l .loop .cell)
-          (omega arith) (c .before .before .before .if1 .left),
+      line c,
+      lines-inside-length (grid (a .rows) (a .cols) (a .dirs .now)) (a .areas .now) (labelTexts (a .labels .now))
+          (l .loop .cell) (omega arith) (c .before .before .before .if1 .left),
     )
 
 add-count : tie.Need-add-count Inv-loop μ-loop
@@ -99,8 +112,7 @@ add-count c =
     let s = l .before .before .before .before in
     let most = lines-fit (grid (s .args .rows) (s .args .cols) (s .args .dirs .now)) (s .args .areas .now)
     (s .args .labels .now) (s .pre .rows-most) (s .pre .cols-most)
-    (λ i. l .before .before .shared-slice-known2 .given i .fits) (λ i. l .before .shared-slice-known3 .given i .fits)
-    (l .loop .cell + 1) (omega arith) in
+    (λ i. l .before .before .shared-slice-known2 .given i .fits) (l .loop .cell + 1) (omega arith) in
     omega (arith, counted c)
 
 add-cell-2 : tie.Need-add-cell-2 Inv-loop μ-loop
@@ -130,12 +142,11 @@ lines-length-spec =
     add-cell
     loop-less
     loop-again
+    label-at-requires
     div-cell-length
     rem-cell-length
     mul-cell-length
     shared-slice-read-cell-length
-    mul-cell-length-2
-    shared-slice-read-cell-length-2
     cell-length-requires
     add-count
     add-cell-2

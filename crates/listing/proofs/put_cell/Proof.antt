@@ -17,7 +17,7 @@ room : (c : tie.Start)
     → let a =
     c .args in a .at + length (decimalText (a .row)) + length (decimalText (a .col)) + length
     (decimalText (a .area)) + length (labelText (a .label)) + 4 ≤ length (a .out .now)
-room c = let a = c .args in omega (arith, c .pre, cell-length (a .row) (a .col) (a .area) (a .label))
+room c = let a = c .args in omega (arith, c .pre, cell-length (a .row) (a .col) (a .area) (labelText (a .label)))
 
 put-field-requires : tie.Need-put-field-requires
 put-field-requires c κs = omega (arith, room (c .before .before))
@@ -33,7 +33,6 @@ put-field-requires-2 c κs =
     )
 
 put-field-requires-3 : tie.Need-put-field-requires-3
-unfolding labelText
 put-field-requires-3 c κs =
     let col = c .before .before .before in
     let row = col .before .before .before .before in
@@ -47,7 +46,6 @@ put-field-requires-3 c κs =
     )
 
 put-label-requires : tie.Need-put-label-requires
-unfolding labelText
 put-label-requires c κs =
     let area = c .before .before .before in
     let col = area .before .before .before .before in

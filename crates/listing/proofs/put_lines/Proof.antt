@@ -1,15 +1,15 @@
 -- The invariant: the lines of the cells before this one stand in the buffer from the position on.
-use Prim.Native.Nat.{ℕ, _+_, _-_, _*_, _≤_}
+use Prim.Native.Nat.{ℕ, _+_, _-_, _*_, _/_, _%_, _≤_}
 use mathlib.Core.Path.{_≡_}
 use mathlib.Core.List.{List}
 use native.Mathlib.Omega.{arith}
 use borrow.Author.Needs.{needs}
-use lib.ListN.{length}
+use lib.ListN.{length, getD}
 use Rattle.sheet.specs.Sheet.{grid}
 use Rattle.sheet.proofs.Cells.{cells-most}
-use Rattle.listing.specs.Listing.{linesBelow}
+use Rattle.listing.specs.Listing.{labelText, labelTexts, cellLine, lineOf, linesBelow}
 use Rattle.listing.specs.Steps.{Put}
-use Rattle.listing.proofs.Lengths.{lines-grow}
+use Rattle.listing.proofs.Lengths.{line-of, lines-grow}
 use Rattle.listing.proofs.Putting.{put-nothing, put-length, put-outside, line-room, put-inside}
 use Rattle.listing.proofs.Answers.{cell-small}
 use Rattle.listing.proofs.put_lines.Statement.{statement}
@@ -17,14 +17,16 @@ use Rattle.listing.proofs.put_lines.Tie as tie
 
 abbrev Inv-loop : tie.InvT-loop
 Inv-loop rows cols dirs areas labels out₀ at n next₀ cell₀ out next cell =
-    (cell ≤ n) × Put out₀ out at next (linesBelow (grid rows cols dirs) areas labels cell)
+    (cell ≤ n) × Put out₀ out at next (linesBelow (grid rows cols dirs) areas (labelTexts labels) cell)
 
 abbrev μ-loop : tie.MeasureT-loop
 μ-loop rows cols dirs areas labels out₀ at n next₀ cell₀ out next cell = n - cell
 
 -- the lines of the first cells that are lent
 abbrev lines : tie.Start Inv-loop μ-loop → ℕ → List ℕ
-lines s = let a = s .args in linesBelow (grid (a .rows) (a .cols) (a .dirs .now)) (a .areas .now) (a .labels .now)
+lines s =
+    let a = s .args in
+    linesBelow (grid (a .rows) (a .cols) (a .dirs .now)) (a .areas .now) (labelTexts (a .labels .now))
 
 -- Points of the function, each from a later one.
 abbrev start : tie.At-loop Inv-loop μ-loop → tie.Start Inv-loop μ-loop
@@ -49,7 +51,8 @@ room c k h =
     let a = s .args in
     omega (
       arith,
-      lines-grow (grid (a .rows) (a .cols) (a .dirs .now)) (a .areas .now) (a .labels .now) k (a .rows * a .cols) h,
+      lines-grow (grid (a .rows) (a .cols) (a .dirs .now)) (a .areas .now) (labelTexts (a .labels .now)) k
+          (a .rows * a .cols) h,
       s .pre .1,
     )
 
@@ -70,6 +73,12 @@ loop-again : tie.Need-loop-again Inv-loop μ-loop
 loop-again c =
     let l = c .before .before .before .loop in (omega arith, put-outside _ _ _ (l .cell) (c .if1 .taken) (l .inv .1))
 
+label-at-requires : tie.Need-label-at-requires Inv-loop μ-loop
+label-at-requires c κs =
+    let s = start (at-loop (in-loop c)) in
+    let on = (in-loop c) .loop-test .taken in
+    omega (arith, on, s .pre .0 .labels-long)
+
 div-put-cell : tie.Need-div-put-cell Inv-loop μ-loop
 div-put-cell c = omega arith
 
@@ -77,26 +86,34 @@ rem-put-cell : tie.Need-rem-put-cell Inv-loop μ-loop
 rem-put-cell c = omega arith
 
 mul-put-cell : tie.Need-mul-put-cell Inv-loop μ-loop
-mul-put-cell c = omega (arith, cell-small ((start (at-loop (in-loop c))) .pre .0) (c .before .before .loop-test .taken))
-
-shared-slice-read-put-cell : tie.Need-shared-slice-read-put-cell Inv-loop μ-loop
-shared-slice-read-put-cell c = omega arith
-
-mul-put-cell-2 : tie.Need-mul-put-cell-2 Inv-loop μ-loop
-mul-put-cell-2 c =
+mul-put-cell c =
     omega (
       arith,
       cell-small ((start (at-loop (in-loop (c .before)))) .pre .0) (c .before .before .before .loop-test .taken),
     )
 
-shared-slice-read-put-cell-2 : tie.Need-shared-slice-read-put-cell-2 Inv-loop μ-loop
-shared-slice-read-put-cell-2 c = omega arith
+shared-slice-read-put-cell : tie.Need-shared-slice-read-put-cell Inv-loop μ-loop
+shared-slice-read-put-cell c = omega arith
+
+-- the line of this cell
+line : (c : tie.After-label-at Inv-loop μ-loop)
+    → let l = at-loop (in-loop (c .before)) in
+    let a = start l .args in
+    cellLine (l .loop .cell / a .cols) (l .loop .cell % a .cols) (getD (a .areas .now) (l .loop .cell) 0)
+    (labelText (c .label-at .result))
+    ≡ lineOf (grid (a .rows) (a .cols) (a .dirs .now)) (a .areas .now) (labelTexts (a .labels .now)) (l .loop .cell)
+line c =
+    let l = at-loop (in-loop (c .before)) in
+    let a = start l .args in
+    line-of (grid (a .rows) (a .cols) (a .dirs .now)) (a .areas .now) (a .labels .now) (l .loop .cell)
+    (c .label-at .result) (c .label-at .ensures)
 
 put-cell-requires : tie.Need-put-cell-requires Inv-loop μ-loop
 put-cell-requires c κs =
     let l = c .before .before .before .before .before .before in
-    line-room _ _ _ (l .loop .cell) (omega arith) (c .before .before .before .if1 .left)
-    (room l (l .loop .cell + 1) (omega arith)) (l .loop .inv .1)
+    rw (line (c .before .before))
+    (line-room _ _ _ (l .loop .cell) (omega arith) (c .before .before .before .if1 .left)
+    (room l (l .loop .cell + 1) (omega arith)) (l .loop .inv .1))
 
 add-cell-2 : tie.Need-add-cell-2 Inv-loop μ-loop
 add-cell-2 c = search needs
@@ -110,7 +127,8 @@ loop-again-2 c =
     let on = (in-loop (c .before .before .before .before .before .before)) .loop-test .taken in (
       omega arith,
       put-inside _ _ _ (l .loop .cell) on (c .before .before .before .before .before .before .if1 .left)
-          (room l (l .loop .cell + 1) (omega arith)) (l .loop .inv .1) (c .before .before .put-cell .ensures),
+          (room l (l .loop .cell + 1) (omega arith)) (l .loop .inv .1)
+          (rw (line (c .before .before .before .before .before)) at (c .before .before .put-cell .ensures)),
     )
 
 same-length : tie.Need-same-length Inv-loop μ-loop
@@ -135,12 +153,11 @@ put-lines-spec =
     add-cell
     loop-less
     loop-again
+    label-at-requires
     div-put-cell
     rem-put-cell
     mul-put-cell
     shared-slice-read-put-cell
-    mul-put-cell-2
-    shared-slice-read-put-cell-2
     put-cell-requires
     add-cell-2
     loop-less-2

@@ -7,10 +7,11 @@ use mathlib.Core.List.{List, _++_}
 use native.Mathlib.Omega.{arith}
 use borrow.Author.Needs.{needs}
 use lib.ListN.{length}
+use Rattle.sheet.specs.Record.{labelPlaces}
 use Rattle.sheet.specs.Sheet.{grid}
 use Rattle.sheet.specs.Refusal.{sizesFit}
 use Rattle.sheet.proofs.Cells.{cells-most}
-use Rattle.listing.specs.Listing.{listingHeading, linesBelow, listingText}
+use Rattle.listing.specs.Listing.{listingHeading, labelTexts, linesBelow, listingOf, listingText}
 use Rattle.listing.specs.Writing.{textInto, listingInto}
 use Rattle.listing.specs.Steps.{Listable, Put}
 use Rattle.listing.proofs.Lengths.{listing-length, lines-fit}
@@ -25,7 +26,8 @@ use Rattle.listing.proofs.write_listing.Tie as tie
 abbrev lines : tie.Start → List ℕ
 lines s =
     let a = s .args in
-    linesBelow (grid (a .rows) (a .cols) (a .dirs .now)) (a .areas .now) (a .labels .now) (a .rows * a .cols)
+    linesBelow (grid (a .rows) (a .cols) (a .dirs .now)) (a .areas .now) (labelTexts (a .labels .now))
+    (a .rows * a .cols)
 
 abbrev text : tie.Start → List ℕ
 text s = let a = s .args in listingText (grid (a .rows) (a .cols) (a .dirs .now)) (a .areas .now) (a .labels .now)
@@ -56,6 +58,12 @@ most : (c : tie.Then1)
     → let a = c .before .before .before .before .before .before .args in (a .rows ≤ 256) × (a .cols ≤ 256)
 most c = rows-cols-most _ _ (sizes c)
 
+labels-enough : (c : tie.Else4)
+    → let a = c .before .before .before .before .before .before .before .before .before .args in a .rows * a .cols
+    ≤ labelPlaces (length (a .labels .now))
+unfolding labelPlaces
+labels-enough c = omega (arith, c .if4 .left)
+
 checked : (c : tie.After-heading)
     → let a =
     (start (after-shared-slice-known2 (after-shared-slice-known3 c))) .args in Listable (a .rows) (a .cols)
@@ -64,7 +72,7 @@ checked c =
     let a = (start (after-shared-slice-known2 (after-shared-slice-known3 c))) .args in
     listable (a .rows) (a .cols) (a .dirs .now) (a .areas .now) (a .labels .now) (a .out .now)
     (sizes (c .before .before .before .before)) (c .before .before .before .if2 .left) (c .before .before .if3 .left)
-    (c .before .if4 .left)
+    (labels-enough (c .before))
 
 into : (c : tie.After-heading)
     → let a =
@@ -75,18 +83,19 @@ into c =
     let a = (start (after-shared-slice-known2 (after-shared-slice-known3 c))) .args in
     listing-into (a .rows) (a .cols) (a .dirs .now) (a .areas .now) (a .labels .now) (a .out .now)
     (sizes (c .before .before .before .before)) (c .before .before .before .if2 .left) (c .before .before .if3 .left)
-    (c .before .if4 .left)
+    (labels-enough (c .before))
 
 -- the bytes that were counted are those of the text
 counted : (c : tie.After-lines-length)
     → 19 + c .lines-length .result ≡ length
     (text ((start (after-shared-slice-known2 (after-shared-slice-known3 (c .before))))))
+unfolding listingText
 counted c =
     let a = (start (after-shared-slice-known2 (after-shared-slice-known3 (c .before)))) .args in
     omega (
       arith,
       c .lines-length .ensures,
-      listing-length (grid (a .rows) (a .cols) (a .dirs .now)) (a .areas .now) (a .labels .now),
+      listing-length (grid (a .rows) (a .cols) (a .dirs .now)) (a .areas .now) (labelTexts (a .labels .now)),
     )
 
 -- the heading and the lines have room
@@ -100,7 +109,7 @@ text-room : (c : tie.Else5)
     (listingHeading ++ lines
     ((start (after-shared-slice-known2 (after-shared-slice-known3 (after-heading c)))))) ≤ length
     ((start (after-shared-slice-known2 (after-shared-slice-known3 (after-heading c)))) .args .out .now)
-unfolding listingText
+unfolding listingText listingOf
 text-room c = omega (arith, room c)
 
 heading : (c : tie.After-put-text)
@@ -123,6 +132,7 @@ returns-2 : tie.Need-returns-2
 returns-2 c = promises (refused-areas _ _ _ _ _ _ (sizes (c .before .before)) (c .before .if2 .left) (c .if3 .taken))
 
 returns-3 : tie.Need-returns-3
+unfolding labelPlaces
 returns-3 c =
     promises
     (refused-labels _ _ _ _ _ _ (sizes (c .before .before .before)) (c .before .before .if2 .left)
@@ -141,8 +151,7 @@ add-length c =
       lines-fit (grid (a .rows) (a .cols) (a .dirs .now)) (a .areas .now) (a .labels .now) (m .0) (m .1)
           (λ i. (after-shared-slice-known2
           (after-shared-slice-known3 (c .before))) .shared-slice-known2 .given i .fits)
-          (λ i. (after-shared-slice-known3 (c .before)) .shared-slice-known3 .given i .fits) (a .rows * a .cols)
-          (omega arith),
+          (a .rows * a .cols) (omega arith),
     )
 
 returns-4 : tie.Need-returns-4
@@ -167,7 +176,7 @@ same-length : tie.Need-same-length
 same-length c = search needs
 
 returns-5 : tie.Need-returns-5
-unfolding listingText
+unfolding listingText listingOf
 returns-5 c =
     promises
     (put-whole _ _ (room ((else5 (c .before .before .before .before .before .before))))

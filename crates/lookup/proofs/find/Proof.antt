@@ -2,8 +2,9 @@
 use mathlib.Core.Path.{_≡_, sym, _∙_}
 use mathlib.Core.Bool.{true}
 use mathlib.Core.List.{List}
-use Prim.Native.Nat.{ℕ}
 use borrow.Author.Needs.{needs}
+use Rattle.sheet.specs.declared.Label.{Label}
+use Rattle.sheet.specs.Record.{labelsIn}
 use Rattle.sheet.specs.Flow.{every, isLabel}
 use Rattle.lookup.specs.Lookup.{greatestDepth, isRising, lookupAnswer}
 use Rattle.lookup.proofs.find.Statement.{statement}
@@ -19,8 +20,8 @@ then1 c = c .before .before
 abbrev then2 : tie.Then3 → tie.Then2
 then2 c = c .before .before
 
-abbrev labelsAt : tie.Then1 → List ℕ
-labelsAt c = (start c) .args .labels .now
+abbrev labelsAt : tie.Then1 → List Label
+labelsAt c = labelsIn ((start c) .args .labels .now)
 
 -- What the tests showed.
 label-known : (c : tie.Then1) → isLabel greatestDepth ((start c) .args .leading) ≡ true

@@ -3,8 +3,10 @@ use native.Mathlib.Omega.{arith}
 use borrow.Author.Needs.{needs}
 use mathlib.Core.Path.{_≡_, sym, _∙_}
 use mathlib.Core.List.{List}
-use Prim.Native.Nat.{ℕ, _+_, _≤_}
+use Prim.Native.Nat.{ℕ, _+_, _*_, _≤_}
 use lib.ListN.{length}
+use Rattle.sheet.specs.declared.Label.{Label}
+use Rattle.sheet.specs.Record.{labelsIn}
 use Rattle.lookup.specs.declared.LookupAnswer.the-variants.{Part, Refused}
 use Rattle.lookup.specs.Lookup.{lookupAnswer}
 use Rattle.lookup.proofs.Answers.{
@@ -15,6 +17,7 @@ use Rattle.lookup.proofs.Answers.{
   refused-place,
   refused-number,
 }
+use Rattle.lookup.proofs.Counted.{entries-counted}
 use Rattle.lookup.proofs.Exactly.{found-exactly}
 use Rattle.lookup.proofs.lookup.Statement.{statement}
 use Rattle.lookup.proofs.lookup.Tie as tie
@@ -23,7 +26,7 @@ use Rattle.lookup.proofs.lookup.Tie as tie
 abbrev start : tie.After-find → tie.Start
 start c = c .before .before
 
-abbrev leadingAt : tie.After-find → ℕ
+abbrev leadingAt : tie.After-find → Label
 leadingAt c = (start c) .args .leading
 
 abbrev labelsAt : tie.After-find → List ℕ
@@ -44,16 +47,21 @@ numberAt c = c .before .number .given .0 .0
 
 found : (c : tie.After-known-told)
     → let here = c .before .before .before in
-    lookupAnswer (leadingAt here) (labelsAt here) ≡ Part (startAt c) (lengthAt c)
+    lookupAnswer (leadingAt here) (labelsIn (labelsAt here)) ≡ Part (startAt c) (lengthAt c)
 found c = sym (c .before .before .before .find .ensures .0) ∙ c .before .start .given .1
 
 refused : (c : tie.After-known-told2)
     → let here = c .before .before .before in
-    lookupAnswer (leadingAt here) (labelsAt here) ≡ Refused (numberAt c)
+    lookupAnswer (leadingAt here) (labelsIn (labelsAt here)) ≡ Refused (numberAt c)
 refused c = sym (c .before .before .before .find .ensures .0) ∙ c .before .number .given .1
 
-within : (c : tie.After-known-told) → startAt c + lengthAt c ≤ length (labelsAt (c .before .before .before))
+within : (c : tie.After-known-told) → startAt c + lengthAt c ≤ length (labelsIn (labelsAt (c .before .before .before)))
 within c = (found-exactly _ _ (startAt c) (lengthAt c) (found c)) .within
+
+-- and as numbers
+numbers-within : (c : tie.After-known-told)
+    → 2 * startAt c + 2 * lengthAt c ≤ length (labelsAt (c .before .before .before))
+numbers-within c = omega (arith, within c, entries-counted (labelsAt (c .before .before .before)))
 
 find-requires : tie.Need-find-requires
 find-requires c κs = search needs
@@ -61,11 +69,17 @@ find-requires c κs = search needs
 enum-known-start : tie.Need-enum-known-start
 enum-known-start c = search needs
 
-add-end : tie.Need-add-end
-add-end c = omega (arith, within c)
+mul-from : tie.Need-mul-from
+mul-from c = omega (arith, numbers-within c)
+
+mul-to : tie.Need-mul-to
+mul-to c = omega (arith, numbers-within c)
+
+add-to : tie.Need-add-to
+add-to c = omega (arith, numbers-within c)
 
 mul-result : tie.Need-mul-result
-mul-result c = omega (arith, within c)
+mul-result c = omega (arith, numbers-within c)
 
 sub-result : tie.Need-sub-result
 sub-result c = search needs
@@ -74,13 +88,13 @@ part-result-start : tie.Need-part-result-start
 part-result-start c = search needs
 
 part-result-end : tie.Need-part-result-end
-part-result-end c = within c
+part-result-end c = numbers-within c
 
 returns : tie.Need-returns
 returns c =
     let found-here = found (c .before) in
     let here = c .before .before .before .before in (
-      found-part (leadingAt here) (labelsAt here) _ _ found-here,
+      found-part (leadingAt here) (labelsAt here) _ _ found-here (within (c .before)),
       (
         found-place (leadingAt here) (labelsAt here) _ _ found-here (firstAt here),
         found-number (leadingAt here) (labelsAt here) _ _ found-here,
@@ -110,7 +124,9 @@ lookup-spec =
     (tie.spec
     find-requires
     enum-known-start
-    add-end
+    mul-from
+    mul-to
+    add-to
     mul-result
     sub-result
     part-result-start

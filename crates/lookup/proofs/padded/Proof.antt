@@ -1,23 +1,27 @@
--- `padded` meets its contract.
+-- `padded` meets its contract: its halves are the label's two numbers with zeros behind them.
 use native.Mathlib.Omega.{arith}
-use borrow.Author.Needs.{needs}
-use mathlib.Core.Path.{ap, _∙_}
-use Rattle.lookup.specs.Padded.{withZeros, padded}
-use Rattle.lookup.proofs.PaddedOrder.{known}
+use mathlib.Core.Path.{sym}
+use Rattle.lookup.specs.PaddedHalves.{joined}
+use Rattle.lookup.proofs.PaddedHalves.{first-short, rest-short, padded-rest-below, padded-halves}
 use Rattle.lookup.proofs.padded.Statement.{statement}
 use Rattle.lookup.proofs.padded.Tie as tie
 
-count-digits-requires : tie.Need-count-digits-requires
-count-digits-requires c κs = search needs
+padded-number-requires : tie.Need-padded-number-requires
+padded-number-requires c κs = first-short (c .args .label) (c .pre)
 
-with-zeros-requires : tie.Need-with-zeros-requires
-with-zeros-requires c κs =
-    let k = known (c .before .args .label) (c .before .pre) in
-    (rw (c .count-digits .ensures) (omega (arith, k .below)), omega (arith, k .most, c .count-digits .ensures))
+padded-number-requires-2 : tie.Need-padded-number-requires-2
+padded-number-requires-2 c κs = rest-short (c .before .args .label) (c .before .pre)
 
 returns : tie.Need-returns
-unfolding padded
-returns c = c .with-zeros .ensures ∙ ap (withZeros _) (c .before .count-digits .ensures)
+unfolding joined
+returns c =
+    let s = c .before .before in
+    record {
+      whole =
+          rw (c .before .padded-number .ensures, c .padded-number2 .ensures)
+          (sym (padded-halves (s .args .label) (s .pre)));
+      most = omega (arith, c .padded-number2 .ensures, padded-rest-below (s .args .label) (s .pre));
+    }
 
 pub padded-spec : {M : Type 1} → statement M
-padded-spec = tie.close (tie.spec count-digits-requires with-zeros-requires returns)
+padded-spec = tie.close (tie.spec padded-number-requires padded-number-requires-2 returns)

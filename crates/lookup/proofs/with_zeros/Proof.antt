@@ -3,18 +3,18 @@
 use native.Mathlib.Omega.{arith}
 use mathlib.Core.Path.{_≡_, refl, sym, _∙_}
 use Prim.Native.Nat.{_-_, _^_, _≤_}
-use Rattle.lookup.specs.Lookup.{greatestDepth}
-use Rattle.lookup.specs.Padded.{withZeros}
+use Rattle.sheet.specs.Record.{numberDigits}
+use Rattle.lookup.specs.PaddedHalves.{numberWithZeros}
 use Rattle.lookup.proofs.Zeros.{zeros-turn, zeros-end, zeros-fit, zeros-bound}
 use Rattle.lookup.proofs.with_zeros.Statement.{statement}
 use Rattle.lookup.proofs.with_zeros.Tie as tie
 
 abbrev Inv-loop : tie.InvT-loop
 Inv-loop number count m₀ k₀ m k =
-    (withZeros m k ≡ withZeros number count) × (m ≤ 10 ^ k) × (k ≤ greatestDepth)
+    (numberWithZeros m k ≡ numberWithZeros number count) × (m ≤ 10 ^ k) × (k ≤ numberDigits)
 
 abbrev μ-loop : tie.MeasureT-loop
-μ-loop number count m₀ k₀ m k = greatestDepth - k
+μ-loop number count m₀ k₀ m k = numberDigits - k
 
 loop-holds : tie.Need-loop-holds Inv-loop μ-loop
 loop-holds c = (refl, c .pre .0, c .pre .1)

@@ -1,8 +1,11 @@
 -- `flow_pairs` meets its contract, return by return.
 use mathlib.Core.Path.{_≡_, refl, sym, _∙_}
 use mathlib.Core.Bool.{true}
+use lib.ListN.{length}
 use borrow.Author.Needs.{needs}
+use Rattle.sheet.specs.Record.{labelPlaces}
 use Rattle.sheet.specs.Refusal.{depthFits, leastFits}
+use Rattle.flow.specs.Pairs.{pairCount}
 use Rattle.flow.proofs.PairNumbers.{depth-refused, least-refused, short-refused, all-answered, promised}
 use Rattle.flow.proofs.pairs.flow_pairs.Statement.{statement}
 use Rattle.flow.proofs.pairs.flow_pairs.Tie as tie
@@ -28,14 +31,21 @@ fits c = (
   sym (c .before .before .least-fits .ensures) ∙ c .before .if2 .taken,
 )
 
+-- the count of pairs, by the places of the slices
+counted : (c : tie.After-pair-count)
+    → c .pair-count .result
+    ≡ pairCount (labelPlaces (length ((start c) .args .p .now))) (labelPlaces (length ((start c) .args .q .now)))
+unfolding labelPlaces
+counted c = c .pair-count .ensures
+
 returns : tie.Need-returns
 returns c =
     promised _ _ _ _ _ _ _
-    (short-refused _ _ _ _ _ (fits (c .before)) _ (c .before .pair-count .ensures) (c .if3 .taken)) refl
+    (short-refused _ _ _ _ _ (fits (c .before)) _ (counted (c .before)) (c .if3 .taken)) refl
 
 answer-pairs-requires : tie.Need-answer-pairs-requires
 answer-pairs-requires c κs =
-    let d = c .before in (fits (d .before), (d .before .pair-count .ensures, d .if3 .left))
+    let d = c .before in (fits (d .before), (counted (d .before), d .if3 .left))
 
 same-length : tie.Need-same-length
 same-length c = search needs
@@ -44,7 +54,7 @@ returns-2 : tie.Need-returns-2
 returns-2 c =
     let d = c .before .before .before .before in
     promised _ _ _ _ _ _ _
-    (all-answered _ _ _ _ _ (fits (d .before)) _ (d .before .pair-count .ensures) (d .if3 .left))
+    (all-answered _ _ _ _ _ (fits (d .before)) _ (counted (d .before)) (d .if3 .left))
     (c .before .before .answer-pairs .ensures)
 
 returns-3 : tie.Need-returns-3

@@ -1,15 +1,18 @@
 -- `fill_units` meets its contract. The loop's invariant: the groups before `first` are written, at the places before
 -- `at`. The measure is what is left of the cells.
-use Prim.Native.Nat.{_+_, _-_}
+use Prim.Native.Nat.{_+_, _*_, _-_, _≤_}
 use native.Mathlib.Omega.{arith}
-use lib.ListN.{length}
+use lib.ListN.{length, length-set}
+use Rattle.sheet.proofs.Slices.{places-enough}
 use Rattle.index.specs.Index.{lentIndex}
 use Rattle.index.specs.Steps.{Room}
-use Rattle.index.proofs.Filling.{Filling, filling-starts, room-left, filling-goes-on, filling-ends, filling-counted}
+use Rattle.index.proofs.Filling.{Filling, filling-starts, room-left, filling-goes-on, filling-ends}
+use Rattle.index.proofs.Filling.{filling-counted}
 use Rattle.index.proofs.units.fill_units.Statement.{statement}
 use Rattle.index.proofs.units.fill_units.Tie as tie
 use Rattle.index.proofs.units.fill_units.Reads as reads
 use Rattle.index.proofs.units.fill_units.Lts as lts
+use Rattle.checks.proofs.label_at.Reads as label-at-reads
 use Rattle.index.proofs.units.last_of_group.Reads as last-of-group-reads
 
 abbrev Inv-loop : tie.InvT-loop
@@ -23,10 +26,18 @@ abbrev μ-loop : tie.MeasureT-loop
 abbrev start : tie.In-loop Inv-loop μ-loop → tie.Start Inv-loop μ-loop
 start c = c .before .before .before .before .before .before .before
 
+abbrev after-last-of-group : tie.After-label-at Inv-loop μ-loop → tie.After-last-of-group Inv-loop μ-loop
+after-last-of-group c = c .before .before
+
 -- a place is left for the group
 left : (c : tie.After-last-of-group Inv-loop μ-loop) → Room (c .before .before .loop .at + 1)
     (lentIndex (c .before .before .loop .units) (c .before .before .loop .outlets) (c .before .before .loop .counts))
 left c = room-left _ _ _ (c .before .before .loop .inv) (c .last-of-group .ensures) ((start (c .before)) .pre .1)
+
+-- both numbers of its label's place are in the slice
+numbers-left : (c : tie.After-last-of-group Inv-loop μ-loop)
+    → 2 * (c .before .before .loop .at + 1) ≤ length (c .before .before .loop .units)
+numbers-left c = places-enough _ _ (left c .labels)
 
 loop-holds : tie.Need-loop-holds Inv-loop μ-loop
 loop-holds c = filling-starts _ _ _
@@ -34,27 +45,38 @@ loop-holds c = filling-starts _ _ _
 last-of-group-requires : tie.Need-last-of-group-requires Inv-loop μ-loop
 last-of-group-requires c κs = ((start c) .pre .0, c .loop-test .taken)
 
+mul-label-at : tie.Need-mul-label-at Inv-loop μ-loop
+mul-label-at c = omega arith
+
+shared-slice-read-label-at : tie.Need-shared-slice-read-label-at Inv-loop μ-loop
+shared-slice-read-label-at c = omega arith
+
+cast-label-at : tie.Need-cast-label-at Inv-loop μ-loop
+cast-label-at c = omega (arith, c .shared-slice-known3 .given (c .before .before .before .loop .first))
+
+label-at-requires : tie.Need-label-at-requires Inv-loop μ-loop
+label-at-requires c κs = let d = c .before .before in (start d) .pre .0 .on _ (d .loop-test .taken)
+
 mul-units : tie.Need-mul-units Inv-loop μ-loop
-mul-units c = omega arith
-
-shared-slice-read-units : tie.Need-shared-slice-read-units Inv-loop μ-loop
-shared-slice-read-units c = omega arith
-
-cast-units : tie.Need-cast-units Inv-loop μ-loop
-cast-units c = omega (arith, c .shared-slice-known3 .given (c .before .before .before .loop .first))
+mul-units c = omega (arith, numbers-left (after-last-of-group c))
 
 mul-units-2 : tie.Need-mul-units-2 Inv-loop μ-loop
-mul-units-2 c = omega (arith, c .shared-slice-known3 .given (c .before .before .before .loop .first))
-
-shared-slice-read-units-2 : tie.Need-shared-slice-read-units-2 Inv-loop μ-loop
-shared-slice-read-units-2 c =
-    let d = c .before .before .before in (start d) .pre .0 .on _ (d .loop-test .taken)
-
-mul-units-3 : tie.Need-mul-units-3 Inv-loop μ-loop
-mul-units-3 c = omega (arith, left (c .before .before) .labels)
+mul-units-2 c = omega (arith, numbers-left (after-last-of-group c))
 
 slice-write-units : tie.Need-slice-write-units Inv-loop μ-loop
-slice-write-units c = omega (arith, left (c .before .before) .labels)
+slice-write-units c = omega (arith, numbers-left (after-last-of-group c))
+
+mul-units-3 : tie.Need-mul-units-3 Inv-loop μ-loop
+mul-units-3 c = omega (arith, numbers-left (after-last-of-group c))
+
+add-units : tie.Need-add-units Inv-loop μ-loop
+add-units c = omega (arith, numbers-left (after-last-of-group c))
+
+mul-units-4 : tie.Need-mul-units-4 Inv-loop μ-loop
+mul-units-4 c = omega (arith, numbers-left (after-last-of-group c))
+
+slice-write-units-2 : tie.Need-slice-write-units-2 Inv-loop μ-loop
+slice-write-units-2 c = rw (length-set _ _ _) (omega (arith, numbers-left (after-last-of-group c)))
 
 mul-outlets : tie.Need-mul-outlets Inv-loop μ-loop
 mul-outlets c = omega arith
@@ -63,10 +85,10 @@ shared-slice-read-outlets : tie.Need-shared-slice-read-outlets Inv-loop μ-loop
 shared-slice-read-outlets c = omega arith
 
 mul-outlets-2 : tie.Need-mul-outlets-2 Inv-loop μ-loop
-mul-outlets-2 c = omega (arith, left (c .before .before .before) .outlets)
+mul-outlets-2 c = omega (arith, left (after-last-of-group (c .before)) .outlets)
 
 slice-write-outlets : tie.Need-slice-write-outlets Inv-loop μ-loop
-slice-write-outlets c = omega (arith, left (c .before .before .before) .outlets)
+slice-write-outlets c = omega (arith, left (after-last-of-group (c .before)) .outlets)
 
 sub-counts : tie.Need-sub-counts Inv-loop μ-loop
 sub-counts c = omega arith
@@ -78,10 +100,10 @@ cast-counts : tie.Need-cast-counts Inv-loop μ-loop
 cast-counts c = omega arith
 
 mul-counts : tie.Need-mul-counts Inv-loop μ-loop
-mul-counts c = omega (arith, left (c .before .before .before) .counts)
+mul-counts c = omega (arith, left (after-last-of-group (c .before)) .counts)
 
 slice-write-counts : tie.Need-slice-write-counts Inv-loop μ-loop
-slice-write-counts c = omega (arith, left (c .before .before .before) .counts)
+slice-write-counts c = omega (arith, left (after-last-of-group (c .before)) .counts)
 
 add-first : tie.Need-add-first Inv-loop μ-loop
 add-first c = omega arith
@@ -94,8 +116,8 @@ loop-less c = omega arith
 
 loop-again : tie.Need-loop-again Inv-loop μ-loop
 loop-again c =
-    let d = c .before .before .before in
-    filling-goes-on _ _ _ (d .before .before .loop .inv) (d .last-of-group .ensures)
+    let d = after-last-of-group (c .before) in
+    rw (c .before .label-at .ensures) (filling-goes-on _ _ _ (d .before .before .loop .inv) (d .last-of-group .ensures))
 
 same-length : tie.Need-same-length Inv-loop μ-loop
 same-length c = c .before .loop .inv .units
@@ -121,13 +143,17 @@ fill-units-spec =
     μ-loop
     loop-holds
     last-of-group-requires
+    mul-label-at
+    shared-slice-read-label-at
+    cast-label-at
+    label-at-requires
     mul-units
-    shared-slice-read-units
-    cast-units
     mul-units-2
-    shared-slice-read-units-2
-    mul-units-3
     slice-write-units
+    mul-units-3
+    add-units
+    mul-units-4
+    slice-write-units-2
     mul-outlets
     shared-slice-read-outlets
     mul-outlets-2

@@ -1,7 +1,5 @@
 -- `write_units` meets its contract.
 use mathlib.Core.Path.{_≡_, sym, ap, _∙_, refl}
-use mathlib.Core.Bool.{true, false}
-use mathlib.Core.List.{List}
 use Prim.Native.Nat.{ℕ}
 use lib.ListN.{length}
 use Rattle.index.specs.declared.Indexed.the-variants.{Units}
@@ -56,8 +54,9 @@ fits-counted : (c : tie.After-index-fits2)
     → c .index-fits2 .result ≡ indexFits (groupCount (after-index-fits c)) (lentAt (after-index-fits c))
 unfolding indexFits
 fits-counted c =
-    c .index-fits2 .ensures
-    ∙ ap (λ (n : ℕ). indexFits n (lentAt (after-index-fits c))) (c .before .count-units .ensures)
+    let tested : c .index-fits2 .result ≡ indexFits (c .before .count-units .result) (lentAt (after-index-fits c)) =
+    c .index-fits2 .ensures in
+    tested ∙ ap (λ (n : ℕ). indexFits n (lentAt (after-index-fits c))) (c .before .count-units .ensures)
 
 room-counted : (c : tie.Then2)
     → Room (groupCount (after-index-fits (c .before))) (lentAt (after-index-fits (c .before)))

@@ -334,7 +334,7 @@ run-label-run-requires t c κs =
         (
           places-at ((run-at-loop t e) .loop .inv .0) (s .pre .1 .1 .0),
           prefix-more p (omega (arith, d)) (taking-least t e) (omega (arith, taking-most t e))
-              (c .before .with-digit .ensures (p .gathered) (p .held)),
+              (c .before .with-digit .ensures (p .gathered) (p .one-to-nine) (p .held)),
         ),
       ),
     )
@@ -371,7 +371,7 @@ run-label-river-requires t c κs =
                 (c .before .before .before .before .label-run .kept .1 .1 .1 .1 .1 .1 .1 .0
                 ∙ (run-at-loop t e) .loop .inv .0) (s .pre .1 .1 .0),
             prefix-more p (omega (arith, d)) (omega (arith, taking-least t e)) (omega (arith, taking-most t e))
-                (c .before .with-digit2 .ensures (p .gathered) (p .held)),
+                (c .before .with-digit2 .ensures (p .gathered) (p .one-to-nine) (p .held)),
           ),
         ),
       ),
@@ -411,10 +411,10 @@ run-loop-again-3 t c =
           (e .before .key-at .ensures) ((run-at-loop t e) .loop .inv .1 u p) (e .if4 .left)
           (λ w. r .label-run .ensures w
           (prefix-more p (omega (arith, d)) (taking-least t e) (omega (arith, taking-most t e))
-          (r .before .before .with-digit .ensures (p .gathered) (p .held))))
+          (r .before .before .with-digit .ensures (p .gathered) (p .one-to-nine) (p .held))))
           (λ n. c .before .before .label-river .ensures n
           (prefix-more p (omega (arith, d)) (omega (arith, taking-least t e)) (omega (arith, taking-most t e))
-          (c .before .before .before .before .with-digit2 .ensures (p .gathered) (p .held)))),
+          (c .before .before .before .before .with-digit2 .ensures (p .gathered) (p .one-to-nine) (p .held)))),
     )
 
 -- after the last mouth that is taken
@@ -451,7 +451,7 @@ run-label-run-requires-2 t c κs =
         (
           places-at (c .before .before .before .loop .inv .0) (s .pre .1 .1 .0),
           prefix-more p (omega (arith, d)) (last-least t (c .before .before)) (last-most t (c .before .before))
-              (c .before .with-digit3 .ensures (p .gathered) (p .held)),
+              (c .before .with-digit3 .ensures (p .gathered) (p .one-to-nine) (p .held)),
         ),
       ),
     )
@@ -473,7 +473,7 @@ run-returns-3 t c =
     (c .before .before .before .before .before .before .loop .inv .1 u p)
     (λ w. c .before .before .label-run2 .ensures w
     (prefix-more p (omega (arith, d)) (last-least t e) (last-most t e)
-    (c .before .before .before .before .with-digit3 .ensures (p .gathered) (p .held))))
+    (c .before .before .before .before .with-digit3 .ensures (p .gathered) (p .one-to-nine) (p .held))))
 
 pub +label-river+label-run-spec : {M : Type 1} → statement M
 +label-river+label-run-spec = close μ-label-river μ-label-run (λ t. label-river-lts.spec (river-calls t)

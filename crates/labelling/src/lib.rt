@@ -63,10 +63,10 @@ fn write_labels(
     ensures order { λ _. ⌜ Arranged (grid rows cols (now (dirs .entry))) (now (areas .exit))
         (now (work .exit)) queued ⌝ }
 {
-    drainage::measure::measure(dirs, rows, cols, weights, work, queued, areas);
-    order::positions::arrange(dirs, rows, cols, areas, queued, work);
     let n = rows * cols;
     clear_labels(labels, 2 * n);
+    drainage::measure::measure(dirs, rows, cols, weights, work, queued, areas);
+    order::positions::arrange(dirs, rows, cols, areas, queued, work);
     let cells = parts::CELLS * n;
     let cells_end = cells + queued;
     let sizes = parts::ORDERED_SIZES * n;

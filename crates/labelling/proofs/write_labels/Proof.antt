@@ -20,27 +20,36 @@ use Rattle.order.proofs.positions.arrange.Reads as arrange-reads
 use Rattle.rivers.proofs.units.label_basin.Reads as label-basin-reads
 
 -- Points of the function, each from a later one.
-abbrev after-slices : tie.After-measure → tie.After-slice-known
-after-slices c = c .before .before .before .before .before
+abbrev start : tie.After-clear-labels → tie.Start
+start c = c .before .before .before .before .before .before .before
 
-abbrev start : tie.After-measure → tie.Start
-start c = (after-slices c) .before .before .before
+abbrev after-clear-labels : tie.After-measure → tie.After-clear-labels
+after-clear-labels c = c .before .before .before .before .before
 
 abbrev after-measure : tie.After-arrange → tie.After-measure
 after-measure c = c .before .before .before .before .before .before .before
 
-abbrev after-arrange : tie.After-clear-labels → tie.After-arrange
-after-arrange c = c .before .before .before .before
+abbrev first : tie.After-arrange → tie.Start
+first c = start (after-clear-labels (after-measure c))
 
-abbrev after-clear-labels : tie.After-labels → tie.After-clear-labels
-after-clear-labels c = c .before
+abbrev after-arrange : tie.After-label-basin → tie.After-arrange
+after-arrange c = c .before .before .before .before .before .before .before .before
 
-abbrev after-labels : tie.After-label-basin → tie.After-labels
-after-labels c = c .before .before .before .before .before .before .before
+mul-n : tie.Need-mul-n
+mul-n c = search needs
+
+mul-clear-labels : tie.Need-mul-clear-labels
+mul-clear-labels c =
+    let p = c .before .before .before .before .before .before .pre in
+    omega (arith, cells-most (p .0 .sized .rows-most) (p .0 .sized .cols-most))
+
+clear-labels-requires : tie.Need-clear-labels-requires
+clear-labels-requires c κs =
+    let p = c .before .before .before .before .before .before .pre in omega (arith, places-enough _ _ (p .0 .labels))
 
 measure-requires : tie.Need-measure-requires
 measure-requires c κs =
-    let s = c .before .before .before .before .before .before .before in
+    let s = start (c .before .before .before .before) in
     let p = s .pre in
     let a = s .args in
     let S = sheet (a .rows) (a .cols) (a .depth) (a .least) (a .split) (a .dirs .now) (a .weights .now) in
@@ -48,37 +57,22 @@ measure-requires c κs =
 
 arrange-requires : tie.Need-arrange-requires
 arrange-requires c κs =
-    let p = (start (c .before .before .before .before .before .before)) .pre in
-    surveyed (p .0) (p .1) (c .before .before .before .before .before .before .measure .ensures .0)
-    (c .before .before .before .before .before .before .measure .ensures .1 _ refl refl)
-    (c .before .before .before .before .before .before .measure .kept .1 .1 .1 .1 .0)
-
-mul-n : tie.Need-mul-n
-mul-n c = search needs
-
-mul-clear-labels : tie.Need-mul-clear-labels
-mul-clear-labels c =
-    let p = (start (after-measure (c .before .before .before))) .pre in
-    omega (arith, cells-most (p .0 .sized .rows-most) (p .0 .sized .cols-most))
-
-clear-labels-requires : tie.Need-clear-labels-requires
-clear-labels-requires c κs =
-    let p = (start (after-measure (c .before .before .before))) .pre in
-    omega (arith, places-enough _ _ (p .0 .labels))
+    let m = c .before .before .before .before .before .before in
+    let p = (start (after-clear-labels m)) .pre in
+    surveyed (p .0) (p .1) (m .measure .ensures .0) (m .measure .ensures .1 _ refl refl)
+    (m .measure .kept .1 .1 .1 .1 .0)
 
 -- so few cells that multiples of their number fit
-few : (c : tie.After-slice-known7)
-    → let a = (start (after-measure (after-arrange (c .before .before)))) .args in a .rows * a .cols ≤ 65536
+few : (c : tie.After-slice-known7) → let a = (first (c .before .before)) .args in a .rows * a .cols ≤ 65536
 few c =
-    let p = (start (after-measure (after-arrange (c .before .before)))) .pre in
-    cells-most (p .0 .sized .rows-most) (p .0 .sized .cols-most)
+    let p = (first (c .before .before)) .pre in cells-most (p .0 .sized .rows-most) (p .0 .sized .cols-most)
 
 mul-cells : tie.Need-mul-cells
 mul-cells c = omega (arith, few c)
 
 add-cells-end : tie.Need-add-cells-end
 add-cells-end c =
-    let p = (start (after-measure (after-arrange (after-clear-labels (c .before))))) .pre in
+    let p = (first (c .before .before)) .pre in
     omega (arith, queued-most (p .1 .drained), cells-most (p .0 .sized .rows-most) (p .0 .sized .cols-most))
 
 mul-sizes : tie.Need-mul-sizes
@@ -86,14 +80,12 @@ mul-sizes c = omega (arith, few c)
 
 add-sizes-end : tie.Need-add-sizes-end
 add-sizes-end c =
-    let p = (start (after-measure (after-arrange (after-clear-labels (c .before))))) .pre in
+    let p = (first (c .before .before)) .pre in
     omega (arith, queued-most (p .1 .drained), cells-most (p .0 .sized .rows-most) (p .0 .sized .cols-most))
 
 -- least fits 32 bits
 cast-label-basin : tie.Need-cast-label-basin
-cast-label-basin c =
-    let p = (start (after-measure (after-arrange (after-clear-labels (c .before))))) .pre in
-    omega (arith, p .0 .least-most)
+cast-label-basin c = let p = (first (c .before .before)) .pre in omega (arith, p .0 .least-most)
 
 mul-label-basin : tie.Need-mul-label-basin
 mul-label-basin c = omega (arith, few c)
@@ -106,18 +98,19 @@ part-label-basin-start c = search needs
 
 part-label-basin-end : tie.Need-part-label-basin-end
 part-label-basin-end c =
-    let p = (start (after-measure (after-arrange (after-clear-labels (c .before .before))))) .pre in
+    let o = c .before .before .before in
+    let p = (first o) .pre in
     omega (
       arith,
       queued-most (p .1 .drained),
       p .0 .work,
-      (after-measure (after-arrange (after-clear-labels (c .before .before)))) .measure .kept .1 .1 .1 .1 .0,
-      c .before .before .before .before .before .before .before .arrange .kept .1 .1 .1 .1 .1 .0,
+      (after-measure o) .measure .kept .1 .1 .1 .1 .0,
+      o .arrange .kept .1 .1 .1 .1 .1 .0,
     )
 
 mul-label-basin-2 : tie.Need-mul-label-basin-2
 mul-label-basin-2 c =
-    let p = (start (after-measure (after-arrange (after-clear-labels (c .before .before .before))))) .pre in
+    let p = (first (c .before .before .before .before)) .pre in
     omega (arith, cells-most (p .0 .sized .rows-most) (p .0 .sized .cols-most))
 
 sub-label-basin-2 : tie.Need-sub-label-basin-2
@@ -128,21 +121,23 @@ part-label-basin-start-2 c = search needs
 
 part-label-basin-end-2 : tie.Need-part-label-basin-end-2
 part-label-basin-end-2 c =
-    let p = (start (after-measure (after-arrange (after-clear-labels (c .before .before .before))))) .pre in
+    let o = c .before .before .before .before in
+    let p = (first o) .pre in
     omega (
       arith,
       queued-most (p .1 .drained),
       p .0 .work,
-      (after-measure (after-arrange (after-clear-labels (c .before .before .before)))) .measure .kept .1 .1 .1 .1 .0,
-      (after-arrange (after-clear-labels (c .before .before .before))) .arrange .kept .1 .1 .1 .1 .1 .0,
+      (after-measure o) .measure .kept .1 .1 .1 .1 .0,
+      o .arrange .kept .1 .1 .1 .1 .1 .0,
     )
 
 label-basin-requires : tie.Need-label-basin-requires
 label-basin-requires c κs =
-    let o = after-arrange (after-clear-labels (c .before .before .before .before .before .before)) in
+    let o = c .before .before .before .before .before .before .before in
     let m = after-measure o in
-    let p = (start m) .pre in
-    let a = (start m) .args in
+    let l = after-clear-labels m in
+    let p = (start l) .pre in
+    let a = (start l) .args in
     let n = a .rows * a .cols in
     let S = sheet (a .rows) (a .cols) (a .depth) (a .least) (a .split) (a .dirs .now) (a .weights .now) in
     let accepted = rest-accepted S (p .1) in
@@ -155,15 +150,9 @@ label-basin-requires c κs =
         (
           network-of S accepted e r,
           places S accepted e r _ _
-              (omega (
-                arith,
-                p .0 .areas,
-                m .measure .kept .1 .1 .1 .1 .1 .1 .0,
-              )) (omega (
-                arith,
-                p .0 .labels,
-                ap labelPlaces (c .before .before .before .before .before .before .before .clear-labels .kept .0),
-              )) (p .0 .split-some) (p .0 .split-most),
+              (omega (arith, p .0 .areas, m .measure .kept .1 .1 .1 .1 .1 .1 .0))
+              (omega (arith, p .0 .labels, ap labelPlaces (l .clear-labels .kept .0)))
+              (p .0 .split-some) (p .0 .split-most),
         ),
       ),
     )
@@ -179,15 +168,16 @@ same-length-3 c = search needs
 
 returns : tie.Need-returns
 returns c =
-    let p = (start (after-measure (after-arrange (after-clear-labels (after-labels (c .before .before)))))) .pre in
-    let a = (start (after-measure (after-arrange (after-clear-labels (after-labels (c .before .before)))))) .args in
+    let o = after-arrange (c .before .before) in
+    let m = after-measure o in
+    let l = after-clear-labels m in
+    let p = (start l) .pre in
+    let a = (start l) .args in
     let n = a .rows * a .cols in
-    let r = (after-arrange (after-clear-labels (after-labels (c .before .before)))) .arrange .ensures .0 in
+    let r = o .arrange .ensures .0 in
     let S = sheet (a .rows) (a .cols) (a .depth) (a .least) (a .split) (a .dirs .now) (a .weights .now) in
     let accepted = rest-accepted S (p .1) in
-    let areas =
-    (after-measure
-    (after-arrange (after-clear-labels (after-labels (c .before .before))))) .measure .ensures .1 S refl refl in
+    let areas = m .measure .ensures .1 S refl refl in
     let e = rw (
       part-is (cellsPart * n) (a .queued),
       part-is (orderedSizesPart * n) (a .queued),
@@ -195,7 +185,7 @@ returns c =
       areas,
       (
         labels-written S accepted (network-in S (a .areas .now) areas) r (a .labels .now) (p .0 .labels)
-            ((after-clear-labels (after-labels (c .before .before))) .clear-labels .ensures) e,
+            (l .clear-labels .ensures) e,
         r,
       ),
     )
@@ -204,11 +194,11 @@ pub write-labels-spec : {M : Type 1} → statement M
 write-labels-spec =
     tie.close
     (tie.spec
-    measure-requires
-    arrange-requires
     mul-n
     mul-clear-labels
     clear-labels-requires
+    measure-requires
+    arrange-requires
     mul-cells
     add-cells-end
     mul-sizes

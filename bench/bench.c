@@ -1,8 +1,8 @@
 /* Times the proved labelling call against the plain C baseline, also with one mouth taken at a time, so that labels get
    up to 36 digits, the same call with a least above 1 against that with least 1, the index call against the labelling
    call, the levy call against the index call, and check 4 by words against check 4 by bytes, on the same sheets in one
-   run, then the call for many pairs of labels, and prints the ratios. Where nothing else is said, least is 1 and split
-   4. */
+   run, some of them with many basins, then the call for many pairs of labels, and prints the ratios. Where nothing else
+   is said, least is 1 and split 4; the levy is that of the last basin. */
 #include <stdint.h>
 #include <stdio.h>
 #include <stdlib.h>
@@ -14,35 +14,40 @@
 
 enum { LEAST = 16 }; /* of the call with a least above 1 */
 
-static uint32_t baseline_areas[CELLS], index_areas[CELLS];
+static uint32_t baseline_areas[CELLS], index_areas[CELLS], baseline_basins[CELLS], index_basins[CELLS];
 static uint64_t baseline_labels[2 * CELLS], index_labels[2 * CELLS], dues[CELLS];
 static const uint64_t total = 100000000000; /* cents, the largest total of the levy call */
 
 static uint64_t proved(int side, int depth) {
     size_t n = (size_t)side * side;
-    return pf_label(side, side, depth, 1, 4, dirs, n, weights, side, areas, n, labels, 2 * n, work, 8 * n);
+    return pf_label(side, side, depth, 1, 4, dirs, n, weights, side, areas, n, labels, 2 * n, basins, n, work,
+                    8 * n);
 }
 
 static uint64_t one_at_a_time(int side, int depth) {
     size_t n = (size_t)side * side;
-    return pf_label(side, side, depth, 1, 1, dirs, n, weights, side, areas, n, labels, 2 * n, work, 8 * n);
+    return pf_label(side, side, depth, 1, 1, dirs, n, weights, side, areas, n, labels, 2 * n, basins, n, work,
+                    8 * n);
 }
 
 static uint64_t with_least(int side, int depth) {
     size_t n = (size_t)side * side;
-    return pf_label(side, side, depth, LEAST, 4, dirs, n, weights, side, areas, n, labels, 2 * n, work, 8 * n);
+    return pf_label(side, side, depth, LEAST, 4, dirs, n, weights, side, areas, n, labels, 2 * n, basins, n, work,
+                    8 * n);
 }
 
 static uint64_t indexed(int side, int depth) {
     size_t n = (size_t)side * side;
-    return pf_index(side, side, depth, 1, 4, dirs, n, weights, side, index_areas, n, index_labels, 2 * n, work, 8 * n,
-                    units, 2 * n, outlets, n, counts, n);
+    return pf_index(side, side, depth, 1, 4, dirs, n, weights, side, index_areas, n, index_labels, 2 * n, index_basins,
+                    n, work, 8 * n, units, 2 * n, outlets, n, counts, n, unit_basins, n);
 }
+
+static uint32_t levied_basin;
 
 static uint64_t levied(int side, int depth) {
     size_t n = (size_t)side * side;
-    return pf_levy(side, side, depth, 1, 4, dirs, n, weights, side, index_areas, n, index_labels, 2 * n, work, 8 * n,
-                   units, 2 * n, outlets, n, counts, n, total, dues, n);
+    return pf_levy(side, side, depth, 1, 4, dirs, n, weights, side, index_areas, n, index_labels, 2 * n, index_basins,
+                   n, work, 8 * n, units, 2 * n, outlets, n, counts, n, unit_basins, n, levied_basin, total, dues, n);
 }
 
 /* Of the crate benchmark: the first cell of a sheet whose byte is none of the nine codes, or its number of cells. */
@@ -60,17 +65,18 @@ static uint64_t by_bytes(int side, int depth) {
 }
 
 static uint64_t plain(int side, int depth) {
-    return baseline_label(side, side, depth, 4, dirs, weights, baseline_areas, baseline_labels);
+    return baseline_label(side, side, depth, 4, dirs, weights, baseline_areas, baseline_labels, baseline_basins);
 }
 
 static uint64_t plain_one_at_a_time(int side, int depth) {
-    return baseline_label(side, side, depth, 1, dirs, weights, baseline_areas, baseline_labels);
+    return baseline_label(side, side, depth, 1, dirs, weights, baseline_areas, baseline_labels, baseline_basins);
 }
 
 /* Do both labellers give the same for the sheet that was made last? */
 static void check_labellers(const char *name, call_of first, call_of second, int depth) {
     uint64_t a = first(SIDE, depth), b = second(SIDE, depth);
-    if (a == b && !memcmp(areas, baseline_areas, sizeof areas) && !memcmp(labels, baseline_labels, sizeof labels))
+    if (a == 0 && b == 0 && !memcmp(areas, baseline_areas, sizeof areas)
+        && !memcmp(labels, baseline_labels, sizeof labels) && !memcmp(basins, baseline_basins, sizeof basins))
         return;
     printf("%s, depth %d: the results differ\n", name, depth);
     exit(1);
@@ -117,6 +123,24 @@ static double mean_digits(void) {
     return (double)digits / CELLS;
 }
 
+/* The basins of the sheet that was labelled last. */
+static uint32_t count_basins(void) {
+    uint32_t count = 0;
+    for (size_t c = 0; c < CELLS; c++)
+        if (basins[c] > count) count = basins[c];
+    return count;
+}
+
+/* How many basins the shapes with several have. */
+static void tell_basins(void) {
+    printf("\nbasins, 256 x 256\n");
+    for (size_t s = ONE_BASIN; s < SHAPES; s++) {
+        shapes[s].make(SIDE);
+        proved(SIDE, 18);
+        printf("%-7s %u\n", shapes[s].name, (unsigned)count_basins());
+    }
+}
+
 /* Rivers with many mouths, of which each split takes one. */
 static void one_mouth_at_a_time(void) {
     static const char *const names[] = {"comb", "ditches"};
@@ -155,8 +179,8 @@ static void least_against_1(void) {
 static void index_against_label(const char *name) {
     uint64_t a = indexed(SIDE, 18), b = proved(SIDE, 18);
     if (a % 256 != 0 || b != 0 || memcmp(index_areas, areas, sizeof areas)
-        || memcmp(index_labels, labels, sizeof labels)) {
-        printf("%s: areas or labels of the index call differ\n", name);
+        || memcmp(index_labels, labels, sizeof labels) || memcmp(index_basins, basins, sizeof basins)) {
+        printf("%s: areas, labels or basins of the index call differ\n", name);
         exit(1);
     }
     double p, q;
@@ -164,16 +188,20 @@ static void index_against_label(const char *name) {
     printf("%-7s index / label  %.2f  (%.2f / %.2f; %u)\n", name, p / q, p * 1e3, q * 1e3, (unsigned)(a / 256));
 }
 
-/* Do the dues of so many units add up to the total? */
+/* Do the dues of the basin, of so many units in all, add up to the total? */
 static int add_up(size_t count) {
     uint64_t sum = 0;
-    for (size_t k = 0; k < count; k++) sum += dues[k];
+    size_t due = 0;
+    for (size_t k = 0; k < count; k++)
+        if (unit_basins[k] == levied_basin) sum += dues[due++];
     return sum == total;
 }
 
 static void levy_against_index(const char *name) {
     memset(dues, 0, sizeof dues);
-    uint64_t a = levied(SIDE, 18), b = indexed(SIDE, 18);
+    uint64_t b = indexed(SIDE, 18);
+    levied_basin = unit_basins[b / 256 - 1];
+    uint64_t a = levied(SIDE, 18);
     if (a % 256 != 0 || a != b || !add_up(a / 256)) {
         printf("%s: not the answer of the index call, or dues that do not add up to the total\n", name);
         exit(1);
@@ -229,6 +257,7 @@ static void time_a_cell(void) {
 int main(void) {
     weights_of_1();
     label_against_baseline();
+    tell_basins();
     weighted_against_baseline();
     one_mouth_at_a_time();
     least_against_1();

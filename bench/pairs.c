@@ -8,6 +8,7 @@
 enum { ROUNDS = 100, NEVER = 0, FULL = 18 /* digits of a full number */ };
 
 uint64_t p_labels[2 * PAIRS], q_labels[2 * PAIRS];
+uint32_t p_basins[PAIRS], q_basins[PAIRS];
 uint8_t answers[PAIRS];
 
 /* A label: its first 18 digits, then the next ones. */
@@ -105,17 +106,22 @@ static void some_refused(int depth) {
     }
 }
 
-const struct kind kinds[KINDS] = {{"one spill", 3, one_spill},       {"one spill", 18, one_spill},
-                                  {"one spill", 36, one_spill},      {"any two", 3, any_two},
-                                  {"any two", 18, any_two},          {"any two", 36, any_two},
-                                  {"long labels", 18, long_labels},  {"long labels", 36, long_labels},
-                                  {"some refused", 3, some_refused}, {"some refused", 18, some_refused},
-                                  {"some refused", 36, some_refused}};
+const struct kind kinds[KINDS] = {{"one spill", 3, one_spill, 1},       {"one spill", 18, one_spill, 1},
+                                  {"one spill", 36, one_spill, 1},      {"any two", 3, any_two, 1},
+                                  {"any two", 18, any_two, 1},          {"any two", 36, any_two, 1},
+                                  {"long labels", 18, long_labels, 1},  {"long labels", 36, long_labels, 1},
+                                  {"some refused", 3, some_refused, 1}, {"some refused", 18, some_refused, 1},
+                                  {"some refused", 36, some_refused, 1}, {"two basins", 18, any_two, 2}};
+
+void make_pairs(const struct kind *kind) {
+    kind->make(kind->depth);
+    for (int k = 0; k < PAIRS; k++) p_basins[k] = 1 + below(kind->basins), q_basins[k] = 1 + below(kind->basins);
+}
 
 uint64_t flow_one_by_one(int depth) {
     for (int k = 0; k < PAIRS; k++) {
         const uint64_t *p = p_labels + 2 * k, *q = q_labels + 2 * k;
-        answers[k] = (uint8_t)pf_flow(depth, 1, p[0], p[1], q[0], q[1]);
+        answers[k] = (uint8_t)pf_flow(depth, 1, p_basins[k], p[0], p[1], q_basins[k], q[0], q[1]);
     }
     return 256 * (uint64_t)PAIRS;
 }

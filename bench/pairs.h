@@ -3,16 +3,19 @@
 #define PAIRS_H
 #include <stdint.h>
 
-enum { PAIRS = 100000, KINDS = 11 };
+enum { PAIRS = 100000, KINDS = 12 };
 
-/* The pairs that were made last; two numbers for each label. */
+/* The pairs that were made last; two numbers for each label, and its basin. */
 extern uint64_t p_labels[2 * PAIRS], q_labels[2 * PAIRS];
+extern uint32_t p_basins[PAIRS], q_basins[PAIRS];
 
 /* What is lent to a call for its answers. */
 extern uint8_t answers[PAIRS];
 
-/* The kinds of pairs; `make` makes them with labels of up to `depth` digits. */
-extern const struct kind { const char *name; int depth; void (*make)(int depth); } kinds[KINDS];
+/* The kinds of pairs; `make` makes labels of up to `depth` digits, and make_pairs all of a kind, with basins, each of
+   the labels in one of so many, by chance. */
+extern const struct kind { const char *name; int depth; void (*make)(int depth); uint32_t basins; } kinds[KINDS];
+void make_pairs(const struct kind *kind);
 
 /* A call that answers all pairs, and what it returns. */
 typedef uint64_t (*pairs_call)(int depth);

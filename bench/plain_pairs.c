@@ -31,12 +31,13 @@ static int put_digits(int depth, const uint64_t label[2], uint8_t digits[MAX_DEP
     return FULL + rest;
 }
 
-static uint8_t answer_of(int depth, size_t least, const uint64_t p[2], const uint64_t q[2]) {
+static uint8_t answer_of(int depth, size_t least, int same_basin, const uint64_t p[2], const uint64_t q[2]) {
     uint8_t p_places[MAX_DEPTH], q_places[MAX_DEPTH];
     int i = 0, n = put_digits(depth, p, p_places);
     if (n == NO_LABEL) return REFUSED + 11;
     int m = put_digits(depth, q, q_places);
     if (m == NO_LABEL) return REFUSED + 11;
+    if (!same_basin) return NO;
     if (p[0] == q[0] && p[1] == q[1]) return SAME;
     const uint8_t *x = p_places + MAX_DEPTH - n, *y = q_places + MAX_DEPTH - m;
     int shorter = n < m ? n : m;
@@ -48,12 +49,14 @@ static uint8_t answer_of(int depth, size_t least, const uint64_t p[2], const uin
     return n < depth && least == 1 ? YES : UNDECIDED;
 }
 
-uint64_t plain_flow_pairs(size_t depth, size_t least, const uint64_t *p, size_t p_len, const uint64_t *q, size_t q_len,
-                          uint8_t *answers, size_t answers_len) {
+uint64_t plain_flow_pairs(size_t depth, size_t least, const uint64_t *p, size_t p_len, const uint32_t *p_basins,
+                          size_t p_basins_len, const uint64_t *q, size_t q_len, const uint32_t *q_basins,
+                          size_t q_basins_len, uint8_t *answers, size_t answers_len) {
     size_t count = (p_len < q_len ? p_len : q_len) / 2;
     if (depth < 1 || depth > MAX_DEPTH) return 2;
     if (least < 1 || least > MAX_LEAST) return 19;
-    if (answers_len < count) return 3;
-    for (size_t k = 0; k < count; k++) answers[k] = answer_of((int)depth, least, p + 2 * k, q + 2 * k);
+    if (p_basins_len < count || q_basins_len < count || answers_len < count) return 3;
+    for (size_t k = 0; k < count; k++)
+        answers[k] = answer_of((int)depth, least, p_basins[k] == q_basins[k], p + 2 * k, q + 2 * k);
     return 256 * (uint64_t)count;
 }

@@ -4,12 +4,15 @@
 #include "clock.h"
 #include "sheets.h"
 
-enum { EAST = 1, WEST = 16, NORTHWEST = 32, NORTH = 64, MAX_WEIGHT = 1000 };
+enum { EAST = 1, SOUTH = 4, WEST = 16, NORTHWEST = 32, NORTH = 64, MAX_WEIGHT = 1000 };
 
 uint8_t dirs[CELLS];
 uint16_t weights[SIDE];
-uint32_t areas[CELLS], work[8 * CELLS], outlets[CELLS], counts[CELLS];
+uint32_t areas[CELLS], basins[CELLS], work[8 * CELLS], outlets[CELLS], counts[CELLS], unit_basins[CELLS];
 uint64_t labels[2 * CELLS], units[2 * CELLS];
+
+/* The steps of the codes 1, 2, 4, .. 128. */
+static const int row_step[8] = {0, 1, 1, 1, 0, -1, -1, -1}, col_step[8] = {1, 1, 0, -1, -1, -1, 0, 1};
 
 /* One river through all cells, row by row, to and fro; its outlet is cell 0. */
 static void snake(int side) {
@@ -36,7 +39,6 @@ static void tree(int side) {
 
 /* Grown from the outlet: a cell beside the basin, by chance, joins it through a neighbour, by chance. */
 static void random_basin(int side) {
-    static const int row_step[8] = {0, 1, 1, 1, 0, -1, -1, -1}, col_step[8] = {1, 1, 0, -1, -1, -1, 0, 1};
     static uint32_t border[CELLS * 8];
     size_t count = 0;
     memset(dirs, 0, (size_t)side * side);
@@ -69,8 +71,40 @@ static void ditches(int side) {
         }
 }
 
-const struct shape shapes[SHAPES] = {
-    {"comb", comb}, {"tree", tree}, {"snake", snake}, {"random", random_basin}, {"ditches", ditches}};
+/* A river to the west along every second row, with a ditch of one cell from the row below into each of its cells; each
+   is a basin of its own. */
+static void strips(int side) {
+    for (int row = 0; row < side; row++)
+        for (int col = 0; col < side; col++) dirs[row * side + col] = row % 2 == 0 ? WEST : NORTH;
+}
+
+/* The row or column of the outside cell that is next to this inner one or is it: there is one in three. */
+static int outside_near(int at, int side) {
+    int near = 3 * ((at - 1) / 3) + 2;
+    return near < side - 1 ? near : side - 2;
+}
+
+/* The code whose step is this one; 0 for none. */
+static uint8_t code_of(int rows, int cols) {
+    for (int k = 0; k < 8; k++)
+        if (row_step[k] == rows && col_step[k] == cols) return (uint8_t)(1 << k);
+    return 0;
+}
+
+/* As many outlets as a sheet can hold, 58,311 on 256 x 256: cells at the border flow off the sheet, the others to the
+   outside cell beside them. Each is a basin of its own. */
+static void most_outlets(int side) {
+    for (int row = 0; row < side; row++)
+        for (int col = 0; col < side; col++) {
+            uint8_t inner = code_of(outside_near(row, side) - row, outside_near(col, side) - col);
+            dirs[row * side + col] = row == 0 ? NORTH : row == side - 1 ? SOUTH : col == 0 ? WEST
+                                     : col == side - 1 ? EAST : inner;
+        }
+}
+
+const struct shape shapes[SHAPES] = {{"comb", comb},       {"tree", tree},     {"snake", snake},
+                                     {"random", random_basin}, {"ditches", ditches}, {"strips", strips},
+                                     {"outlets", most_outlets}};
 
 void weights_of_1(void) {
     for (int row = 0; row < SIDE; row++) weights[row] = 1;

@@ -4,14 +4,15 @@
 #include <stddef.h>
 #include <stdint.h>
 
-enum { SIDE = 256, CELLS = SIDE * SIDE, SHAPES = 5 };
+/* The first of the shapes have one basin, the others several. */
+enum { SIDE = 256, CELLS = SIDE * SIDE, ONE_BASIN = 5, SHAPES = 7 };
 
 /* The directions and the weights of the sheet that was made last. */
 extern uint8_t dirs[CELLS];
 extern uint16_t weights[SIDE];
 
 /* What is lent to a call for its answers; two numbers for each label. */
-extern uint32_t areas[CELLS], work[8 * CELLS], outlets[CELLS], counts[CELLS];
+extern uint32_t areas[CELLS], basins[CELLS], work[8 * CELLS], outlets[CELLS], counts[CELLS], unit_basins[CELLS];
 extern uint64_t labels[2 * CELLS], units[2 * CELLS];
 
 extern const struct shape { const char *name; void (*make)(int side); } shapes[SHAPES];

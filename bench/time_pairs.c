@@ -11,11 +11,13 @@
 enum { ANSWERS = 5, REFUSED = 128 };
 
 static uint64_t proved(int depth) {
-    return pf_flow_pairs(depth, 1, p_labels, 2 * PAIRS, q_labels, 2 * PAIRS, answers, PAIRS);
+    return pf_flow_pairs(depth, 1, p_labels, 2 * PAIRS, p_basins, PAIRS, q_labels, 2 * PAIRS, q_basins, PAIRS, answers,
+                         PAIRS);
 }
 
 static uint64_t plain(int depth) {
-    return plain_flow_pairs(depth, 1, p_labels, 2 * PAIRS, q_labels, 2 * PAIRS, answers, PAIRS);
+    return plain_flow_pairs(depth, 1, p_labels, 2 * PAIRS, p_basins, PAIRS, q_labels, 2 * PAIRS, q_basins, PAIRS,
+                            answers, PAIRS);
 }
 
 /* Prints how many of a hundred pairs got each answer. */
@@ -34,7 +36,7 @@ void pairs_against_plain(void) {
            "called once for each pair), and the answers in a hundred\n", PAIRS);
     for (int k = 0; k < KINDS; k++) {
         int depth = kinds[k].depth;
-        kinds[k].make(depth);
+        make_pairs(&kinds[k]);
         if (!same_answers(plain, proved, depth) || !same_answers(flow_one_by_one, proved, depth)) {
             printf("%s, depth %d: the answers differ\n", kinds[k].name, depth);
             exit(1);

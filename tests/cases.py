@@ -1,7 +1,8 @@
 # Recomputes the stored cases with reference.py, and checks sheets, labels and boundaries of documents 01 and 02 by
 # direct call.
 #
-# A file can get refusals 1 to 10, 14, 17 and 19. It cannot get
+# A file can get refusals 1 to 6, 8 to 10, 14, 17 and 19. It cannot get
+#   7: no call gives it any more;
 #   11, 12, 16 and 18: they belong to the flow question, the outlet question, the lookup and the levy, of which the
 #   program makes no use;
 #   13: the program hands over no line and no end after the end;
@@ -15,6 +16,7 @@ import pathlib
 import sys
 
 sys.dont_write_bytecode = True
+import basin_checks
 import long_label_checks
 import split_checks
 from labels import of_units, record, records, slice_of
@@ -30,7 +32,8 @@ SAMPLE_A = bytes([0, 4, 16, 8, 16, 16, 16, 16, 64, 64, 32, 64])
 
 # The calls of the lists below that take least and split are told 1 and 4; split_checks.py has those with others. Labels
 # stand as labels.py says, and lengths of label slices are numbers of labels; long_label_checks.py has labels of more
-# than 18 digits, and slices that end with an odd number.
+# than 18 digits, and slices that end with an odd number. Basins are 1, and there are as many places for them as for
+# labels; basin_checks.py has those with others.
 NEITHER = [1, 4]
 
 # (name, depth, p, q, answer): does water from q pass p? The outlet question, whether it passes the outlet of p's unit,
@@ -155,8 +158,8 @@ SHEETS = [
     ('bad directions past the ninth of nine cells', 1, 9, 1, bytes([16] * 9 + [3] * 7), ONES, 9, 9, 72, 0, 0),
     ('no cell inside', 1, 2, 1, bytes([0, 0, 1]), ONES, 2, 2, 16, 5, 0),
     ('codes 1 and 16', 1, 2, 1, bytes([1, 16]), ONES, 2, 2, 16, 6, 0),
-    ('codes 16 and 1', 1, 2, 1, bytes([16, 1]), ONES, 2, 2, 16, 7, 1),
-    ('6 before 7', 1, 5, 1, bytes([16, 1, 16, 0, 1]), ONES, 5, 5, 40, 6, 1),
+    ('codes 16 and 1', 1, 2, 1, bytes([16, 1]), ONES, 2, 2, 16, 0, 0),
+    ('a circle between two basins', 1, 5, 1, bytes([16, 1, 16, 0, 1]), ONES, 5, 5, 40, 6, 1),
     ('no weights lent', 3, 4, 2, SAMPLE_A, [], 12, 12, 96, 3, 0),
     ('one weight too few', 3, 4, 2, SAMPLE_A, [1, 1], 12, 12, 96, 3, 0),
     ('one weight a row', 3, 4, 2, SAMPLE_A, [1, 1, 1], 12, 12, 96, 0, 0),
@@ -171,7 +174,7 @@ SHEETS = [
     ('17 before 4', 1, 2, 1, bytes([3, 1]), [0], 2, 2, 16, 17, 0),
     ('17 before 5', 1, 2, 1, bytes([0, 0]), [1001], 2, 2, 16, 17, 0),
     ('17 before 6', 1, 2, 1, bytes([1, 16]), [0], 2, 2, 16, 17, 0),
-    ('17 before 7', 1, 2, 1, bytes([16, 1]), [1001], 2, 2, 16, 17, 0),
+    ('17 with two basins', 1, 2, 1, bytes([16, 1]), [1001], 2, 2, 16, 17, 0),
 ]
 
 # (name, word of eight directions; place of its first bad byte, or 8)
@@ -203,7 +206,7 @@ INDEXES = [
     ('one unit too few', 3, 4, 2, SAMPLE_A, ONES, 12, 12, 96, 8, 9, 9, 3, 0, None),
     ('one outlet too few', 3, 4, 2, SAMPLE_A, ONES, 12, 12, 96, 9, 8, 9, 3, 0, None),
     ('one count too few', 3, 4, 2, SAMPLE_A, ONES, 12, 12, 96, 9, 9, 8, 3, 0, None),
-    ('7 before 3 of the index', 1, 2, 1, bytes([16, 1]), ONES, 2, 2, 16, 0, 0, 0, 7, 1, None),
+    ('6 before 3 of the index', 1, 2, 1, bytes([1, 16]), ONES, 2, 2, 16, 0, 0, 0, 6, 0, None),
     ('counts of cells, whatever their weights', 1, 2, 1, bytes([16, 16]), [9], 2, 2, 16, 1, 1, 1, 0, 0, [(0, 0, 2)]),
     ('17 before 3 of the index', 1, 1, 1, bytes([1]), [1001], 1, 1, 8, 0, 0, 0, 17, 0, None),
 ]
@@ -234,14 +237,14 @@ LEVIES = [
     ('18 before 2', 1, 1, 37, bytes([1]), ONES, 1, 1, 8, 1, 1, 1, MOST + 1, 1, 18, 0, None),
     ('18 before 3', 1, 1, 1, b'', [], 0, 0, 0, 0, 0, 0, MOST + 1, 0, 18, 0, None),
     ('18 before 17', 1, 1, 1, bytes([1]), [0], 1, 1, 8, 1, 1, 1, MOST + 1, 1, 18, 0, None),
-    ('18 before 7', 1, 2, 1, bytes([16, 1]), ONES, 2, 2, 16, 1, 1, 1, MOST + 1, 1, 18, 0, None),
+    ('18 before 6', 1, 2, 1, bytes([1, 16]), ONES, 2, 2, 16, 1, 1, 1, MOST + 1, 1, 18, 0, None),
     ('18 before 3 of the dues', 1, 1, 1, bytes([1]), ONES, 1, 1, 8, 1, 1, 1, MOST + 1, 0, 18, 0, None),
     ('one unit too few', 3, 4, 2, SAMPLE_A, ONES, 12, 12, 96, 8, 9, 9, 100, 9, 3, 0, None),
     ('one outlet too few', 3, 4, 2, SAMPLE_A, ONES, 12, 12, 96, 9, 8, 9, 100, 9, 3, 0, None),
     ('one count too few', 3, 4, 2, SAMPLE_A, ONES, 12, 12, 96, 9, 9, 8, 100, 9, 3, 0, None),
     ('one due too few', 3, 4, 2, SAMPLE_A, ONES, 12, 12, 96, 9, 9, 9, 100, 8, 3, 0, None),
     ('17 before 3 of the dues', 1, 1, 1, bytes([1]), [1001], 1, 1, 8, 1, 1, 1, 100, 0, 17, 0, None),
-    ('7 before 3 of the dues', 1, 2, 1, bytes([16, 1]), ONES, 2, 2, 16, 1, 1, 1, 100, 0, 7, 1, None),
+    ('6 before 3 of the dues', 1, 2, 1, bytes([1, 16]), ONES, 2, 2, 16, 1, 1, 1, 100, 0, 6, 0, None),
 ]
 
 LABELS = [label for label, outlet, count in SAMPLE_A_UNITS]
@@ -284,23 +287,27 @@ def file_checks():
 
 
 def told(arguments):
-    """The arguments of a call as it takes them: with least and split straight after the depth, and with two numbers for
-    each label in the lengths."""
+    """The arguments of a call as it takes them: with least and split straight after the depth, two numbers for each
+    label in the lengths, as many basins as labels, and the basin 1 before a total."""
     rows, cols, depth, dirs, weights, areas, labels, work, *others = arguments
-    others[:1] = [2 * units for units in others[:1]]
-    return [rows, cols, depth, *NEITHER, dirs, weights, areas, 2 * labels, work, *others]
+    told_sheet = [rows, cols, depth, *NEITHER, dirs, weights, areas, 2 * labels, labels, work]
+    if not others:
+        return told_sheet
+    units, outlets, counts, *levied = others
+    return told_sheet + [2 * units, outlets, counts, units, *([1, *levied] if levied else [])]
 
 
 def flow_checks():
     for name, depth, p, q, answer in FLOW:
-        yield 'flow: ' + name, flow(depth, 1, record(p), record(q)), answer
+        yield 'flow: ' + name, flow(depth, 1, 1, record(p), 1, record(q)), answer
         outlet_answer = 'Yes' if answer == 'Undecided' else answer
-        yield 'outlet flow: ' + name, outlet_flow(depth, record(p), record(q)), outlet_answer
+        yield 'outlet flow: ' + name, outlet_flow(depth, 1, record(p), 1, record(q)), outlet_answer
 
 
 def pair_checks():
     for name, depth, p, q, room, number, answers in PAIRS:
-        yield 'pairs: ' + name, flow_pairs(depth, 1, slice_of(p), slice_of(q), room), (number, answers)
+        got = flow_pairs(depth, 1, slice_of(p), [1] * len(p), slice_of(q), [1] * len(q), room)
+        yield 'pairs: ' + name, got, (number, answers)
 
 
 def sheet_checks():
@@ -311,32 +318,33 @@ def sheet_checks():
 def index_checks():
     for name, *arguments, number, place, units in INDEXES:
         got = index(*told(arguments))
-        yield 'index: ' + name, (*got[:2], got[4]), (number, place, None if units is None else of_units(units))
+        yield 'index: ' + name, (*got[:2], got[5]), (number, place, None if units is None else of_units(units))
         labelled = label(*told(arguments[:-3]))
-        yield 'index, areas and labels: ' + name, got[2:4], labelled[2:]
-    lines = ['%d,%d,%d,%d' % (label, outlet // 4, outlet % 4, count) for label, outlet, count in SAMPLE_A_UNITS]
+        yield 'index, areas, labels and basins: ' + name, got[2:5], labelled[2:]
+    lines = ['1,%d,%d,%d,%d' % (label, outlet // 4, outlet % 4, count) for label, outlet, count in SAMPLE_A_UNITS]
     yield 'index: the example in C', INDEX_EXAMPLE.read_text().splitlines()[1:-1], lines
 
 
 def levy_checks():
     for name, *arguments, number, place, dues in LEVIES:
         got, total = levy(*told(arguments)), arguments[-2]
-        yield 'levy: ' + name, (*got[:2], got[5]), (number, place, dues)
+        yield 'levy: ' + name, (*got[:2], got[6]), (number, place, dues)
         if number != 18:
-            yield 'levy, areas and labels: ' + name, got[2:4], label(*told(arguments[:-5]))[2:]
+            yield 'levy, areas, labels and basins: ' + name, got[2:5], label(*told(arguments[:-5]))[2:]
         if number == 0:
-            yield 'levy, units: ' + name, got[4], index(*told(arguments[:-2]))[4]
+            yield 'levy, units: ' + name, got[5], index(*told(arguments[:-2]))[5]
             yield 'levy, the sum: ' + name, sum(dues), total
-    units, dues = levy(3, 4, 3, *NEITHER, SAMPLE_A, [3, 2, 1], 12, 24, 96, 24, 12, 12, 1000, 12)[4:]
-    lines = ['%s,%d,%d' % (text_of(label), count, due) for (label, outlet, count), due in zip(units, dues)]
+    sheet = [3, 4, 3, *NEITHER, SAMPLE_A, [3, 2, 1], 12, 24, 12, 96]
+    units, dues = levy(*sheet, 24, 12, 12, 12, 1, 1000, 12)[5:]
+    lines = ['%s,%d,%d' % (text_of(label), count, due) for (label, outlet, count, basin), due in zip(units, dues)]
     yield 'levy: the example in C', LEVY_EXAMPLE.read_text().splitlines()[1:-1], lines
-    refused = levy(3, 4, 2, *NEITHER, SAMPLE_A, ONES, 12, 24, 96, 18, 9, 9, MOST + 1, 9)
-    yield 'levy: 18 writes nothing', refused[2:], (None,) * 4
+    yield 'levy: 18 writes nothing', levy(*sheet, 18, 9, 9, 9, 1, MOST + 1, 9)[2:], (None,) * 5
 
 
 def lookup_checks():
     for name, leading, labels, *answer in LOOKUPS:
-        yield 'lookup: ' + name, lookup(record(leading), slice_of(labels)), tuple(answer)
+        got = lookup(1, record(leading), slice_of(labels), [1] * len(labels))
+        yield 'lookup: ' + name, got, tuple(answer)
 
 
 def word_checks():
@@ -347,18 +355,20 @@ def word_checks():
 def sample_checks():
     areas = [0, 2, 1, 1, 11, 9, 4, 2, 1, 1, 1, 1]
     # The tributaries of cell 5 stand as 9, 10, 1: they get 4, 6, 8.
-    labels = records([0, 8, 8, 92, 1, 3, 91, 93, 2, 4, 6, 93])
+    labels, basins = records([0, 8, 8, 92, 1, 3, 91, 93, 2, 4, 6, 93]), [0] + [1] * 11
     for depth in (2, 18, 19, 36):
-        got = label(3, 4, depth, *NEITHER, SAMPLE_A, ONES, 12, 24, 96)
-        yield 'label: sample A at depth %d' % depth, got, (0, 0, areas, labels)
+        got = label(3, 4, depth, *NEITHER, SAMPLE_A, ONES, 12, 24, 12, 96)
+        yield 'label: sample A at depth %d' % depth, got, (0, 0, areas, labels, basins)
     cut = records([0, 8, 8, 9, 1, 3, 9, 9, 2, 4, 6, 9])
-    yield 'label: sample A at depth 1', label(3, 4, 1, *NEITHER, SAMPLE_A, ONES, 12, 24, 96), (0, 0, areas, cut)
-    yield 'label: 1 by 1, code 1', label(1, 1, 1, *NEITHER, bytes([1]), ONES, 1, 2, 8), (0, 0, [1], [(0, 0)])
+    got = label(3, 4, 1, *NEITHER, SAMPLE_A, ONES, 12, 24, 12, 96)
+    yield 'label: sample A at depth 1', got, (0, 0, areas, cut, basins)
+    got = label(1, 1, 1, *NEITHER, bytes([1]), ONES, 1, 2, 1, 8)
+    yield 'label: 1 by 1, code 1', got, (0, 0, [1], [(0, 0)], [1])
 
 
 def weight_checks():
     def labelled(weights):
-        return label(3, 4, 1, *NEITHER, NORTH_AND_SOUTH, weights, 12, 24, 96)[2:]
+        return label(3, 4, 1, *NEITHER, NORTH_AND_SOUTH, weights, 12, 24, 12, 96)[2:4]
 
     north = records([0, 3, 3, 3, 1, 0, 0, 0, 0, 2, 2, 0])  # the river comes from the north
     south = records([0, 2, 2, 2, 1, 0, 0, 0, 0, 3, 3, 0])
@@ -367,7 +377,7 @@ def weight_checks():
     yield 'weights: equal areas', labelled([2, 5, 3]), ([0, 6, 4, 2, 17, 0, 0, 0, 0, 6, 3, 0], south)
     yield 'weights: one more', labelled([201, 5, 300]), ([0, 603, 402, 201, 1208, 0, 0, 0, 0, 600, 300, 0], north)
     comb = bytes([16] * 256 + [64] * 65280)
-    areas = label(256, 256, 1, *NEITHER, comb, [1000] * 256, 65536, 2 * 65536, 8 * 65536)[2]
+    areas = label(256, 256, 1, *NEITHER, comb, [1000] * 256, 65536, 2 * 65536, 65536, 8 * 65536)[2]
     yield 'weights: the largest area', areas[0], 65536000
     stored = [(CASES / (name + '.out')).read_bytes() for name in ('sample_a', 'weights_all_1')]
     yield 'weights: all 1, the listing of none', *stored
@@ -380,19 +390,21 @@ def intake_checks():
     yield 'intake: a line after the end', take_line(ended, b'', dirs, weights), (13, ended)
     yield 'intake: an end after the end', take_end(ended), (13, ended)
     yield 'intake: an end before cell names', take_end(Intake()), (14, Intake())
-    yield 'intake: labelling before the end', label_intake(cells, dirs, weights, 0, 0, 0), (15, 0, None, None)
-    yield ('intake: an index before the end', index_intake(cells, dirs, weights, 0, 0, 0, 0, 0, 0),
-           (15, 0, None, None, None))
-    yield ('intake: an index after the end', index_intake(ended, bytes([1, 7]), [5], 1, 2, 8, 2, 1, 1),
-           (0, 0, [5], [(0, 0)], [((0, 0), 0, 1)]))
-    yield ('intake: a levy before the end', levy_intake(cells, dirs, weights, 0, 0, 0, 0, 0, 0, MOST, 0),
-           (15, 0, None, None, None, None))
-    yield ('intake: a larger total before the end', levy_intake(cells, dirs, weights, 0, 0, 0, 0, 0, 0, MOST + 1, 0),
-           (18, 0, None, None, None, None))
-    yield ('intake: a levy after the end', levy_intake(ended, bytes([1, 7]), [5], 1, 2, 8, 2, 1, 1, 7, 1),
-           (0, 0, [5], [(0, 0)], [((0, 0), 0, 1)], [7]))
-    yield 'intake: labelling with no weights lent', label_intake(ended, bytes([1]), [], 1, 2, 8), (3, 0, None, None)
-    yield 'intake: labelling with a bad weight', label_intake(ended, bytes([1]), [0], 1, 2, 8), (17, 0, None, None)
+    yield 'intake: labelling before the end', label_intake(cells, dirs, weights, *4 * [0]), (15, 0, *3 * [None])
+    yield 'intake: an index before the end', index_intake(cells, dirs, weights, *8 * [0]), (15, 0, *4 * [None])
+    yield ('intake: an index after the end', index_intake(ended, bytes([1, 7]), [5], 1, 2, 1, 8, 2, 1, 1, 1),
+           (0, 0, [5], [(0, 0)], [1], [((0, 0), 0, 1, 1)]))
+    yield ('intake: a levy before the end', levy_intake(cells, dirs, weights, *8 * [0], 1, MOST, 0),
+           (15, 0, *5 * [None]))
+    yield ('intake: a larger total before the end', levy_intake(cells, dirs, weights, *8 * [0], 1, MOST + 1, 0),
+           (18, 0, *5 * [None]))
+    yield ('intake: a levy after the end', levy_intake(ended, bytes([1, 7]), [5], 1, 2, 1, 8, 2, 1, 1, 1, 1, 7, 1),
+           (0, 0, [5], [(0, 0)], [1], [((0, 0), 0, 1, 1)], [7]))
+    yield ('intake: a levy of basin 2', levy_intake(ended, bytes([1, 7]), [5], 1, 2, 1, 8, 2, 1, 1, 1, 2, 7, 0),
+           (0, 0, [5], [(0, 0)], [1], [((0, 0), 0, 1, 1)], []))
+    yield 'intake: labelling with no weights lent', label_intake(ended, bytes([1]), [], 1, 2, 1, 8)[0], 3
+    yield 'intake: labelling with no basins lent', label_intake(ended, bytes([1]), [1], 1, 2, 0, 8)[0], 3
+    yield 'intake: labelling with a bad weight', label_intake(ended, bytes([1]), [0], 1, 2, 1, 8)[0], 17
     yield 'intake: byte 10 in a line', take_line(Intake(), b'rows,cols,depth\n', dirs, weights), (8, Intake())
     yield 'intake: nothing lent, 3 before 8', take_line(cells, b'', bytearray(), weights), (3, cells)
     yield 'intake: no weights lent, 3 before 8', take_line(cells, b'', dirs, []), (3, cells)
@@ -455,6 +467,7 @@ def main():
     checks += [*flow_checks(), *pair_checks(), *sheet_checks(), *word_checks(), *sample_checks(), *weight_checks()]
     checks += [*index_checks(), *levy_checks(), *lookup_checks(), *intake_checks(), *intake_weight_checks()]
     checks += [*intake_withdrawal_checks(), *split_checks.checks(), *long_label_checks.checks()]
+    checks += basin_checks.checks()
     failures = [check for check in checks if check[1] != check[2]]
     for name, got, expected in failures:
         print(f'{name}: expected {expected!r:.200}, got {got!r:.200}')

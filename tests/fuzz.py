@@ -1,10 +1,12 @@
 #!/usr/bin/env python3
 """Compares the program with tests/reference.py, byte for byte, on made sheets and damaged files.
 
-First two small files for each of the 120 orders of the names rows, cols, depth, least and split, and some whose labels
-have 17, 18, 19, 35 and 36 digits; then --files random ones. The input goes through a pipe in pieces cut at odd places.
-Seeded: the same --seed and --files make the same files. Prints each difference with the file that shows it, and at the
-end 'N passed, M failed'."""
+First two small files for each of the 120 orders of the names rows, cols, depth, least and split, some whose labels have
+17, 18, 19, 35 and 36 digits, and some with many basins; then --files random ones. Of a file that is listed with
+several basins one is tried alone too: the program must list it as before, but as basin 1, where the cells of all others
+are left out. The input goes through a pipe in pieces cut at odd places. Seeded: the same --seed and --files make the
+same files. Prints each difference with the file that shows it, and at the end 'N passed, M failed'; the status is 1 too
+if some kind of file that is counted did not occur."""
 import argparse
 import collections
 import os
@@ -15,129 +17,16 @@ import time
 
 sys.dont_write_bytecode = True
 sys.path.insert(0, os.path.dirname(os.path.abspath(__file__)))
+import basins
 import long_labels
 import reference
+import shapes
 import size_lines
 import splits
 import weights
 
-CODES = list(reference.STEPS)
 CELL_NAMES = [b'row', b'col', b'dir']
 WEIGHT = b'weight'
-
-
-# Sheets, as lists of direction bytes.
-
-def neighbours(rows, cols, cell):
-    """Pairs (neighbour, code of its step onto the cell)."""
-    row, col = divmod(cell, cols)
-    for code, (row_step, col_step) in reference.STEPS.items():
-        r, c = row - row_step, col - col_step
-        if 0 <= r < rows and 0 <= c < cols:
-            yield r * cols + c, code
-
-
-def outward(rng, rows, cols, cell, dirs):
-    """A code whose step from the cell leaves the sheet or ends on an outside cell."""
-    inward = {code for other, code in neighbours(rows, cols, cell)}
-    row, col = divmod(cell, cols)
-    leaving = []
-    for code, (row_step, col_step) in reference.STEPS.items():
-        r, c = row + row_step, col + col_step
-        if not (0 <= r < rows and 0 <= c < cols) or dirs[r * cols + c] == 0:
-            leaving.append(code)
-    return rng.choice(leaving) if leaving else rng.choice(sorted(inward))
-
-
-def grown(rng, rows, cols):
-    """A basin grown from its outlet: by the newest cell, by any cell, or by filling a cell's neighbours first."""
-    n = rows * cols
-    dirs = [0] * n
-    outlet = rng.randrange(n)
-    if rng.random() < 0.7:
-        outlet = rng.choice([c for c in range(n) if c < cols or c % cols == 0])
-    dirs[outlet] = outward(rng, rows, cols, outlet, dirs)
-    end = None
-    row, col = divmod(outlet, cols)
-    row_step, col_step = reference.STEPS[dirs[outlet]]
-    if 0 <= row + row_step < rows and 0 <= col + col_step < cols:
-        end = (row + row_step) * cols + col + col_step  # stays outside
-    style = rng.choice(['newest', 'any', 'oldest'])
-    wanted = rng.randint(1, n)
-    border = [outlet]
-    count = 1
-    while border and count < wanted:
-        at = {'newest': -1, 'any': rng.randrange(len(border)), 'oldest': 0}[style]
-        cell = border[at]
-        free = [(other, code) for other, code in neighbours(rows, cols, cell) if dirs[other] == 0 and other != end]
-        if not free:
-            border.pop(at)
-            continue
-        other, code = rng.choice(free)
-        dirs[other] = code
-        border.append(other)
-        count += 1
-    return dirs
-
-
-def comb(rng, rows, cols):
-    """A river along row 0 with a tributary from each column: many equal areas."""
-    return [16 if cell < cols else 64 for cell in range(rows * cols)]
-
-
-def snake(rng, rows, cols):
-    dirs = []
-    for row in range(rows):
-        for col in range(cols):
-            first = col == 0 if row % 2 == 0 else col == cols - 1
-            dirs.append(64 if first else 16 if row % 2 == 0 else 1)
-    return dirs
-
-
-def ditches(rng, rows, cols):
-    """A river to and fro along every second row, with a ditch of one cell from the row below into each of its cells."""
-    dirs = []
-    for row in range(rows):
-        for col in range(cols):
-            east = row // 2 % 2 == 1  # where the river flows east
-            first = col == (cols - 1 if east else 0)
-            dirs.append(64 if row % 2 == 1 or first else 1 if east else 16)
-    return dirs
-
-
-def northwest(rng, rows, cols):
-    """Each cell flows west, northwest or north, by chance."""
-    return [16 if cell < cols else 64 if cell % cols == 0 else rng.choice([16, 32, 64]) for cell in range(rows * cols)]
-
-
-def flat(rng, rows, cols):
-    """A canal to the west along one row. From both sides water flows to it, along side canals in some columns; in the
-    others mostly along ditches to the west."""
-    canal, turns = rng.randrange(rows), rng.choice([0, 0.05, 0.3])
-    sides = {0, *rng.sample(range(cols), rng.randint(0, cols // 3))}
-    dirs = []
-    for cell in range(rows * cols):
-        row, col = divmod(cell, cols)
-        ahead = 4 if row < canal else 64
-        dirs.append(ahead if row != canal and (col in sides or rng.random() < turns) else 16)
-    return dirs
-
-
-def by_chance(rng, rows, cols):
-    """Any codes: circles and many outlets."""
-    share = rng.random()
-    return [rng.choice(CODES) if rng.random() < share else 0 for _ in range(rows * cols)]
-
-
-def spoiled(rng, rows, cols):
-    """A basin with one or two bytes changed: a circle, a second outlet, a cell taken out."""
-    dirs = grown(rng, rows, cols)
-    for _ in range(rng.randint(1, 2)):
-        dirs[rng.randrange(rows * cols)] = rng.choice(CODES + [0])
-    return dirs
-
-
-SHAPES = [grown, grown, grown, comb, snake, ditches, northwest, flat, by_chance, spoiled, spoiled]
 
 
 # Files.
@@ -197,7 +86,7 @@ def sheet_lines(rng):
         return long_label_lines(rng, long_labels.by_chance(rng), rng.sample(CELL_NAMES, 3))
     rows, cols = sides(rng)
     depth = any_depth(rng)
-    dirs = rng.choice(SHAPES)(rng, rows, cols)
+    dirs = rng.choice(shapes.SHAPES)(rng, rows, cols)
     row_weights = weights.made(rng, rows, cols, dirs) if rng.random() < 0.45 else None
     cell_names = rng.sample(CELL_NAMES, 3)
     cells = []
@@ -218,7 +107,7 @@ def files_by_order(rng):
     """For each order of the five names a small file that is listed, and one with an odd value."""
     for names in size_lines.ORDERS:
         rows, cols, depth = rng.randint(2, 9), rng.randint(2, 9), rng.randint(1, 6)
-        dirs = rng.choice([flat, northwest])(rng, rows, cols)
+        dirs = rng.choice([shapes.flat, shapes.northwest])(rng, rows, cols)
         row_weights = weights.made(rng, rows, cols, dirs)
         least = splits.good_least(rng, splits.mouth_areas(rows, cols, dirs, row_weights))
         values = size_lines.values_of(rows, cols, depth, least, splits.good_split(rng))
@@ -233,13 +122,33 @@ def files_of_long_labels(rng):
         yield b'\n'.join(long_label_lines(rng, sheet)) + b'\n'
 
 
+def plain_lines(sizes, row_weights, dirs):
+    """The lines of a sheet with all five names and with weights."""
+    cols = sizes[1]
+    cells = [dict(zip(CELL_NAMES, (*divmod(cell, cols), code))) for cell, code in enumerate(dirs) if code != 0]
+    lines = size_lines.lines(size_lines.NAMES + size_lines.SPLIT_NAMES, size_lines.values_of(*sizes))
+    return lines + [WEIGHT] + [b'%d' % weight for weight in row_weights] + cell_lines(CELL_NAMES, cells)
+
+
+def files_of_basins(rng):
+    """The 1 by 2 sheet of two basins, the most basins that the program can list, and some of each shape."""
+    sheets = [(1, 2, [16, 1]), (2, 1, [64, 4])]
+    for shape in shapes.BORDER + [shapes.most_outlets, shapes.beside_a_circle]:
+        for rows, cols in [(32, 64), (8, 256), (256, 8), (45, 45), (7, 9)]:
+            sheets.append((rows, cols, shape(rng, rows, cols)))
+    for rows, cols, dirs in sheets:
+        row_weights = weights.made(rng, rows, cols, dirs)
+        sizes = rows, cols, rng.choice([1, 3, 36]), rng.choice([1, 1, 2]), splits.good_split(rng)
+        yield b'\n'.join(plain_lines(sizes, row_weights, dirs)) + b'\n'
+
+
 def with_withdrawals(rng, cells):
     """Cells with lines among them that withdraw some, list them again, or do so too often."""
     cells = list(cells)
     for _ in range(rng.choice([1, 1, 2, 5])):
         at = rng.randrange(len(cells))
         cell = cells[at]
-        none, other = {**cell, b'dir': 0}, {**cell, b'dir': rng.choice(CODES)}
+        none, other = {**cell, b'dir': 0}, {**cell, b'dir': rng.choice(shapes.CODES)}
         if rng.random() < 0.3:  # another code first
             cells[at:at] = [other, none]
             continue
@@ -393,7 +302,8 @@ def run(program, rng, data):
     return out, err
 
 
-LISTING_KINDS = ['listings', 'with blanks', 'with weights', 'equal areas by weights',
+BASIN_KINDS = [kind for kind in basins.KINDS if kind not in ('more than 10000 basins', '58311 basins')]  # 2,048 cells
+LISTING_KINDS = ['listings', *BASIN_KINDS, 'one basin alone', 'with blanks', 'with weights', 'equal areas by weights',
                  'another heaviest donor by weights', 'with a withdrawn cell', 'with one listed again',
                  'with least and split', 'other labels by least', 'other labels by split', 'by least with weights']
 REFUSED_AGAIN = '10 for a withdrawn cell'
@@ -425,9 +335,22 @@ def withdrawals(data):
     return len(withdrawn) > 0, again, last in withdrawn
 
 
+def alone(rng, data, answer):
+    """A file with one of the basins of a listed file, and its listing: the lines of that basin, with the number 1."""
+    heading, *lines = answer.split(b'\n')[:-1]
+    number, place, state, dirs, row_weights = reference.read_file(data)
+    chosen = rng.choice(lines).split(b',')[0]
+    own = [line.split(b',') for line in lines if line.split(b',')[0] == chosen]
+    listed = [b','.join([b'1', *fields[1:]]) for fields in own]
+    cells = {int(row) * state.cols + int(col) for _, row, col, *_ in own}
+    kept = [code if cell in cells else reference.OUTSIDE for cell, code in enumerate(dirs[:state.rows * state.cols])]
+    made = plain_lines(state.sizes(), row_weights[:state.rows], kept)
+    return b'\n'.join(made) + b'\n', b'\n'.join([heading, *listed]) + b'\n'
+
+
 def kinds_of(data, answer):
-    """What is counted of a file: its answer; of a listing also the longest label, blanks, withdrawals, weights, least
-    and split, and what these change; of 10 also whether it was for a cell that had been withdrawn."""
+    """What is counted of a file: its answer; of a listing also its basins, the longest label, blanks, withdrawals,
+    weights, least and split, and what these change; of 10 also whether it was for a cell that had been withdrawn."""
     if answer.startswith(b'refused'):
         number = answer.split(b'\n')[1].split(b',')[0].decode()
         return [number] + [REFUSED_AGAIN] * (number == '10' and withdrawals(data)[2])
@@ -437,9 +360,10 @@ def kinds_of(data, answer):
     if b' ' in data:
         kinds.append('with blanks')
     weighted, named = b'\n' + WEIGHT + b'\n' in data, b'least' in data
-    if weighted or named:
-        number, place, state, dirs, row_weights = reference.read_file(data)
-        areas, labels = reference.label_intake(state, dirs, row_weights, *3 * [reference.WORK * reference.LENT])[2:]
+    number, place, state, dirs, row_weights = reference.read_file(data)
+    labelled = reference.label_intake(state, dirs, row_weights, *reference.lengths_for(reference.LENT))
+    areas, labels = labelled[2:4]
+    kinds += basins.kinds(state.rows, state.cols, dirs, labelled)
     if weighted:
         equal, other_heaviest = weights.effects(state.rows, state.cols, dirs, areas)
         kinds.append('with weights')
@@ -452,10 +376,10 @@ def kinds_of(data, answer):
 
 
 def files(count, seed):
-    """All files, each with a source of chance for the rest: those by order, those of long labels, and so many random
-    ones."""
+    """All files, each with a source of chance for the rest: those by order, those of long labels, those of many basins,
+    and so many random ones."""
     rng = random.Random(seed)
-    for made in (files_by_order, files_of_long_labels):
+    for made in (files_by_order, files_of_long_labels, files_of_basins):
         for data in made(rng):
             yield rng, data
     for number in range(count):
@@ -465,7 +389,7 @@ def files(count, seed):
 
 def main():
     parser = argparse.ArgumentParser(description=__doc__, formatter_class=argparse.RawDescriptionHelpFormatter)
-    parser.add_argument('--files', type=int, default=1000)
+    parser.add_argument('--files', type=int, default=20000)
     parser.add_argument('--seed', type=int, default=1)
     here = os.path.dirname(os.path.abspath(__file__))
     parser.add_argument('--program', default=os.path.join(here, '..', 'target', 'bin', 'pfafstetter'))
@@ -474,18 +398,23 @@ def main():
     counts, orders = collections.Counter(), set()
     for number, (rng, data) in enumerate(files(options.files, options.seed)):
         expected = reference.report(data)
-        out, err = run(options.program, rng, data)
         kinds = kinds_of(data, expected)
         counts.update(kinds)
         if 'with least and split' in kinds:
             orders.add(data.split(b'\n')[0])
-        if out == expected and err == b'':
-            passed += 1
-            continue
-        failed += 1
-        if failed <= 5:
-            print('file %d differs:\n input %r\n expected %r\n printed %r\n error %r'
-                  % (number, data[:2000], expected[:500], out[:500], err[:200]))
+        tried = [(data, expected)]
+        if 'listings' in kinds and 'one basin' not in kinds:
+            tried.append(alone(rng, data, expected))
+            counts['one basin alone'] += 1
+        for given, wanted in tried:
+            out, err = run(options.program, rng, given)
+            if out == wanted and err == b'':
+                passed += 1
+                continue
+            failed += 1
+            if failed <= 5:
+                print('file %d differs:\n input %r\n expected %r\n printed %r\n error %r'
+                      % (number, given[:2000], wanted[:500], out[:500], err[:200]))
     refusals = sorted(int(kind) for kind in counts if kind.isdigit())
     print('refusals: ' + ', '.join('%d: %d' % (number, counts[str(number)]) for number in refusals))
     print(', '.join('%s: %d' % (kind, counts[kind]) for kind in [REFUSED_AGAIN] + LISTING_KINDS))
@@ -494,6 +423,7 @@ def main():
     print('listed files by the digits of their longest label: ' + ', '.join('%d: %d' % item for item in long.items()))
     print('%d passed, %d failed' % (passed, failed))
     complete = len(orders) == len(size_lines.ORDERS) and min(long.values()) > 0
+    complete = complete and all(counts[kind] > 0 for kind in LISTING_KINDS)
     return 0 if failed == 0 and passed > 0 and complete else 1
 
 

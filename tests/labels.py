@@ -19,5 +19,5 @@ def slice_of(labels):
 
 
 def of_units(units):
-    """Triples of label, outlet and count with the labels as records."""
-    return [(record(label), outlet, count) for label, outlet, count in units]
+    """Units as (label, outlet, count, basin), or without the basin where it is 1, with the labels as records."""
+    return [(record(label), outlet, count, *(basin or [1])) for label, outlet, count, *basin in units]

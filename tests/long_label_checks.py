@@ -128,11 +128,11 @@ def record_checks():
     for name, depth, pair, good in LABELS:
         yield 'record: ' + name, is_label(pair, depth), good
         answer = 'Same' if good else ('Refused', 11)
-        yield 'record, flow: ' + name, flow(depth, 1, pair, pair), answer
-        yield 'record, outlet flow: ' + name, outlet_flow(depth, pair, pair), answer
+        yield 'record, flow: ' + name, flow(depth, 1, 1, pair, 1, pair), answer
+        yield 'record, outlet flow: ' + name, outlet_flow(depth, 1, pair, 1, pair), answer
         if depth == 36:
-            yield 'record, lookup: ' + name, lookup(pair, []), (0 if good else 11, 0, 0)
-            yield 'record, an entry: ' + name, lookup((0, 0), [*pair]), (0, 0, 1) if good else (11, 0, 0)
+            yield 'record, lookup: ' + name, lookup(1, pair, [], []), (0 if good else 11, 0, 0)
+            yield 'record, an entry: ' + name, lookup(1, (0, 0), [*pair], [1]), (0, 0, 1) if good else (11, 0, 0)
 
 
 def river_labels(mouths, depth, split):
@@ -157,7 +157,7 @@ def river_checks():
             for depth in (1, 17, 18, 19, 35, 36):
                 cols = mouths + 1
                 dirs, n = bytes([16] * cols + [64] * cols), 2 * cols
-                got = label(2, cols, depth, 1, split, dirs, [1, 1], n, 2 * n, 8 * n)[3]
+                got = label(2, cols, depth, 1, split, dirs, [1, 1], n, 2 * n, n, 8 * n)[3]
                 name = 'river: %d mouths, %d at a time, depth %d' % (mouths, split, depth)
                 yield name, got, river_labels(mouths, depth, split)
 
@@ -165,14 +165,16 @@ def river_checks():
 def flow_checks():
     for name, depth, p, q, answer in FLOW:
         outlet_answer = 'Yes' if answer == 'Undecided' else answer
-        yield 'long labels, flow: ' + name, flow(depth, 1, record(p), record(q)), answer
-        yield 'long labels, outlet flow: ' + name, outlet_flow(depth, record(p), record(q)), outlet_answer
+        yield 'long labels, flow: ' + name, flow(depth, 1, 1, record(p), 1, record(q)), answer
+        yield 'long labels, outlet flow: ' + name, outlet_flow(depth, 1, record(p), 1, record(q)), outlet_answer
         if answer == 'Yes':
-            yield 'long labels, least 2: ' + name, flow(depth, 2, record(p), record(q)), 'Undecided'
+            yield 'long labels, least 2: ' + name, flow(depth, 2, 1, record(p), 1, record(q)), 'Undecided'
     for name, depth, p, q, room, number, answers in PAIRS:
-        yield 'long labels, pairs: ' + name, flow_pairs(depth, 1, slice_of(p), slice_of(q), room), (number, answers)
+        got = flow_pairs(depth, 1, slice_of(p), [1] * len(p), slice_of(q), [1] * len(q), room)
+        yield 'long labels, pairs: ' + name, got, (number, answers)
     for name, leading, labels, *answer in LOOKUPS:
-        yield 'long labels, lookup: ' + name, lookup(record(leading), slice_of(labels)), tuple(answer)
+        got = lookup(1, record(leading), slice_of(labels), [1] * len(labels))
+        yield 'long labels, lookup: ' + name, got, tuple(answer)
 
 
 def length_checks():
@@ -180,15 +182,15 @@ def length_checks():
     sheet = [3, 4, 2, 1, 4, SAMPLE_A, [1, 1, 1], 12]
     labels = records([0, 8, 8, 92, 1, 3, 91, 93, 2, 4, 6, 93])
     for length, number in [(0, 3), (1, 3), (12, 3), (22, 3), (23, 3), (24, 0), (25, 0), (26, 0)]:
-        got = label(*sheet, length, 96)
+        got = label(*sheet, length, 12, 96)
         yield 'label: %d numbers for labels' % length, (got[0], got[3]), (number, None if number else labels)
     for length, number in [(0, 3), (9, 3), (16, 3), (17, 3), (18, 0), (19, 0), (24, 0)]:
         units = None if number else SAMPLE_A_UNITS
-        got = index(*sheet, 24, 96, length, 9, 9)
-        yield 'index: %d numbers for units' % length, (got[0], got[3], got[4]), (number, labels, units)
-        got = levy(*sheet, 24, 96, length, 9, 9, 11, 9)
+        got = index(*sheet, 24, 12, 96, length, 9, 9, 9)
+        yield 'index: %d numbers for units' % length, (got[0], got[3], got[5]), (number, labels, units)
+        got = levy(*sheet, 24, 12, 96, length, 9, 9, 9, 1, 11, 9)
         dues = None if number else [1, 1, 1, 1, 1, 2, 1, 1, 2]
-        yield 'levy: %d numbers for units' % length, (got[0], *got[3:]), (number, labels, units, dues)
+        yield 'levy: %d numbers for units' % length, (got[0], got[3], *got[5:]), (number, labels, units, dues)
 
 
 def checks():

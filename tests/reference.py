@@ -58,21 +58,26 @@ def first_bad(word):
             return place
     return 8
 
-def step_end(rows, cols, dirs, cell):
+# From here on the directions of a sheet are a dictionary: the inside cells in reading order, each with its code. A cell
+# that is not in it is outside.
+
+def codes_of(dirs):
+    return {cell: code for cell, code in enumerate(dirs) if code != OUTSIDE}
+
+def step_end(rows, cols, codes, cell):
     """The inside cell on which the step of an inside cell ends; None for an outlet."""
-    row_step, col_step = STEPS[dirs[cell]]
+    row_step, col_step = STEPS[codes[cell]]
     row, col = cell // cols + row_step, cell % cols + col_step
     if not (0 <= row < rows and 0 <= col < cols):
         return None
     end = row * cols + col
-    return None if dirs[end] == OUTSIDE else end
+    return end if end in codes else None
 
-def donors_and_outlets(rows, cols, dirs, inside):
-    """The donors of every cell, and the outlets in reading order."""
-    donors = [[] for _ in range(rows * cols)]
-    outlets = []
-    for cell in inside:
-        end = step_end(rows, cols, dirs, cell)
+def donors_and_outlets(rows, cols, codes):
+    """The donors of every inside cell, and the outlets in reading order."""
+    donors, outlets = {cell: [] for cell in codes}, []
+    for cell in codes:
+        end = step_end(rows, cols, codes, cell)
         (outlets if end is None else donors[end]).append(cell)
     return donors, outlets
 
@@ -126,8 +131,9 @@ def numbers_of(records):
 # Areas, rivers, units.
 
 def areas_of(cols, weights, donors, drained):
-    """The area of each cell; each row has a weight, and `drained` holds the inside cells in the order of `upstream`."""
-    areas = [0] * len(donors)
+    """The area of each inside cell; each row has a weight, and `drained` holds the inside cells in the order of
+    `upstream`."""
+    areas = {}
     for cell in reversed(drained):
         areas[cell] = weights[cell // cols] + sum(areas[donor] for donor in donors[cell])
     return areas
@@ -160,12 +166,12 @@ def unit_cells(donors, unit):
     return stem + upstream(donors, [cell for cell, is_mouth in unit if is_mouth])
 
 def labels_of(donors, areas, depth, least, split, outlet):
-    """The label of each cell, as a record; no digits for outside cells. Of the mouths of a unit whose area is at least
-    `least` the heaviest are taken, `split` of them, or all if fewer."""
+    """The label of each inside cell, as a record. Of the mouths of a unit whose area is at least `least` the heaviest
+    are taken, `split` of them, or all if fewer."""
     def order(cell):  # heavier: the larger area, then the larger cell number
         return areas[cell], cell
-    donors = [sorted(cells, key=order) for cells in donors]
-    labels = [record_of('')] * len(donors)
+    donors = {cell: sorted(cells, key=order) for cell, cells in donors.items()}
+    labels = {}
     units = [(river_list(donors, outlet), '')]  # (unit, its digits)
     while units:
         unit, digits = units.pop()
@@ -182,126 +188,155 @@ def labels_of(donors, areas, depth, least, split, outlet):
             units.append((river_list(donors, mouth), digits + str(2 * place + 2)))
     return labels
 
-def lengths_for(n):
-    """The lengths of areas, labels and work places that n cells need."""
-    return [n, RECORD * n, WORK * n]
+# Basins, numbered from 1 by their outlets in reading order.
 
-def label(rows, cols, depth, least, split, dirs, weights, areas_len, labels_len, work_len):
-    """Direct labelling: (number, place, areas, labels), the labels as records. Refused, areas and labels are None."""
+def basins_of(donors, outlets):
+    """The cells of each basin in reading order, those of the first basin first."""
+    return [sorted(upstream(donors, [outlet])) for outlet in outlets]
+
+def label_alone(rows, cols, depth, least, split, codes, weights):
+    """The areas and labels of a sheet with one basin."""
+    donors, (outlet,) = donors_and_outlets(rows, cols, codes)
+    areas = areas_of(cols, weights, donors, upstream(donors, [outlet]))
+    return areas, labels_of(donors, areas, depth, least, split, outlet)
+
+def label_basins(rows, cols, depth, least, split, codes, weights, basins):
+    """The areas, the labels and the basin numbers of all cells. Those of each basin are worked out on the sheet on
+    which all others are set to 0."""
+    n = rows * cols
+    areas, labels, numbers = [0] * n, [record_of('')] * n, [0] * n
+    for number, cells in enumerate(basins, 1):
+        alone = {cell: codes[cell] for cell in cells}
+        own_areas, own_labels = label_alone(rows, cols, depth, least, split, alone, weights)
+        for cell in cells:
+            areas[cell], labels[cell], numbers[cell] = own_areas[cell], own_labels[cell], number
+    return areas, labels, numbers
+
+def lengths_for(n):
+    """The lengths of areas, labels, basins and work places that n cells need."""
+    return [n, RECORD * n, n, WORK * n]
+
+def label(rows, cols, depth, least, split, dirs, weights, areas_len, labels_len, basins_len, work_len):
+    """Direct labelling: (number, place, areas, labels, basins), the labels as records. Refused, the last three are
+    None."""
     number = size_refusal(rows, cols, depth, least, split, len(dirs), len(weights))
     n = rows * cols
-    if number == 0 and (areas_len < n or places(labels_len) < n or work_len < WORK * n):
+    if number == 0 and (min(areas_len, places(labels_len), basins_len) < n or work_len < WORK * n):
         number = 3
     if number != 0:
-        return number, 0, None, None
+        return number, 0, None, None, None
     if not all(is_weight(weight) for weight in weights[:rows]):
-        return 17, 0, None, None
+        return 17, 0, None, None, None
     for cell in range(n):
         if not is_code(dirs[cell]):
-            return 4, cell, None, None
-    inside = [cell for cell in range(n) if dirs[cell] != OUTSIDE]
-    if not inside:
-        return 5, 0, None, None
-    donors, outlets = donors_and_outlets(rows, cols, dirs, inside)
-    drained = upstream(donors, outlets)
-    if len(drained) < len(inside):
-        return 6, min(set(inside) - set(drained)), None, None
-    if len(outlets) > 1:
-        return 7, outlets[1], None, None
-    areas = areas_of(cols, weights, donors, drained)
-    return 0, 0, areas, labels_of(donors, areas, depth, least, split, outlets[0])
+            return 4, cell, None, None, None
+    codes = codes_of(dirs[:n])
+    if not codes:
+        return 5, 0, None, None, None
+    donors, outlets = donors_and_outlets(rows, cols, codes)
+    basins = basins_of(donors, outlets)
+    if sum(map(len, basins)) < len(codes):
+        return 6, min(set(codes).difference(*basins)), None, None, None
+    return 0, 0, *label_basins(rows, cols, depth, least, split, codes, weights, basins)
 
 # The index of units, and the lookup in it.
 
-def units_of(rows, cols, dirs, labels):
-    """Triples (label, outlet cell, count of cells) of an accepted sheet, in dictionary order of the digits; the labels
-    are records."""
-    cells_with = {}
-    for cell in range(rows * cols):
-        if dirs[cell] != OUTSIDE:
-            cells_with.setdefault(labels[cell], set()).add(cell)
+def units_of(rows, cols, dirs, labels, basins):
+    """As (label, outlet cell, count of cells, basin), of an accepted sheet: by basin, then in dictionary order of the
+    digits. The labels are records."""
+    codes, cells_with = codes_of(dirs[:rows * cols]), {}
+    for cell in codes:
+        cells_with.setdefault((basins[cell], digits_of(labels[cell])), set()).add(cell)
     units = []
-    for label in sorted(cells_with, key=digits_of):
-        cells = cells_with[label]
+    for basin, digits in sorted(cells_with):
+        cells = cells_with[basin, digits]
         # The one of these cells whose water goes to none of them.
-        outlet, = [cell for cell in cells if step_end(rows, cols, dirs, cell) not in cells]
-        units.append((label, outlet, len(cells)))
+        outlet, = [cell for cell in cells if step_end(rows, cols, codes, cell) not in cells]
+        units.append((record_of(digits), outlet, len(cells), basin))
     return units
 
-def index_after(labelled, rows, cols, dirs, units_len, outlets_len, counts_len):
+def index_after(labelled, rows, cols, dirs, units_len, outlets_len, counts_len, unit_basins_len):
     """What `index` gives once labelling has given `labelled`."""
-    number, place, areas, labels = labelled
-    if number != 0:
-        return number, place, areas, labels, None
-    units = units_of(rows, cols, dirs, labels)
-    if min(places(units_len), outlets_len, counts_len) < len(units):
-        return 3, 0, areas, labels, None
-    return 0, 0, areas, labels, units
+    if labelled[0] != 0:
+        return *labelled, None
+    units = units_of(rows, cols, dirs, *labelled[3:])
+    if min(places(units_len), outlets_len, counts_len, unit_basins_len) < len(units):
+        return 3, 0, *labelled[2:], None
+    return *labelled, units
 
-def index(rows, cols, depth, least, split, dirs, weights, areas_len, labels_len, work_len, units_len, outlets_len,
-          counts_len):
-    """Labels and indexes: (number, place, areas, labels, units). Refused, units are None; by labelling, the others
-    too."""
-    labelled = label(rows, cols, depth, least, split, dirs, weights, areas_len, labels_len, work_len)
-    return index_after(labelled, rows, cols, dirs, units_len, outlets_len, counts_len)
+def index(rows, cols, depth, least, split, dirs, weights, areas_len, labels_len, basins_len, work_len, units_len,
+          outlets_len, counts_len, unit_basins_len):
+    """Labels and indexes: (number, place, areas, labels, basins, units). Refused, units are None; by labelling, the
+    others too."""
+    labelled = label(rows, cols, depth, least, split, dirs, weights, areas_len, labels_len, basins_len, work_len)
+    return index_after(labelled, rows, cols, dirs, units_len, outlets_len, counts_len, unit_basins_len)
 
-def lookup(leading, labels):
-    """Where the labels of a slice stand that begin with the leading digits, which are a record: (number, start,
-    length), counted in labels."""
-    records = [leading, *records_of(labels)]
-    if not all(is_label(record, MAX_DEPTH) for record in records):
+def lookup(basin, leading, labels, basins):
+    """Where the labels of a slice stand that are of the basin and begin with the leading digits, which are a record:
+    (number, start, length), counted in labels. `basins` has the basin of each."""
+    records = records_of(labels)
+    if len(basins) < len(records):
+        return 3, 0, 0
+    if not all(is_label(record, MAX_DEPTH) for record in [leading, *records]):
         return 11, 0, 0
-    leading, *entries = map(digits_of, records)
+    sought, entries = (basin, digits_of(leading)), list(zip(basins, map(digits_of, records)))
     if entries != sorted(set(entries)):
         return 16, 0, 0
-    found = [place for place, digits in enumerate(entries) if digits.startswith(leading)]
+    found = [place for place, (of, digits) in enumerate(entries) if of == basin and digits.startswith(sought[1])]
     if found:
         return 0, found[0], len(found)
-    return 0, sorted([*entries, leading]).index(leading), 0
+    return 0, sorted([*entries, sought]).index(sought), 0
 
 # The levy.
 
-def unit_weights(rows, cols, dirs, weights, labels):
-    """The summed weight of the cells of each unit of an accepted sheet, in the order of `units_of`."""
+def unit_weights(rows, cols, dirs, weights, labels, basins, basin):
+    """The summed weight of the cells of each unit of one basin of an accepted sheet, in the order of `units_of`; none
+    if the sheet lacks the basin."""
     sums = {}
-    for cell in range(rows * cols):
-        if dirs[cell] != OUTSIDE:
+    for cell in codes_of(dirs[:rows * cols]):
+        if basins[cell] == basin:
             sums[labels[cell]] = sums.get(labels[cell], 0) + weights[cell // cols]
     return [sums[label] for label in sorted(sums, key=digits_of)]
 
 def dues_of(total, summed):
     """What each unit owes of the total; `summed` are the weights of the units."""
     whole = sum(summed)
-    owed = [total * first // whole for first in [0, *accumulate(summed)]]  # by the first k units together
+    owed = [total * first // whole if whole else 0 for first in [0, *accumulate(summed)]]  # by the first k units
     return [after - before for before, after in zip(owed, owed[1:])]
 
-def levy_after(labelled, rows, cols, dirs, weights, units_len, outlets_len, counts_len, total, dues_len):
+def levy_after(labelled, rows, cols, dirs, weights, units_len, outlets_len, counts_len, unit_basins_len, basin, total,
+               dues_len):
     """What `levy` gives where labelling gives `labelled`."""
     if total > MAX_TOTAL:
-        return 18, 0, None, None, None, None
-    number, place, areas, labels, units = index_after(labelled, rows, cols, dirs, units_len, outlets_len, counts_len)
-    if number == 0 and dues_len < len(units):
-        number, units = 3, None
-    dues = dues_of(total, unit_weights(rows, cols, dirs, weights, labels)) if number == 0 else None
-    return number, place, areas, labels, units, dues
+        return 18, 0, *[None] * 5
+    *indexed, units = index_after(labelled, rows, cols, dirs, units_len, outlets_len, counts_len, unit_basins_len)
+    if units is None:
+        return *indexed, None, None
+    dues = dues_of(total, unit_weights(rows, cols, dirs, weights, *labelled[3:], basin))
+    if dues_len < len(dues):
+        return 3, 0, *labelled[2:], None, None
+    return *indexed, units, dues
 
-def levy(rows, cols, depth, least, split, dirs, weights, areas_len, labels_len, work_len, units_len, outlets_len,
-         counts_len, total, dues_len):
-    """Indexes and shares a total: (number, place, areas, labels, units, dues). Refused, units and dues are None; by 18
-    or by labelling, the others too."""
-    labelled = label(rows, cols, depth, least, split, dirs, weights, areas_len, labels_len, work_len)
-    return levy_after(labelled, rows, cols, dirs, weights, units_len, outlets_len, counts_len, total, dues_len)
+def levy(rows, cols, depth, least, split, dirs, weights, areas_len, labels_len, basins_len, work_len, units_len,
+         outlets_len, counts_len, unit_basins_len, basin, total, dues_len):
+    """Indexes and shares a total among the units of one basin: (number, place, areas, labels, basins, units, dues).
+    Refused, units and dues are None; by 18 or by labelling, the others too."""
+    labelled = label(rows, cols, depth, least, split, dirs, weights, areas_len, labels_len, basins_len, work_len)
+    return levy_after(labelled, rows, cols, dirs, weights, units_len, outlets_len, counts_len, unit_basins_len, basin,
+                      total, dues_len)
 
-# The flow question and the outlet question. The labels p and q are records.
+# The flow question and the outlet question. The labels p and q are records, each with the number of its basin.
 
 ANSWERS = {'No': 0, 'Yes': 1, 'Same': 2, 'Undecided': 3}
 
-def outlet_flow(depth, p, q):
+def outlet_flow(depth, p_basin, p, q_basin, q):
     """Does water from label q pass the outlet of label p's unit: 'Same', 'Yes', 'No' or ('Refused', number)."""
     if not is_depth(depth):
         return 'Refused', 2
     if not (is_label(p, depth) and is_label(q, depth)):
         return 'Refused', 11
+    if p_basin != q_basin:
+        return 'No'
     p, q = digits_of(p), digits_of(q)
     if p == q:
         return 'Same'
@@ -313,31 +348,32 @@ def outlet_flow(depth, p, q):
         return 'No'
     return 'Yes'
 
-def flow(depth, least, p, q):
+def flow(depth, least, p_basin, p, q_basin, q):
     """Does water from label q pass label p: as `outlet_flow`, but 19 straight after 2, and 'Undecided' for 'Yes' where
     p has as many digits as the depth or least is above 1."""
     if not is_depth(depth):
         return 'Refused', 2
     if not is_least(least):
         return 'Refused', 19
-    answer = outlet_flow(depth, p, q)
+    answer = outlet_flow(depth, p_basin, p, q_basin, q)
     return 'Undecided' if answer == 'Yes' and (len(digits_of(p)) == depth or least > 1) else answer
 
 def answer_number(answer):
     """The number of an answer; that of a refusal is 128 + its own."""
     return 128 + answer[1] if isinstance(answer, tuple) else ANSWERS[answer]
 
-def flow_pairs(depth, least, ps, qs, room):
-    """The flow question about each label of the slice P and that of Q at the same place, with room for so many answers:
-    (number, answers). Refused, answers are None."""
+def flow_pairs(depth, least, ps, p_basins, qs, q_basins, room):
+    """The flow question about each label of the slice P and that of Q at the same place, with the basins at that place,
+    and with room for so many answers: (number, answers). Refused, answers are None."""
     if not is_depth(depth):
         return 2, None
     if not is_least(least):
         return 19, None
     pairs = list(zip(records_of(ps), records_of(qs)))
-    if room < len(pairs):
+    if min(len(p_basins), len(q_basins), room) < len(pairs):
         return 3, None
-    return 0, [answer_number(flow(depth, least, p, q)) for p, q in pairs]
+    return 0, [answer_number(flow(depth, least, p_basin, p, q_basin, q))
+               for (p, q), p_basin, q_basin in zip(pairs, p_basins, q_basins)]
 
 # The intake.
 
@@ -442,20 +478,21 @@ def take_end(state):
         return 13, state
     return (0, state._replace(stage='ended')) if state.stage == 'cells' else (14, state)
 
-def label_intake(state, dirs, weights, areas_len, labels_len, work_len):
+def label_intake(state, dirs, weights, *lengths):
+    """`label` with the sizes of an intake; `lengths` are those of the slices that come after the weights."""
     if state.stage != 'ended':
-        return 15, 0, None, None
-    return label(*state.sizes(), dirs, weights, areas_len, labels_len, work_len)
+        return 15, 0, None, None, None
+    return label(*state.sizes(), dirs, weights, *lengths)
 
-def index_intake(state, dirs, weights, areas_len, labels_len, work_len, units_len, outlets_len, counts_len):
-    labelled = label_intake(state, dirs, weights, areas_len, labels_len, work_len)
-    return index_after(labelled, state.rows, state.cols, dirs, units_len, outlets_len, counts_len)
+def index_intake(state, dirs, weights, *lengths):
+    labelled = label_intake(state, dirs, weights, *lengths[:4])
+    return index_after(labelled, state.rows, state.cols, dirs, *lengths[4:])
 
-def levy_intake(state, dirs, weights, areas_len, labels_len, work_len, units_len, outlets_len, counts_len, total,
-                dues_len):
-    labelled = label_intake(state, dirs, weights, areas_len, labels_len, work_len)
-    return levy_after(labelled, state.rows, state.cols, dirs, weights, units_len, outlets_len, counts_len, total,
-                      dues_len)
+def levy_intake(state, dirs, weights, *others):
+    """`others` are the lengths of the slices that come after the weights, with the basin and the total before the
+    last."""
+    labelled = label_intake(state, dirs, weights, *others[:4])
+    return levy_after(labelled, state.rows, state.cols, dirs, weights, *others[4:])
 
 # The program.
 
@@ -466,10 +503,10 @@ def lines_of(data):
 def refusal(number, place):
     return b'refused,place\n%d,%d\n' % (number, place)
 
-def listing(cols, dirs, areas, labels):
-    cells = [cell for cell in range(len(areas)) if dirs[cell] != OUTSIDE]
-    lines = ['%d,%d,%d,%s\n' % (cell // cols, cell % cols, areas[cell], text_of(labels[cell])) for cell in cells]
-    return ('row,col,area,label\n' + ''.join(lines)).encode()
+def listing(cols, dirs, areas, labels, basins):
+    lines = ['%d,%d,%d,%d,%s\n' % (basins[cell], cell // cols, cell % cols, areas[cell], text_of(labels[cell]))
+             for cell in range(len(areas)) if dirs[cell] != OUTSIDE]
+    return ('basin,row,col,area,label\n' + ''.join(lines)).encode()
 
 def read_file(data, lent=LENT):
     """Takes the lines of a file and its end: (number, place, state, direction bytes, weights)."""
@@ -486,8 +523,8 @@ def report(data, lent=LENT):
     number, place, state, dirs, weights = read_file(data, lent)
     if number != 0:
         return refusal(number, place)
-    number, place, areas, labels = label_intake(state, dirs, weights, lent, RECORD * lent, WORK * lent)
-    return refusal(number, place) if number != 0 else listing(state.cols, dirs, areas, labels)
+    number, place, *labelled = label_intake(state, dirs, weights, *lengths_for(lent))
+    return refusal(number, place) if number != 0 else listing(state.cols, dirs, *labelled)
 
 if __name__ == '__main__':
     sys.stdout.buffer.write(report(sys.stdin.buffer.read()))

@@ -43,9 +43,9 @@ SHEETS = [
     ('19 before 4', 1, 1, 1, 1, 5, bytes([3]), ONES, 1, 1, 8, 19, 0),
     ('19 before 5', 1, 1, 1, 0, 4, bytes([0]), ONES, 1, 1, 8, 19, 0),
     ('19 before 6', 1, 2, 1, 1, 0, bytes([1, 16]), ONES, 2, 2, 16, 19, 0),
-    ('19 before 7', 1, 2, 1, MOST + 1, 4, bytes([16, 1]), ONES, 2, 2, 16, 19, 0),
+    ('19 with two basins', 1, 2, 1, MOST + 1, 4, bytes([16, 1]), ONES, 2, 2, 16, 19, 0),
     ('3 with least 2', 3, 4, 2, 2, 4, SAMPLE_A, ONES, 12, 12, 95, 3, 0),
-    ('7 with least 2', 1, 2, 1, 2, 1, bytes([16, 1]), ONES, 2, 2, 16, 7, 1),
+    ('6 with least 2', 1, 2, 1, 2, 1, bytes([1, 16]), ONES, 2, 2, 16, 6, 0),
 ]
 SHEETS += [('least %d' % huge, 1, 1, 1, huge, 4, bytes([1]), ONES, 1, 1, 8, 19, 0) for huge in HUGE]
 SHEETS += [('split %d' % huge, 1, 1, 1, 1, huge, bytes([1]), ONES, 1, 1, 8, 19, 0) for huge in [260, *HUGE]]
@@ -90,31 +90,32 @@ PAIRS += [('least %d' % huge, 3, huge, [91], [92], 1, 19, None) for huge in HUGE
 
 def label_checks():
     for name, depth, least, split, weights, labels in LABELS:
-        got = label(3, 4, depth, least, split, SAMPLE_A, weights, 12, 24, 96)
+        got = label(3, 4, depth, least, split, SAMPLE_A, weights, 12, 24, 12, 96)
         yield 'least and split: ' + name, (*got[:2], got[3]), (0, 0, records(labels))
     for name, *arguments, areas, places, work, number, place in SHEETS:
-        yield 'least and split: ' + name, label(*arguments, areas, 2 * places, work)[:2], (number, place)
+        yield 'least and split: ' + name, label(*arguments, areas, 2 * places, places, work)[:2], (number, place)
 
 
 def flow_checks():
     for name, depth, least, p, q, answer in FLOW:
-        yield 'flow: ' + name, flow(depth, least, record(p), record(q)), answer
-    yield 'outlet flow: it is not told least', outlet_flow(2, record(1), record(3)), 'Yes'
+        yield 'flow: ' + name, flow(depth, least, 1, record(p), 1, record(q)), answer
+    yield 'outlet flow: it is not told least', outlet_flow(2, 1, record(1), 1, record(3)), 'Yes'
     for name, depth, least, p, q, room, number, answers in PAIRS:
-        yield 'pairs: ' + name, flow_pairs(depth, least, slice_of(p), slice_of(q), room), (number, answers)
+        got = flow_pairs(depth, least, slice_of(p), [1] * len(p), slice_of(q), [1] * len(q), room)
+        yield 'pairs: ' + name, got, (number, answers)
 
 
 def unit_checks():
     """Sample A at least 2 has three units: of cells 4, 5, 8, 9 and 10; 1 and 2; 3, 6, 7 and 11."""
     units = of_units([(1, 4, 5), (2, 1, 2), (3, 6, 4)])
-    rooms = [12, 24, 96, 6, 3, 3]
+    rooms = [12, 24, 12, 96, 6, 3, 3, 3]
     sheet = [3, 4, 2, 2, 4, SAMPLE_A, ONES]
-    yield 'index: least 2', index(*sheet, *rooms)[4], units
-    yield 'index: 19', index(3, 4, 2, 0, 4, SAMPLE_A, ONES, 12, 24, 96, 0, 0, 0), (19, 0, None, None, None)
-    yield 'levy: least 2', levy(*sheet, *rooms, 110, 3)[4:], (units, [50, 20, 40])
-    refused = [3, 4, 2, 0, 4, SAMPLE_A, ONES, 12, 24, 96, 0, 0, 0]
-    yield 'levy: 19', levy(*refused, 100, 0), (19, 0, None, None, None, None)
-    yield 'levy: 18 before 19', levy(*refused, 10 ** 11 + 1, 0), (18, 0, None, None, None, None)
+    yield 'index: least 2', index(*sheet, *rooms)[5], units
+    yield 'levy: least 2', levy(*sheet, *rooms, 1, 110, 3)[5:], (units, [50, 20, 40])
+    refused = [3, 4, 2, 0, 4, SAMPLE_A, ONES, 12, 24, 12, 96, 0, 0, 0, 0]
+    yield 'index: 19', index(*refused), (19, 0, *4 * [None])
+    yield 'levy: 19', levy(*refused, 1, 100, 0), (19, 0, *5 * [None])
+    yield 'levy: 18 before 19', levy(*refused, 1, 10 ** 11 + 1, 0), (18, 0, *5 * [None])
 
 
 def intake_checks():
@@ -147,10 +148,10 @@ def state_checks():
             yield name + ', 2 before 19', take_line(state._replace(depth=0), b'', dirs, weights)[0], 2
             yield name + ', 13', take_line(state._replace(stage='ended'), b'', dirs, weights)[0], 13
         ended = good._replace(stage='ended', **other)
-        yield 'intake: labelling, 19', label_intake(ended, dirs, weights, 0, 0, 0), (19, 0, None, None)
-        yield ('intake: labelling, 15 before 19', label_intake(ended._replace(stage='cells'), dirs, weights, 0, 0, 0),
-               (15, 0, None, None))
-        yield 'intake: a levy, 18 before 19', levy_intake(ended, dirs, weights, *6 * [0], 10 ** 11 + 1, 0)[0], 18
+        yield 'intake: labelling, 19', label_intake(ended, dirs, weights, *4 * [0]), (19, 0, *3 * [None])
+        yield ('intake: labelling, 15 before 19', label_intake(ended._replace(stage='cells'), dirs, weights, *4 * [0]),
+               (15, 0, *3 * [None]))
+        yield 'intake: a levy, 18 before 19', levy_intake(ended, dirs, weights, *8 * [0], 1, 10 ** 11 + 1, 0)[0], 18
         waiting = good._replace(stage='weights', names=(b'weight',), row=1, **other)
         yield 'intake: 19 before 9', take_line(waiting, b'1', dirs, weights), (19, waiting)
         yield 'intake: the end looks at neither', take_end(good._replace(**other))[0], 0

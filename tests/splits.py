@@ -14,9 +14,8 @@ def mouth_areas(rows, cols, dirs, lent):
 
 def mouth_areas_by(rows, cols, dirs, areas):
     """The same of an accepted sheet, from its areas."""
-    inside = [cell for cell in range(rows * cols) if dirs[cell] != reference.OUTSIDE]
     found = []
-    for donors in reference.donors_and_outlets(rows, cols, dirs, inside)[0]:
+    for donors in reference.donors_and_outlets(rows, cols, reference.codes_of(dirs[:rows * cols]))[0].values():
         found += sorted(areas[donor] for donor in donors)[:-1]
     return found
 

@@ -38,9 +38,8 @@ def equal_areas(rng, rows, cols, dirs):
     weights = [rng.randint(LEAST, rng.choice([5, 50, MOST])) for _ in range(rows)]
     if plain_areas(rows, cols, dirs) is None:
         return weights
-    inside = [cell for cell in range(rows * cols) if dirs[cell] != reference.OUTSIDE]
-    donors = reference.donors_and_outlets(rows, cols, dirs, inside)[0]
-    confluences = [cell for cell in inside if len(donors[cell]) > 1]
+    donors = reference.donors_and_outlets(rows, cols, reference.codes_of(dirs[:rows * cols]))[0]
+    confluences = [cell for cell in donors if len(donors[cell]) > 1]
     for cell in rng.sample(confluences, min(len(confluences), 10)):
         first, second = (cells_by_row(rows, cols, donors, donor) for donor in rng.sample(donors[cell], 2))
         if sum(first) != sum(second) and made_equal(rng, weights, [a - b for a, b in zip(first, second)]):
@@ -95,9 +94,9 @@ def effects(rows, cols, dirs, areas):
     """Of an accepted sheet with these areas: are there donors of one cell that have equal areas but unequal counts of
     cells, and is some cell's heaviest donor another than by counts?"""
     counts = plain_areas(rows, cols, dirs)
-    inside = [cell for cell in range(rows * cols) if dirs[cell] != reference.OUTSIDE]
+    codes = reference.codes_of(dirs[:rows * cols])
     equal = other_heaviest = False
-    for donors in reference.donors_and_outlets(rows, cols, dirs, inside)[0]:
+    for donors in reference.donors_and_outlets(rows, cols, codes)[0].values():
         if len(donors) > 1:
             by_area = sorted(donors, key=lambda cell: (areas[cell], cell))
             equal |= any(areas[a] == areas[b] and counts[a] != counts[b] for a, b in zip(by_area, by_area[1:]))

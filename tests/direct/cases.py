@@ -3,24 +3,24 @@
 them, and both questions about the labels of a sheet with what the water does.
 
 A case is a byte that names its call, then numbers of 8 bytes, lowest byte first, and slices. A label is two numbers,
-and the length of a slice of labels counts numbers.
-'L', labelling: rows, cols, depth, least, split and the lengths of directions, weights, areas, labels and work places;
-these slices before the call; the answer (0, or refusal number + 256 x place); areas, labels and work places after it.
-Directions and weights must stay as they are.
-'I', the index: the same with three slices more, the labels, outlets and counts of units; accepted, the answer is
+and the length of a slice of labels counts numbers. A label that is asked about is three: its basin comes first.
+'L', labelling: rows, cols, depth, least, split and the lengths of directions, weights, areas, labels, basins and work
+places; these slices before the call; the answer (0, or refusal number + 256 x place); areas, labels, basins and work
+places after it. Directions and weights must stay as they are.
+'I', the index: the same with four slices more, the labels, outlets, counts and basins of units; accepted, the answer is
 256 x the number of units.
-'V', the levy: the total, then the same as for the index with one slice more, the dues of units.
-'P', a lookup: the leading digits, the length of the label slice, the slice, start and length before; the answer, start
-and length after, which count labels.
+'V', the levy: the basin and the total, then the same as for the index with one slice more, the dues of units.
+'P', a lookup: the leading digits with their basin, the lengths of the label slice and the basin slice, these slices,
+start and length before; the answer, start and length after, which count labels.
 'F', the flow question: depth, least, p, q, the answer.
 'O', the outlet question: depth, p, q, the answer.
 'S', both questions about every two labels of a sheet: depth, least, the number of labels, the labels; the answers to
 the outlet question, then those to the flow question, a byte each, a row of them for each label as p, with one for each
 label as q.
 'W', the word test: the number of words, the words; the answers, a byte each.
-'M', the flow question about many pairs: depth, least and the lengths of P's labels, Q's labels and answers; these
-slices before the call; the answer (256 x the number of pairs, or refusal number); the answers, a byte each, after it.
-The labels must stay as they are.
+'M', the flow question about many pairs: depth, least and the lengths of P's labels and basins, of Q's labels and basins
+and of the answers; these slices before the call; the answer (256 x the number of pairs, or refusal number); the
+answers, a byte each, after it. Labels and basins must stay as they are.
 
 At the end a tally of the kinds of cases goes to standard error; if one of them did not occur, the status is 1. The same
 --seed makes the same cases."""
@@ -34,7 +34,7 @@ sys.dont_write_bytecode = True
 sys.path.insert(0, os.path.join(os.path.dirname(os.path.abspath(__file__)), '..'))
 import depths
 import flows
-import fuzz
+import lent_basins
 import lent_labels
 import lent_splits
 import lent_weights
@@ -44,21 +44,24 @@ import lookups
 import outlets
 import pairs
 import reference
+import shapes
 import splits
 import weights
 import words
 from reference import numbers_of, places
 
 PLACE = 256  # an answer is number + 256 x place
-LABEL_WIDTHS = [4, 8, 4]  # bytes of a place of areas, labels, work places
-INDEX_WIDTHS = [8, 4, 4]  # of labels, outlets, counts of units
+LABEL_WIDTHS = [4, 8, 4, 4]  # bytes of a place of areas, labels, basins, work places
+OF_LABEL = len(LABEL_WIDTHS)
+INDEX_WIDTHS = [8, 4, 4, 4]  # of labels, outlets, counts, basins of units
+INDEX_NAMES = ['labels', 'outlets', 'counts', 'basins']
 DUES_WIDTH = 8
 SAMPLE_A = [0, 4, 16, 8, 16, 16, 16, 16, 64, 64, 32, 64]
 
 # The kinds of cases of each call, and how many of each were made.
 ACCEPTED, REFUSED = 'accepted', 'refused by %d'
-LABEL_KINDS = [ACCEPTED] + [REFUSED % number for number in (1, 2, 19, 3, 17, 4, 5, 6, 7)]
-INDEX_KINDS = (LABEL_KINDS + ['short ' + name for name in ('labels', 'outlets', 'counts', 'slices')]
+LABEL_KINDS = [ACCEPTED] + [REFUSED % number for number in (1, 2, 19, 3, 17, 4, 5, 6)]
+INDEX_KINDS = (LABEL_KINDS + ['short ' + name for name in [*INDEX_NAMES, 'slices']]
                + ['longer slices', 'short slices unseen'])
 tally = {
     'pf_label': dict.fromkeys(LABEL_KINDS, 0),
@@ -66,6 +69,8 @@ tally = {
     'pf_levy': dict.fromkeys(levies.KINDS, 0),
     'labels': dict.fromkeys(lent_labels.KINDS, 0),
     'labels of units': dict.fromkeys(lent_labels.UNIT_KINDS, 0),
+    'basins': dict.fromkeys(lent_basins.KINDS, 0),
+    'basins of units': dict.fromkeys(lent_basins.UNIT_KINDS, 0),
     'weights': dict.fromkeys(lent_weights.KINDS, 0),
     'least and split': dict.fromkeys(lent_splits.KINDS, 0),
     'pf_lookup': dict.fromkeys(lookups.KINDS, 0),
@@ -97,23 +102,24 @@ def written(places, values):
     return array_of(places.itemsize, values) + places[len(values):]
 
 
-# Sheets. A sheet is (rows, cols, depth, least, split); `lent` are its weights; `lengths` are those of areas, labels and
-# work places.
+# Sheets. A sheet is (rows, cols, depth, least, split); `lent` are its weights; `lengths` are those of areas, labels,
+# basins and work places.
 
-def labelled_places(sheet, labelled, areas, labels, work):
+def labelled_places(sheet, labelled, areas, labels, basins, work):
     """The slices of labelling after a call in which it gave `labelled`."""
-    number, place, new_areas, new_labels = labelled
+    number, place, new_areas, new_labels, new_basins = labelled
     if number == 0:
         areas, labels = written(areas, new_areas), written(labels, numbers_of(new_labels))
+        basins = written(basins, new_basins)
     if number not in (1, 2, 19, 3):
         work = written(work, [0] * (reference.WORK * sheet[0] * sheet[1]))
-    return [areas, labels, work]
+    return [areas, labels, basins, work]
 
 
 def unit_values(units):
     """What a call writes to the slices of an index."""
-    labels, outlet_cells, counts = zip(*units)
-    return [numbers_of(labels), outlet_cells, counts]
+    labels, outlet_cells, counts, basins = zip(*units)
+    return [numbers_of(labels), outlet_cells, counts, basins]
 
 
 def write_case(out, call, sheet, dirs, lent, before, answer, after):
@@ -130,39 +136,50 @@ def label_case(out, rng, sheet, dirs, lent, lengths, labelled):
     tally['pf_label'][REFUSED % number if number else ACCEPTED] += 1
     for kind in lent_labels.kinds(sheet, dirs, lengths[1], labelled):
         tally['labels'][kind] += 1
+    for kind in lent_basins.kinds(sheet, dirs, lengths, labelled):
+        tally['basins'][kind] += 1
 
 
 def index_case(out, rng, sheet, dirs, lent, lengths, index_lengths, labelled):
     rows, cols = sheet[:2]
-    number, place, areas, labels, units = reference.index_after(labelled, rows, cols, dirs, *index_lengths)
+    number, place, *_, units = reference.index_after(labelled, rows, cols, dirs, *index_lengths)
     before = rubbish(rng, LABEL_WIDTHS + INDEX_WIDTHS, [*lengths, *index_lengths])
-    after = labelled_places(sheet, labelled, *before[:3]) + before[3:]
+    after = labelled_places(sheet, labelled, *before[:OF_LABEL]) + before[OF_LABEL:]
     if number == 0:
-        after[3:] = [written(slice_, values) for slice_, values in zip(before[3:], unit_values(units))]
+        after[OF_LABEL:] = [written(slice_, values) for slice_, values in zip(before[OF_LABEL:], unit_values(units))]
     answer = PLACE * len(units) if number == 0 else number + PLACE * place
     write_case(out, b'I', sheet, dirs, lent, before, answer, after)
-    count_index(dirs, index_lengths, labelled, number)
+    count_index(index_lengths, labelled, number)
 
 
-def count_index(dirs, index_lengths, labelled, number):
+def units_in(labelled):
+    """The units of an accepted sheet as (basin, label), in the order of the index."""
+    found = {(basin, reference.digits_of(label)) for label, basin in zip(*labelled[3:]) if basin != 0}
+    return [(basin, reference.record_of(digits)) for basin, digits in sorted(found)]
+
+
+def count_index(index_lengths, labelled, number):
     kinds = tally['pf_index']
     rooms = [places(index_lengths[0]), *index_lengths[1:]]
-    count = len({label for label, code in zip(labelled[3], dirs) if code != 0}) if labelled[0] == 0 else 0
+    count = len(units_in(labelled)) if labelled[0] == 0 else 0
     if labelled[0] == 0 and number == 3:
         short = [room < count for room in rooms]
-        kinds['short ' + ('slices' if sum(short) > 1 else ('labels', 'outlets', 'counts')[short.index(True)])] += 1
+        kinds['short ' + ('slices' if sum(short) > 1 else INDEX_NAMES[short.index(True)])] += 1
     else:
         kinds[REFUSED % number if number else ACCEPTED] += 1
         kinds['longer slices'] += number == 0 and min(rooms) > count
         kinds['short slices unseen'] += number != 0 and max(rooms) == 0
-    for kind in lent_labels.unit_kinds(index_lengths[0], count, number) if labelled[0] == 0 else []:
-        tally['labels of units'][kind] += 1
+    if labelled[0] == 0:
+        for kind in lent_labels.unit_kinds(index_lengths[0], count, number):
+            tally['labels of units'][kind] += 1
+        for kind in lent_basins.length_kinds(index_lengths[3], count, number, min(rooms[:3]) >= count):
+            tally['basins of units'][kind] += 1
 
 
 def sheet_cases(out, rng, sheet, dirs, lent, lengths=None, index_lengths=None):
     """A labelling case and an index case of one sheet; it may lack least and split, which are then 1 and 4. Without
-    lengths the slices of labelling are exact; without index lengths those of the index are chosen. Returns the labels
-    of the inside cells and those of the units, none if labelling refused."""
+    lengths the slices of labelling are exact; without index lengths those of the index are chosen. Basins of an
+    accepted sheet are labelled alone too. Returns the units as (basin, label), none if labelling refused."""
     rows, cols = sheet[:2]
     sheet = sheet if len(sheet) == 5 else (*sheet, *splits.NEITHER)
     dirs, lengths = bytes(dirs), lengths or reference.lengths_for(rows * cols)
@@ -174,29 +191,30 @@ def sheet_cases(out, rng, sheet, dirs, lent, lengths=None, index_lengths=None):
     for kind in words.sheet_kinds(sheet, dirs, labelled):
         tally['directions'][kind] += 1
     label_case(out, rng, sheet, dirs, lent, lengths, labelled)
-    inside, units = [], []
+    units = []
     if labelled[0] == 0:
-        inside = [label for label, code in zip(labelled[3], dirs) if code != 0]
-        units = sorted(set(inside), key=reference.digits_of)
+        units = units_in(labelled)
+        if max(labelled[4]) > 1:
+            tally['basins'][lent_basins.ALONE] += lent_basins.compare_alone(rng, sheet, dirs, lent, labelled)
     index_case(out, rng, sheet, dirs, lent, lengths, index_lengths or chosen_lengths(rng, len(units)), labelled)
-    return inside, units
+    return units
 
 
 def chosen_lengths(rng, count):
     """Lengths of the index's slices for so many units: enough, or one or more of them short; some rubbish if there are
     none."""
     if count == 0:
-        return rng.choice([[0, 0, 0], [rng.randint(0, 9) for _ in range(3)]])
+        return rng.choice([[0] * 4, [rng.randint(0, 9) for _ in range(4)]])
     wanted = rooms_for(count)
     lengths = [needed + rng.choice([0, 0, 0, 1, rng.randint(0, 60)]) for needed in wanted]
-    for short in rng.sample(range(3), rng.choice([0, 0, 0, 0, 0, 0, 1, 1, 2, 3])):
+    for short in rng.sample(range(4), rng.choice([0, 0, 0, 0, 0, 0, 1, 1, 2, 4])):
         lengths[short] = rng.choice([0, wanted[short] - 1, wanted[short] - 1, rng.randrange(wanted[short])])
     return lengths
 
 
 def rooms_for(count):
     """The lengths of the index's slices that so many units need."""
-    return [reference.RECORD * count, count, count]
+    return [reference.RECORD * count, count, count, count]
 
 
 def length(rng, wanted):
@@ -205,12 +223,12 @@ def length(rng, wanted):
 
 
 def random_sheets(out, rng, count):
-    """Returns the label slices of the indexes."""
+    """Returns the units of each, as (basin, label)."""
     indexes = []
     for _ in range(count):
         side = rng.choice([3, 6, 12, 24, 40])
         rows, cols = rng.randint(1, side), rng.randint(1, side)
-        dirs = rng.choice(fuzz.SHAPES)(rng, rows, cols)
+        dirs = rng.choice(shapes.SHAPES)(rng, rows, cols)
         if rng.random() < 0.1:
             dirs[rng.randrange(len(dirs))] = rng.randrange(256)
         n = rows * cols
@@ -219,9 +237,9 @@ def random_sheets(out, rng, count):
         if rng.random() < 0.4:
             lengths = [length(rng, wanted) for wanted in reference.lengths_for(n)]
             dirs = dirs[:length(rng, n)] + [rng.randrange(256) for _ in range(max(0, length(rng, n) - n))]
-        inside, units = sheet_cases(out, rng, (rows, cols, depth), dirs, lent, lengths)
-        for _ in range(3 if inside else 0):
-            flow_cases(out, depth, [rng.choice(flows.LEASTS)], rng.choice(inside), rng.choice(inside))
+        units = sheet_cases(out, rng, (rows, cols, depth), dirs, lent, lengths)
+        for _ in range(3 if units else 0):
+            flow_cases(out, depth, [rng.choice(flows.LEASTS)], rng.choice(units), rng.choice(units))
         if units:
             indexes.append(units)
     return indexes
@@ -229,25 +247,53 @@ def random_sheets(out, rng, count):
 
 def long_label_sheets(out, rng, count):
     """Sheets with labels of each length that is counted, and so many random ones; with the labels' slice exact, or with
-    an odd number at its end. Returns the label slices of their indexes."""
+    an odd number at its end. Returns the units of each."""
     sheets = [*long_labels.of_digits(rng), *(long_labels.by_chance(rng) for _ in range(count))]
     indexes = []
     for *sheet, dirs, lent in sheets:
         lengths = reference.lengths_for(sheet[0] * sheet[1])
         lengths[1] += rng.choice([0, 0, 1, 2])
-        indexes.append(sheet_cases(out, rng, tuple(sheet), dirs, lent, lengths)[1])
+        indexes.append(sheet_cases(out, rng, tuple(sheet), dirs, lent, lengths))
     return indexes
 
 
 def label_lengths(out, rng):
     """Every number of numbers that matters for the labels of a sheet, and for those of its units."""
-    for rows, cols, dirs in [(1, 1, [1]), (3, 4, SAMPLE_A), (2, 40, fuzz.comb(rng, 2, 40))]:
-        sheet, lent, (areas, exact, work) = (rows, cols, 36, 1, 1), [1] * rows, reference.lengths_for(rows * cols)
+    for rows, cols, dirs in [(1, 1, [1]), (3, 4, SAMPLE_A), (2, 40, shapes.comb(rng, 2, 40))]:
+        sheet, lent, exact = (rows, cols, 36, 1, 1), [1] * rows, reference.lengths_for(rows * cols)
         for numbers_lent in lent_labels.edges(rows * cols):
-            units = sheet_cases(out, rng, sheet, dirs, lent, [areas, numbers_lent, work])[1]
+            units = sheet_cases(out, rng, sheet, dirs, lent, [exact[0], numbers_lent, *exact[2:]])
         for numbers_lent in lent_labels.edges(len(units)):
-            rooms = [numbers_lent, len(units), len(units)]
-            sheet_cases(out, rng, sheet, dirs, lent, [areas, exact, work], rooms)
+            sheet_cases(out, rng, sheet, dirs, lent, exact, [numbers_lent, *rooms_for(len(units))[1:]])
+
+
+def around(count):
+    """Lengths: none, one, around so many, and more."""
+    return sorted({0, 1, count - 1, count, count + 1, 2 * count, count + 60})
+
+
+def basin_lengths(out, rng):
+    """Every number of places that matters for the basins of a sheet, and for those of its units."""
+    for rows, cols, dirs in [(1, 1, [1]), (1, 2, [16, 1]), (3, 4, SAMPLE_A), (6, 7, shapes.strips(rng, 6, 7))]:
+        sheet, lent, exact = (rows, cols, 36, 1, 4), [1] * rows, reference.lengths_for(rows * cols)
+        count = len(sheet_cases(out, rng, sheet, dirs, lent))
+        for length in around(rows * cols):
+            for others in (exact, [longer + 1 for longer in exact]):
+                sheet_cases(out, rng, sheet, dirs, lent, [*others[:2], length, others[3]])
+        for length in around(count):
+            sheet_cases(out, rng, sheet, dirs, lent, exact, [*rooms_for(count)[:3], length])
+
+
+def basin_sheets(out, rng):
+    """Returns the units of the large ones."""
+    indexes = []
+    for rows, cols, dirs in lent_basins.sheets(rng):
+        lent, large = weights.made(rng, rows, cols, dirs), rows * cols == 256 * 256
+        for depth in [18] if large else [1, 2, 36]:
+            rooms = rooms_for(rows * cols) if large else None
+            units = sheet_cases(out, rng, (rows, cols, depth), dirs, lent, None, rooms)
+            indexes += [units] if large and units else []
+    return indexes
 
 
 def size_boundaries(out, rng):
@@ -258,18 +304,18 @@ def size_boundaries(out, rng):
         dirs = [16 if cols and cell < cols else 64 for cell in range(n)]
         for weight in (1, 0):
             sheet_cases(out, rng, (rows, cols, depth), dirs, [weight] * min(rows, 300), reference.lengths_for(n))
-    for missing in range(5):
-        lengths = [12, 3, 12, 24, 96]
+    for missing in range(6):
+        lengths = [12, 3, 12, 24, 12, 96]
         lengths[missing] -= 1
         for weight in (500, 1001):
-            for index_lengths in ([0, 0, 0], rooms_for(9), rooms_for(12)):
+            for index_lengths in ([0] * 4, rooms_for(9), rooms_for(12)):
                 dirs, lent = SAMPLE_A[:lengths[0]], [weight] * lengths[1]
                 sheet_cases(out, rng, (3, 4, 2), dirs, lent, lengths[2:], index_lengths)
 
 
 def weight_boundaries(out, rng):
     for rows in (1, 2, 3, 6):
-        dirs = fuzz.comb(rng, rows, 4)
+        dirs = shapes.comb(rng, rows, 4)
         for lent in lent_weights.edges(rng, rows, 4, dirs):
             sheet_cases(out, rng, (rows, 4, rng.choice([18, 36])), dirs, lent)
         dirs[-4:] = [0] * 4  # the last row has no inside cell
@@ -281,19 +327,21 @@ def confluences(out, rng, count):
     """Sheets with weights that make two donors of a cell equal, where such weights are found."""
     for _ in range(count):
         rows, cols = rng.randint(3, 20), rng.randint(3, 20)
-        dirs = rng.choice([fuzz.grown, fuzz.northwest])(rng, rows, cols)
+        dirs = rng.choice([shapes.grown, shapes.northwest])(rng, rows, cols)
         lent = weights.equal_areas(rng, rows, cols, dirs)
         sheet_cases(out, rng, (rows, cols, rng.choice([1, 2, 3, 18, 36])), dirs, lent)
 
 
 def refused_sheets(out, rng):
     """Refused by labelling: the same whatever is lent for the index."""
-    for index_lengths in ([0, 0, 0], [1, 1, 1], [5, 5, 5]):
+    for index_lengths in ([0] * 4, [1] * 4, [5] * 4):
         for weight in (1, 1000, 0, 1001, 65535):
             for dirs in ([1], [0], [3], [255]):
                 sheet_cases(out, rng, (1, 1, 1), dirs, [weight], None, index_lengths)
             for dirs in ([1, 16], [16, 1], [0, 0], [5, 0], [0, 5]):
                 sheet_cases(out, rng, (1, 2, 1), dirs, [weight], None, index_lengths)
+            for dirs in ([16, 1, 16, 0, 1], [1, 16, 0, 1, 1], [16, 0, 1, 1, 16]):
+                sheet_cases(out, rng, (1, 5, 1), dirs, [weight], None, index_lengths)
             sheet_cases(out, rng, (257, 1, 1), [4] * 257, [weight] * 257, None, index_lengths)
             sheet_cases(out, rng, (1, 1, 37), [4], [weight], None, index_lengths)
 
@@ -303,7 +351,7 @@ def index_boundaries(out, rng):
         lent = [rng.choice([1, 7, 1000])] * 3
         for index_lengths in map(rooms_for, (count, count + 1, count - 1, 0)):
             sheet_cases(out, rng, (3, 4, depth), SAMPLE_A, lent, None, index_lengths)
-        for place in range(3):
+        for place in range(4):
             needed = rooms_for(count)[place]
             for other in (0, 1, needed - 1, needed + 1, 5 * needed):
                 index_lengths = rooms_for(count)
@@ -312,14 +360,14 @@ def index_boundaries(out, rng):
 
 
 def large_sheets(out, rng):
-    """Returns the label slices of their indexes."""
+    """Returns the units of each."""
     kinds = [weights.all_largest, weights.any_weights, weights.equal_areas, weights.all_one]
     indexes = []
-    for at, shape in enumerate([fuzz.snake, fuzz.comb, fuzz.northwest, fuzz.grown, fuzz.by_chance]):
+    for at, shape in enumerate([shapes.snake, shapes.comb, shapes.northwest, shapes.grown, shapes.by_chance]):
         for turn, depth in enumerate((1, 3, rng.choice([18, 36]))):
             dirs = shape(rng, 256, 256)
             lent = kinds[(at + turn) % len(kinds)](rng, 256, 256, dirs)
-            inside, units = sheet_cases(out, rng, (256, 256, depth), dirs, lent, None, rooms_for(256 * 256))
+            units = sheet_cases(out, rng, (256, 256, depth), dirs, lent, None, rooms_for(256 * 256))
             indexes += [units] if len(units) > lookups.LARGE else []
     return indexes
 
@@ -336,15 +384,15 @@ def levy_case(out, rng, call):
     sheet, dirs, lent, lengths, labelled = call.sheet[:5]
     rows, cols = sheet[:2]
     *rooms, dues_room = call.lengths()
-    number, place, areas, labels, units, dues = reference.levy_after(labelled, rows, cols, dirs, lent, *rooms,
-                                                                     call.total, dues_room)
+    number, place, *_, units, dues = reference.levy_after(labelled, rows, cols, dirs, lent, *rooms, call.basin,
+                                                          call.total, dues_room)
     before = rubbish(rng, LABEL_WIDTHS + INDEX_WIDTHS + [DUES_WIDTH], [*lengths, *call.lengths()])
-    after = before if number == 18 else labelled_places(sheet, labelled, *before[:3]) + before[3:]
+    after = before if number == 18 else labelled_places(sheet, labelled, *before[:OF_LABEL]) + before[OF_LABEL:]
     answer = number + PLACE * place
     if number == 0:
-        answer = PLACE * len(units)
-        after[3:] = [written(slice_, values) for slice_, values in zip(before[3:], [*unit_values(units), dues])]
-    write_case(out, b'V' + numbers([call.total]), sheet, dirs, lent, before, answer, after)
+        answer, values = PLACE * len(units), [*unit_values(units), dues]
+        after[OF_LABEL:] = [written(slice_, own) for slice_, own in zip(before[OF_LABEL:], values)]
+    write_case(out, b'V' + numbers([call.basin, call.total]), sheet, dirs, lent, before, answer, after)
     for kind in levies.kinds(call, number, dues):
         tally['pf_levy'][kind] += 1
 
@@ -354,17 +402,23 @@ def levy_cases(out, rng, count):
         levy_case(out, rng, call)
 
 
-# Questions about labels.
+# Questions about labels. A label that is asked about is (basin, label).
+
+def asked_numbers(asked):
+    basin, (first, rest) = asked
+    return [basin, first, rest]
+
 
 def flow_cases(out, depth, leasts, p, q):
     """The flow question, told each of these numbers as least, and the outlet question."""
+    both = asked_numbers(p) + asked_numbers(q)
     for least in leasts:
-        answer = reference.flow(depth, least, p, q)
-        out.write(b'F' + numbers([depth, least, *p, *q, reference.answer_number(answer)]))
+        answer = reference.flow(depth, least, *p, *q)
+        out.write(b'F' + numbers([depth, least, *both, reference.answer_number(answer)]))
         for kind in flows.kinds(depth, least, p, q, answer):
             tally['pf_flow'][kind] += 1
-    answer = reference.outlet_flow(depth, p, q)
-    out.write(b'O' + numbers([depth, *p, *q, reference.answer_number(answer)]))
+    answer = reference.outlet_flow(depth, *p, *q)
+    out.write(b'O' + numbers([depth, *both, reference.answer_number(answer)]))
     tally['pf_outlet_flow'][flows.name_of(answer)] += 1
     for kind in flows.label_kinds(depth, p, q, answer):
         tally['labels of both questions'][kind] += 1
@@ -381,32 +435,37 @@ def outlet_questions(out, rng, count):
         rows, cols, depth, least, split = asked.sheet
         lengths = reference.lengths_for(rows * cols)
         label_case(out, rng, asked.sheet, asked.dirs, asked.lent, lengths, asked.labelled)
-        out.write(b'S' + numbers([depth, least, len(asked.labels), *numbers_of(asked.labels)]))
+        labels = [number for label in asked.labels for number in asked_numbers(label)]
+        out.write(b'S' + numbers([depth, least, len(asked.labels), *labels]))
         out.write(bytes(asked.outlet_answers) + bytes(asked.flow_answers))
         for kind, number in asked.counts.items():
             tally['outlets'][kind] += number
 
 
 def lookup_questions(out, rng, count, indexes, large_indexes):
-    for leading, labels, odd in lookups.questions(rng, count, indexes, large_indexes):
-        lent = numbers_of(labels) + odd
-        answer = reference.lookup(leading, lent)
+    for asked in lookups.questions(rng, count, indexes, large_indexes):
+        lent, basins = numbers_of(asked.labels) + asked.odd, array_of(4, asked.basins)
+        answer = reference.lookup(asked.basin, asked.leading, lent, asked.basins)
         before = [rng.choice([0, 1, rng.getrandbits(64)]) for _ in range(2)]
-        out.write(b'P' + numbers([*leading, len(lent), *lent, *before, *answer]))
-        for kind in lookups.kinds(leading, labels, odd, answer):
+        out.write(b'P' + numbers([asked.basin, *asked.leading, len(lent), len(basins), *lent]) + basins.tobytes())
+        out.write(numbers([*before, *answer]))
+        for kind in lookups.kinds(asked, answer):
             tally['pf_lookup'][kind] += 1
 
 
 def pair_questions(out, rng, count, indexes):
     for call in pairs.questions(rng, count, indexes):
         p, q = call.slices()
-        number, answers = reference.flow_pairs(call.depth, call.least, p, q, call.room)
+        number, answers = reference.flow_pairs(call.depth, call.least, p, call.p_basins, q, call.q_basins, call.room)
         before = rng.randbytes(call.room)
         answer, after = number, before
         if number == 0:
             answer, after = PLACE * len(answers), bytes(answers) + before[len(answers):]
-        out.write(b'M' + numbers([call.depth, call.least, len(p), len(q), call.room, *p, *q]) + before)
-        out.write(numbers([answer]) + after)
+        out.write(b'M' + numbers([call.depth, call.least, len(p), len(call.p_basins), len(q), len(call.q_basins),
+                                  call.room]))
+        for labels, basins in ((p, call.p_basins), (q, call.q_basins)):
+            out.write(numbers(labels) + array_of(4, basins).tobytes())
+        out.write(before + numbers([answer]) + after)
         for kind, times in pairs.counts(call, number, answers).items():
             tally['pf_flow_pairs'][kind] += times
 
@@ -429,7 +488,7 @@ def word_sheets(out, rng):
 
 def main():
     parser = argparse.ArgumentParser(description=__doc__, formatter_class=argparse.RawDescriptionHelpFormatter)
-    parser.add_argument('--sheets', type=int, default=2000,
+    parser.add_argument('--sheets', type=int, default=3000,
                         help='random sheets, each for pf_label and for pf_index; as many with least and split; an '
                              'eighth as many with long labels; twice as many, at five depths each, for both questions '
                              'about every two labels')
@@ -442,9 +501,9 @@ def main():
     options = parser.parse_args()
     rng = random.Random(options.seed)
     out = sys.stdout.buffer
-    for part in (size_boundaries, label_lengths, weight_boundaries, refused_sheets, index_boundaries):
+    for part in (size_boundaries, label_lengths, basin_lengths, weight_boundaries, refused_sheets, index_boundaries):
         part(out, rng)
-    large_indexes = large_sheets(out, rng)
+    large_indexes = large_sheets(out, rng) + basin_sheets(out, rng)
     indexes = random_sheets(out, rng, options.sheets) + long_label_sheets(out, rng, options.sheets // 8)
     confluences(out, rng, options.sheets // 4)
     split_sheets(out, rng, options.sheets)

@@ -1,6 +1,7 @@
 """Makes the single questions about flow of tests/direct/cases.py: a depth, numbers for least and two labels, good and
-bad; tells of which kinds they are. Labels are records."""
+bad, each with a basin; tells of which kinds they are. Labels are records, and p and q are (basin, label)."""
 import depths
+import lent_basins
 import no_labels
 import reference
 import splits
@@ -33,6 +34,15 @@ LABEL_KINDS = (depths.KINDS + [FAULT % (name, kind) for name in 'pq' for kind in
                   'No by an even digit' + PAST, 'other first numbers, equal second ones',
                   'equal records that are no labels'])
 
+# What is counted of the two basins: what an answer No by them stands for, what comes before them, and which they are.
+ANOTHER = ' in another basin'
+STANDS_FOR = ['No for %s' % answer + ANOTHER for answer in ('Same', 'Yes', 'No', 12)]
+LABEL_KINDS += STANDS_FOR + ['11 for %s' % name + ANOTHER for name in ('p', 'q', 'both')] + ['2' + ANOTHER]
+LABEL_KINDS += ['Same in basin %d' % basin for basin in lent_basins.EDGES]
+LABEL_KINDS += ['No with basins %s' % name for name in ('alike in 8 bits', 'alike in 16 bits', 'alike in 31 bits',
+                                                       'in rising order', 'in falling order')]
+KINDS += ['19' + ANOTHER, 'No for Undecided' + ANOTHER]
+
 
 def name_of(answer):
     return REFUSED % answer[1] if isinstance(answer, tuple) else answer
@@ -41,22 +51,33 @@ def name_of(answer):
 def kinds(depth, least, p, q, answer):
     """The kinds that a flow question belongs to, with its answer."""
     yield name_of(answer)
+    if p[0] != q[0]:
+        yield from kinds_by_basins(depth, least, p, q, answer)
+        return
     if answer == ('Refused', 2):
         if not reference.is_least(least):
             yield '2 before 19'
     elif answer == ('Refused', 19):
         if least in BAD_LEASTS:
             yield '19 for least %d' % least
-        other = reference.flow(depth, 1, p, q)
+        other = reference.flow(depth, 1, *p, *q)
         yield FIRST % (other[1] if isinstance(other, tuple) else other)
     else:
         if least in GOOD_LEASTS:
             yield 'accepted with least %d' % least
-        yield from kinds_by_least(depth, least, p, answer)
+        yield from kinds_by_least(depth, least, p[1], answer)
+
+
+def kinds_by_basins(depth, least, p, q, answer):
+    """Of a question about labels of two basins."""
+    if answer == ('Refused', 19):
+        yield '19' + ANOTHER
+    if answer == 'No' and reference.flow(depth, least, 1, p[1], 1, q[1]) == 'Undecided':
+        yield 'No for Undecided' + ANOTHER
 
 
 def kinds_by_least(depth, least, p, answer):
-    """Of a question with a good least."""
+    """Of a question with a good least about labels of one basin; p is a label."""
     if answer == 'Undecided':
         whole = len(digits_of(p)) < depth
         yield UNDECIDED[0 if least == 1 else 1 if whole else 2]
@@ -66,7 +87,34 @@ def kinds_by_least(depth, least, p, answer):
 
 def label_kinds(depth, p, q, answer):
     """What is counted of the labels of an outlet question; the flow question is asked about the same."""
+    (p_basin, p), (q_basin, q) = p, q
     yield from depths.kinds(depth)
+    if p_basin != q_basin:
+        yield from other_basin_kinds(depth, p_basin, p, q_basin, q, answer)
+        return
+    if answer == 'Same' and p_basin in lent_basins.EDGES:
+        yield 'Same in basin %d' % p_basin
+    yield from one_basin_kinds(depth, p, q, answer)
+
+
+def other_basin_kinds(depth, p_basin, p, q_basin, q, answer):
+    if answer == ('Refused', 2):
+        yield '2' + ANOTHER
+    elif answer == ('Refused', 11):
+        bad = [not reference.is_label(label, depth) for label in (p, q)]
+        yield '11 for %s' % ('both' if all(bad) else 'pq'[bad.index(True)]) + ANOTHER
+    else:
+        other = reference.outlet_flow(depth, 1, p, 1, q)
+        yield 'No for %s' % (other[1] if isinstance(other, tuple) else other) + ANOTHER
+        if other == 'Same':  # nothing but the basins makes it No
+            differing = p_basin ^ q_basin
+            alike = {8: differing % 2 ** 8 == 0, 16: differing % 2 ** 16 == 0, 31: differing % 2 ** 31 == 0}
+            yield from ('No with basins alike in %d bits' % bits for bits, holds in alike.items() if holds)
+            yield 'No with basins in %s order' % ('rising' if p_basin < q_basin else 'falling')
+
+
+def one_basin_kinds(depth, p, q, answer):
+    """Of labels of one basin."""
     if answer == ('Refused', 11):
         bad = [not reference.is_label(label, depth) for label in (p, q)]
         if sum(bad) == 1:
@@ -83,7 +131,7 @@ def label_kinds(depth, p, q, answer):
         yield '12 between 18 and 19 digits' if sorted(map(len, texts)) == [18, 19] else '12' + PAST
     if answer == 'Same' and p[1] != 0:
         yield 'Same with more than 18 digits'
-    if answer == 'No' and p[0] != q[0] and reference.outlet_flow(depth, (p[0], 0), (q[0], 0)) == 'Yes':
+    if answer == 'No' and p[0] != q[0] and reference.outlet_flow(depth, 1, (p[0], 0), 1, (q[0], 0)) == 'Yes':
         yield 'No by an even digit' + PAST
     if answer in ('No', 'Yes') and p[0] != q[0] and p[1] == q[1] != 0:
         yield 'other first numbers, equal second ones'
@@ -127,9 +175,29 @@ def made(rng, depth):
     return records
 
 
-def questions(rng, count):
-    """As (depth, leasts, p, q): some that are always asked, told every least, then with labels of each length and with
-    records that are no labels at each depth; and so many random ones, told 1 and another."""
+# Pairs of labels at depth 3 that are Same, refused by 12, Yes, No, Undecided, or refused by 11 for p, q or both.
+ASKED = [('91', '91'), ('', ''), ('9', '91'), ('91', '9'), ('', '5'), ('1', '3'), ('3', '1'), ('2', '3'), ('111', '12'),
+         ('105', '9'), ('9', '105'), ('105', '105'), ('1111', '2'), ('2', '1111')]
+
+
+def in_basins(rng, p, q):
+    """The labels with basins: mostly of one."""
+    basin = lent_basins.some_basin(rng)
+    return (basin, p), (basin if rng.random() < 0.7 else lent_basins.other_than(rng, basin), q)
+
+
+def basin_questions(rng):
+    """Every two of some basins, with labels of each answer, also at a bad depth and with a bad least."""
+    for p_basin in lent_basins.EDGES:
+        for q_basin in lent_basins.EDGES:
+            for p, q in ASKED:
+                p, q = (p_basin, record_of(p)), (q_basin, record_of(q))
+                yield rng.choice([3, 3, 3, 3, 0, 37]), [1, rng.choice(LEASTS)], p, q
+
+
+def label_questions(rng, count):
+    """As (depth, leasts, p, q) without basins: some that are always asked, told every least, then with labels of each
+    length and with records that are no labels at each depth; and so many random ones, told 1 and another."""
     for depth, p, q in ALWAYS:
         yield depth, LEASTS, p, q
     for depth in depths.EDGES + depths.BAD:
@@ -143,3 +211,13 @@ def questions(rng, count):
     for _ in range(count):
         depth = rng.choice([1, 2, 3, 4, 18, 36, 36, rng.choice(depths.EDGES), rng.randint(0, 40)])
         yield depth, [1, rng.choice(LEASTS + [rng.randint(2, MOST), rng.getrandbits(64)])], *made(rng, depth)
+
+
+def questions(rng, count):
+    """As (depth, leasts, p, q): each of those above in one basin, and some of them in two."""
+    yield from basin_questions(rng)
+    for depth, leasts, p, q in label_questions(rng, count):
+        basin = lent_basins.some_basin(rng)
+        yield depth, leasts, (basin, p), (basin, q)
+        if rng.random() < 0.3:
+            yield depth, leasts, *in_basins(rng, p, q)

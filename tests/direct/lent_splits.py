@@ -1,11 +1,11 @@
 """Makes the sheets of tests/direct/cases.py that are labelled with least and split, good and bad; tells of which kinds
 these are."""
 import depths
-import fuzz
 import lent_weights
 import long_labels
 import other_splits
 import reference
+import shapes
 import splits
 import weights
 
@@ -16,8 +16,8 @@ BAD_LEASTS = [0, MOST + 1, 99999999, 2 ** 31, 2 ** 32 - 1, 2 ** 32, 2 ** 32 + 1,
               LARGEST]
 BAD_SPLITS = [0, 5, 6, 255, 256, 256 + 4, 65536 + 4, 2 ** 32, 2 ** 32 + 1, 2 ** 32 + 4, 2 ** 63 + 4, LARGEST]
 SPLITS = range(1, reference.MAX_SPLIT + 1)
-REFUSALS = [3, 17, 4, 5, 6, 7]  # of labelling, after 19
-SMALL = 400  # cells of a sheet with short labels that is labelled in other ways too
+REFUSALS = [3, 17, 4, 5, 6]  # of labelling, after 19
+SMALL = 400  # cells of a sheet with one basin and short labels that is labelled in other ways too
 SAMPLE_A = [0, 4, 16, 8, 16, 16, 16, 16, 64, 64, 32, 64]
 
 # What is counted of a sheet: refused,
@@ -79,7 +79,7 @@ def kinds_of_accepted(sheet, dirs, lent, labelled):
     longest = long_labels.longest(labelled[3])
     if longest in (18, 36) and split < 4:
         yield '%d digits with split %d' % (longest, split)
-    if rows * cols <= SMALL and longest <= reference.MAX_DIGITS:
+    if rows * cols <= SMALL and longest <= reference.MAX_DIGITS and max(labelled[4]) == 1:
         yield from kinds_of_small(sheet, dirs, lent, labelled[3])
 
 
@@ -91,8 +91,8 @@ def kinds_of_small(sheet, dirs, lent, labels):
     yield from (UNLIKE % name for name in other_splits.names_unlike(sheet, dirs, lent, labels))
 
 
-# Sheets, as (sheet, directions, weights, lengths of areas, labels and work places). A sheet is (rows, cols, depth,
-# least, split).
+# Sheets, as (sheet, directions, weights, lengths of areas, labels, basins and work places). A sheet is (rows, cols,
+# depth, least, split).
 
 def exact(rows, cols):
     return reference.lengths_for(rows * cols)
@@ -103,16 +103,16 @@ def refusable():
     directions, the weights and the lengths, all that is needed but least and split."""
     yield (3, 4, 2), SAMPLE_A, [1, 1, 1], exact(3, 4)
     yield (257, 1, 2), [4] * 257, [1] * 257, exact(257, 1)
-    yield (0, 0, 0), [], [], [0, 0, 0]
+    yield (0, 0, 0), [], [], [0] * 4
     yield (3, 4, 37), SAMPLE_A, [1, 1, 1], exact(3, 4)
     yield (3, 4, 0), SAMPLE_A, [1, 1, 1], exact(3, 4)
-    for missing in range(5):
-        lengths = [12, 3, 12, 24, 96]
+    for missing in range(6):
+        lengths = [12, 3, 12, 24, 12, 96]
         lengths[missing] -= 1
         yield (3, 4, 2), SAMPLE_A[:lengths[0]], [1, 1, 1][:lengths[1]], lengths[2:]
-    yield (3, 4, 36), [], [], [0, 0, 0]
+    yield (3, 4, 36), [], [], [0] * 4
     yield (3, 4, 2), SAMPLE_A, [1, 1, 1001], exact(3, 4)
-    for dirs in ([5, 0], [0, 0], [1, 16], [16, 1]):
+    for dirs in ([5, 0], [0, 0], [1, 16]):
         yield (1, 2, 1), dirs, [1], exact(1, 2)
 
 
@@ -133,7 +133,7 @@ def many_mouths(rng):
         for depth in (18, 36):
             for cols in (12, 25, split * depth + 3):
                 for least in (1, 2):
-                    dirs = fuzz.comb(rng, 2, cols)
+                    dirs = shapes.comb(rng, 2, cols)
                     yield (2, cols, depth, least, split), dirs, rng.choice([[1, 1], [1, 2], [2, 1]]), exact(2, cols)
 
 
@@ -144,7 +144,7 @@ def two_halves(rng, rows, cols):
 
 
 def large(rng):
-    for shape, kind, share in [(two_halves, weights.all_largest, 1), (fuzz.northwest, weights.any_weights, 0.5)]:
+    for shape, kind, share in [(two_halves, weights.all_largest, 1), (shapes.northwest, weights.any_weights, 0.5)]:
         dirs = shape(rng, 256, 256)
         lent = kind(rng, 256, 256, dirs)
         found = sorted(set(splits.mouth_areas(256, 256, dirs, lent)))
@@ -161,7 +161,7 @@ def by_chance(rng, count):
     """So many sheets of any shape, with any weights; sometimes with too few places or a weight at fault."""
     for _ in range(count):
         rows, cols = random_sides(rng)
-        dirs = rng.choice(fuzz.SHAPES + 3 * [fuzz.flat, fuzz.northwest])(rng, rows, cols)
+        dirs = rng.choice(shapes.SHAPES + 3 * [shapes.flat, shapes.northwest])(rng, rows, cols)
         lent = rng.choice([weights.all_one, weights.made, lent_weights.chosen])(rng, rows, cols, dirs)
         found = splits.mouth_areas(rows, cols, dirs, lent)
         least, split = splits.chosen(rng, found)

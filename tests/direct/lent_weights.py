@@ -11,7 +11,7 @@ ROWS = ['first', 'middle', 'last']
 KINDS = (['equal areas of unequal counts', 'another heaviest donor than by counts', 'area over 65536', 'area 65536000',
           'accepted with 1', 'accepted with 1000', 'short', 'longer', 'bad past the rows', '3 before 17']
          + ['17 at %d' % value for value in BAD] + ['17 in the %s row' % row for row in ROWS]
-         + ['17 in a row without an inside cell'] + ['17 before %d' % number for number in (4, 5, 6, 7)])
+         + ['17 in a row without an inside cell'] + ['17 before %d' % number for number in (4, 5, 6)])
 
 
 def kinds(sheet, dirs, lent, labelled):

@@ -1,5 +1,5 @@
-"""Ways to share a total among units that are not the one asked for. The calls of tests/direct/levies.py must tell each
-of them from the right one."""
+"""Ways to share a total among the units of a basin that are not the one asked for. The calls of tests/direct/levies.py
+must tell each of them from the right one."""
 from itertools import accumulate
 
 import reference
@@ -13,7 +13,9 @@ NAMES = ['shares rounded down', 'shares rounded up', 'shares rounded to the near
          'sums in reading order of outlets', 'sums in order of labels as numbers',
          'sums in order of the first 18 digits alone', 'counts of cells as weights',
          'areas of outlets as weights', 'all cells of a unit weighed as its outlet', 'the count of cells as the whole',
-         'outside cells in the whole', 'the due of the unit before']
+         'outside cells in the whole', 'the due of the unit before', 'the whole of all basins',
+         'sums from the first unit of all basins', 'shared among the units of all basins',
+         'the dues of the first basin', 'the dues of the next basin']
 
 
 # Roundings of parts / whole.
@@ -34,7 +36,7 @@ def by_double(parts, whole):
     return int(float(parts) / whole)
 
 
-# Dues. `summed` are the weights of the units in index order.
+# Dues. `summed` are the weights of the units of the basin in index order.
 
 def by_shares(total, summed, rounded):
     """Each share rounded by itself."""
@@ -81,10 +83,10 @@ def of_shares(total, summed):
             'shares rounded down, a cent more for the largest parts of a cent': cents_to(total, floors, by_part)}
 
 
-def of_sums(total, summed, sheet):
-    """Those with sums of weights; the sheet is as in tests/direct/levies.py."""
+def of_sums(total, summed, sheet, units):
+    """Those with sums of weights; the sheet is as in tests/direct/levies.py, and `units` are those of the basin."""
     (rows, cols), lent, areas = sheet.sizes[:2], sheet.lent, sheet.labelled[2]
-    labels, outlets, counts = zip(*sheet.units)
+    labels, outlets, counts, _ = zip(*units)
     whole = sum(summed)
     first_digits = [(reference.digits_of((first, 0)), outlet) for (first, rest), outlet in zip(labels, outlets)]
     as_outlets = [count * lent[outlet // cols] for outlet, count in zip(outlets, counts)]
@@ -102,8 +104,25 @@ def of_sums(total, summed, sheet):
             'the due of the unit before': [0, *reference.dues_of(total, summed)[:-1]]}
 
 
+def of_basins(call, summed):
+    """Those that mistake the basin; none where the sheet has one."""
+    sheet, total, basin = call.sheet, call.total, call.basin
+    if sheet.basins() == 1:
+        return {}
+    before = sum(unit[3] < basin for unit in sheet.units)
+    all_basins = reference.dues_of(total, sheet.weights)[before:before + len(summed)]
+    ahead = sum(sheet.weights[:before])
+    owed = [total * first // sum(summed) for first in accumulate([ahead, *summed])]
+    return {'the whole of all basins': by_sums(total, summed, sum(sheet.weights), down),
+            'sums from the first unit of all basins': [after - before for before, after in zip(owed, owed[1:])],
+            'shared among the units of all basins': all_basins,
+            'the dues of the first basin': reference.dues_of(total, sheet.of_basin(1)[1]),
+            'the dues of the next basin': reference.dues_of(total, sheet.of_basin(basin % sheet.basins() + 1)[1])}
+
+
 def names_unlike(call, dues):
     """The names of those that differ from these dues of an accepted call."""
-    total, summed = call.total, call.sheet.summed
-    others = {**of_shares(total, summed), **of_sums(total, summed, call.sheet)}
+    units, summed = call.sheet.of_basin(call.basin)
+    others = {**of_shares(call.total, summed), **of_sums(call.total, summed, call.sheet, units),
+              **of_basins(call, summed)}
     return [name for name, other in others.items() if other != dues]

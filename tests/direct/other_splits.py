@@ -6,9 +6,9 @@ import reference
 
 
 class Basin(NamedTuple):
-    donors: list  # of each cell, from lightest to heaviest
-    areas: list
-    counts: list  # of the cells whose water passes
+    donors: dict  # of each inside cell, from lightest to heaviest
+    areas: dict
+    counts: dict  # of the cells whose water passes
     outlet: int
 
 
@@ -20,21 +20,21 @@ class Rule(NamedTuple):
 
 
 def basin_of(rows, cols, dirs, lent):
-    """Of an accepted sheet."""
-    inside = [cell for cell in range(rows * cols) if dirs[cell] != reference.OUTSIDE]
-    donors, (outlet,) = reference.donors_and_outlets(rows, cols, dirs, inside)
+    """Of an accepted sheet with one basin."""
+    donors, (outlet,) = reference.donors_and_outlets(rows, cols, reference.codes_of(dirs[:rows * cols]))
     drained = reference.upstream(donors, [outlet])
     areas, counts = (reference.areas_of(cols, weights, donors, drained) for weights in (lent, [1] * rows))
     return basin_by(donors, areas, counts, outlet)
 
 
 def basin_by(donors, areas, counts, outlet):
-    return Basin([sorted(cells, key=lambda cell: (areas[cell], cell)) for cells in donors], areas, counts, outlet)
+    by_weight = {cell: sorted(own, key=lambda donor: (areas[donor], donor)) for cell, own in donors.items()}
+    return Basin(by_weight, areas, counts, outlet)
 
 
 def without_small(basin, least):
     """The basin with areas to which no tributary below `least` adds."""
-    areas = [0] * len(basin.areas)
+    areas = {}
     for cell in reversed(reference.upstream(basin.donors, [basin.outlet])):
         donors = basin.donors[cell]
         small = sum(areas[donor] for donor in donors[:-1] if basin.areas[donor] < least)
@@ -123,8 +123,8 @@ def mouth_alone(basin, labels, unit, digits):
 
 
 def labels_by(basin, depth, least, split, rule, parts=None, finished=finish, taken_of_all=False):
-    """The digits of each cell."""
-    labels = [''] * len(basin.donors)
+    """The digits of each inside cell."""
+    labels = dict.fromkeys(basin.donors, '')
     units = [(reference.river_list(basin.donors, basin.outlet), '')]
     while units:
         unit, digits = units.pop()
@@ -163,6 +163,7 @@ def labellings(basin, depth, least, split):
 def names_unlike(sheet, dirs, lent, labels):
     """The names of those that give an accepted sheet other labels than these."""
     rows, cols, depth, least, split = sheet
-    basin, labels = basin_of(rows, cols, dirs, lent), list(map(reference.digits_of, labels))
+    basin = basin_of(rows, cols, dirs, lent)
+    labels = {cell: reference.digits_of(labels[cell]) for cell in basin.donors}
     assert labels_by(basin, depth, least, split, RIGHT) == labels, 'other labels by the right rule'
     return [name for name, other in labellings(basin, depth, least, split).items() if other != labels]

@@ -1,11 +1,12 @@
 """Makes the calls of tests/direct/cases.py that ask the flow question about many pairs: a depth, least, the labels of P
-and of Q, as records, a number of places for the answers, and odd numbers at the ends of the slices, good and bad; tells
-of which kinds they are."""
+and of Q, as records, their basins, a number of places for the answers, and odd numbers at the ends of the label slices,
+good and bad; tells of which kinds they are."""
 from collections import Counter
 from typing import NamedTuple
 
 import depths
 import flows
+import lent_basins
 import no_labels
 import reference
 from reference import digits_of, numbers_of, record_of
@@ -44,10 +45,18 @@ PLACE_KINDS = ['first pair refused', 'pair between refused', 'last pair refused'
 REFUSED_KINDS = ['refused by 2', 'refused by 19', 'refused by 3', '2 before 19', '2 before 3', '19 before 3',
                  'refused by 2 with nothing lent', 'refused by 19 with nothing lent', '3 with least above 1']
 LEAST_KINDS = ['another answer with least 1', 'refused pairs with least above 1', 'Same or No with least above 1']
+BASIN_LENGTHS = ['%s: ' + kind for kind in ('as many as pairs', 'one more', 'many more', 'fewer than labels',
+                                           'one too few alone', 'several too few alone', 'none, alone')]
+BASIN_KINDS = [kind % name for name in ('basins of P', 'basins of Q') for kind in BASIN_LENGTHS]
+BASIN_KINDS += ['both basin slices too short', 'no basins and no pairs', '2 before 3 of the basins',
+                '19 before 3 of the basins', 'equal basins', 'unequal basins', 'some basins equal and some not',
+                'another answer by the basins of the pair before', 'another answer by the basins of the first pair']
+BASIN_KINDS += ['pairs No for %s in another basin' % answer for answer in ('Yes', 'No', 'Same', 'Undecided', '12')]
+BASIN_KINDS += ['pairs refused by 11 in another basin']
 KINDS = (['accepted'] + REFUSED_KINDS + LEAST_KINDS + [AT_DEPTH % depth for depth in DEPTHS + BAD_DEPTHS]
          + [AT_LEAST % least for least in flows.LEASTS] + ROOM_KINDS + LENGTH_KINDS + ODD_KINDS + PLACE_KINDS
          + ['one label as Q', 'more than 65535 pairs with one label as Q', 'one label as P',
-            'another answer with P and Q exchanged'] + PAIR_KINDS)
+            'another answer with P and Q exchanged'] + PAIR_KINDS + BASIN_KINDS)
 
 
 class Call(NamedTuple):
@@ -58,9 +67,15 @@ class Call(NamedTuple):
     room: int  # places for answers
     p_odd: list = []  # an odd number at the end of P's slice, or none
     q_odd: list = []
+    p_basins: list = None
+    q_basins: list = None
 
     def slices(self):
         return numbers_of(self.p) + self.p_odd, numbers_of(self.q) + self.q_odd
+
+    def pairs(self):
+        """As (p's basin, p, q's basin, q), of a call that is accepted."""
+        return list(zip(self.p_basins, self.p, self.q_basins, self.q))
 
 
 # What is counted.
@@ -96,11 +111,52 @@ def long_kinds(depth, p, q, answer):
 def pair_counts(call, answers):
     counted = Counter(answers)
     found = Counter({'pairs ' + name: counted[number] for name, number in reference.ANSWERS.items()})
-    for p, q, answer in zip(call.p, call.q, answers):
+    for (p_basin, p, q_basin, q), answer in zip(call.pairs(), answers):
+        if p_basin != q_basin:
+            found[other_basin_kind(call, p, q, answer)] += 1
+            continue
         if is_refused(answer):
             found[pair_kind(call.depth, p, q, answer)] += 1
         if is_refused(answer) or p[0] == q[0]:
             found.update(long_kinds(call.depth, p, q, answer))
+    return found
+
+
+def other_basin_kind(call, p, q, answer):
+    """The kind of a pair of two basins: what its answer stands for."""
+    if is_refused(answer):
+        return 'pairs refused by 11 in another basin'
+    other = reference.flow(call.depth, call.least, 1, p, 1, q)
+    return 'pairs No for %s in another basin' % (other[1] if isinstance(other, tuple) else other)
+
+
+def basin_length_kinds(call, number):
+    """Of the lengths of the basin slices of a call at a good depth with a good least."""
+    count = min(len(call.p), len(call.q))
+    more = [len(call.p_basins) - count, len(call.q_basins) - count]
+    found = {'both basin slices too short': max(more) < 0, 'no basins and no pairs': count == 0 == max(more)}
+    for name, labels, own, other in (('P', call.p, *more), ('Q', call.q, *more[::-1])):
+        kinds = [kind % ('basins of ' + name) for kind in BASIN_LENGTHS]
+        alone = own < 0 <= other and call.room >= count
+        holds = [number == 0 and own == 0, number == 0 and own == 1, number == 0 and own > 1,
+                 number == 0 and count + own < len(labels), alone and own == -1, alone and own < -1,
+                 alone and own == -count]
+        found.update(zip(kinds, holds))
+    return found
+
+
+def basin_kinds(call, answers):
+    """Of an accepted call with pairs."""
+    pairs = call.pairs()
+    equal = [p_basin == q_basin for p_basin, _, q_basin, _ in pairs]
+    found = {'equal basins': all(equal), 'unequal basins': not any(equal),
+             'some basins equal and some not': any(equal) and not all(equal)}
+    if 1 < len(pairs) <= 1000 and not all(equal):
+        first = [(pairs[0][0], p, pairs[0][2], q) for _, p, _, q in pairs]
+        before = [(a[0], b[1], a[2], b[3]) for a, b in zip(pairs[-1:] + pairs, pairs)]
+        for name, others in (('pair before', before), ('first pair', first)):
+            given = [reference.answer_number(reference.flow(call.depth, call.least, *pair)) for pair in others]
+            found['another answer by the basins of the ' + name] = given != answers
     return found
 
 
@@ -118,15 +174,16 @@ def label_kinds(call, answers):
     """Of an accepted call with pairs."""
     count = len(answers)
     one_p, one_q = (count > 1 and len(set(labels[:count])) == 1 for labels in (call.p, call.q))
-    exchanged = any(reference.answer_number(reference.flow(call.depth, call.least, q, p)) != answer
-                    for p, q, answer in zip(call.p, call.q, answers))
+    exchanged = any(reference.answer_number(reference.flow(call.depth, call.least, q_basin, q, p_basin, p)) != answer
+                    for (p_basin, p, q_basin, q), answer in zip(call.pairs(), answers))
     return {'one label as Q': one_q, 'more than 65535 pairs with one label as Q': one_q and count > 65535,
             'one label as P': one_p, 'another answer with P and Q exchanged': exchanged}
 
 
 def least_kinds(call, answers):
     """Of an accepted call with least above 1."""
-    without = reference.flow_pairs(call.depth, 1, *call.slices(), call.room)[1]
+    p, q = call.slices()
+    without = reference.flow_pairs(call.depth, 1, p, call.p_basins, q, call.q_basins, call.room)[1]
     return {'another answer with least 1': without != answers,
             'refused pairs with least above 1': any(map(is_refused, answers)),
             'Same or No with least above 1': any(answer in (0, 2) for answer in answers)}
@@ -156,7 +213,7 @@ def odd_kinds(call, number):
 
 
 def room_kinds(call, number):
-    """Of a call at a good depth with a good least."""
+    """Of a call at a good depth with a good least and enough basins."""
     count, longer = sorted([len(call.p), len(call.q)])
     more = call.room - count
     if number == 3:
@@ -169,6 +226,7 @@ def room_kinds(call, number):
 def counts(call, number, answers):
     """How many there are of each kind, once a call has given its refusal number, or 0, and the answers."""
     count = min(len(call.p), len(call.q))
+    enough = min(len(call.p_basins), len(call.q_basins)) >= count
     found = {'refused by %d' % number if number else 'accepted': True}
     if call.depth in DEPTHS + BAD_DEPTHS:
         found[AT_DEPTH % call.depth] = True
@@ -178,8 +236,10 @@ def counts(call, number, answers):
         found['%d before 3' % number] = call.room < count
         found['refused by %d with nothing lent' % number] = len(call.p) == len(call.q) == call.room == 0
         found['2 before 19'] = number == 2 and not reference.is_least(call.least)
+        found['%d before 3 of the basins' % number] = call.room >= count and not enough
     else:
-        found.update(room_kinds(call, number))
+        found.update(room_kinds(call, number) if enough else {})
+        found.update(basin_length_kinds(call, number))
         found['3 with least above 1'] = number == 3 and call.least > 1
     if call.p_odd or call.q_odd:
         found.update(odd_kinds(call, number))
@@ -188,7 +248,8 @@ def counts(call, number, answers):
     if number == 0 and call.least > 1:
         found.update(least_kinds(call, answers))
     if number == 0 and count > 0:
-        found.update(**place_kinds(answers), **label_kinds(call, answers), **pair_counts(call, answers))
+        found.update(**place_kinds(answers), **label_kinds(call, answers), **pair_counts(call, answers),
+                     **basin_kinds(call, answers))
     return found
 
 
@@ -237,7 +298,7 @@ def pair_with(rng, depth, wanted):
     """A pair whose answer is as wanted: `wanted` is a test of the answer and the pair."""
     while True:
         p, q = pair(rng, depth, 0.5)
-        if wanted(reference.flow(depth, 1, p, q), p, q):
+        if wanted(reference.flow(depth, 1, 1, p, 1, q), p, q):
             return p, q
 
 
@@ -350,14 +411,16 @@ def gauges(rng):
 
 
 def of_sheets(rng, indexes):
-    """The labels of sheets: each with one of them, and each with any other."""
-    for labels in rng.sample(indexes, min(len(indexes), SHEETS)):
-        longest = max(len(digits_of(label)) for label in labels)
+    """The labels of sheets with their basins: each with one of them, and each with any other."""
+    for units in rng.sample(indexes, min(len(indexes), SHEETS)):
+        longest = max(len(digits_of(label)) for _, label in units)
         depth = rng.choice([depths.good(longest), depths.good(longest + 1), reference.MAX_DEPTH])
-        count = len(labels)
+        count = len(units)
         least = rng.choice(flows.GOOD_LEASTS)
-        yield Call(depth, 1, labels, [rng.choice(labels)] * count, count)
-        yield Call(depth, least, labels, rng.choices(labels, k=count), count + rng.randint(0, 1), *odd(rng))
+        (p_basins, p), (q_basins, q) = zip(*units), zip(*rng.choices(units, k=count))
+        one_basin, one = rng.choice(units)
+        yield Call(depth, 1, list(p), [one] * count, count, [], [], list(p_basins), [one_basin] * count)
+        yield Call(depth, least, list(p), list(q), count + rng.randint(0, 1), *odd(rng), list(p_basins), list(q_basins))
 
 
 def by_chance(rng, count):
@@ -372,12 +435,70 @@ def by_chance(rng, count):
         count -= pairs
 
 
+# Basins.
+
+def basins_for(rng, count):
+    """The basins of P and of Q for so many pairs: mostly the same at each place, else some or all of them others."""
+    share = rng.choice([0, 0, 0, 0, 0.1, 0.5, 1])
+    one = lent_basins.some_basin(rng)
+    p = [one] * count if rng.random() < 0.5 else [lent_basins.some_basin(rng) for _ in range(count)]
+    q = [lent_basins.other_than(rng, basin) if rng.random() < share else basin for basin in p]
+    return p, q
+
+
+def basin_length(rng, count, short):
+    """A number of places for the basins of so many pairs; by the chance `short` too few."""
+    if count > 0 and rng.random() < short:
+        return rng.choice([0, count - 1, count - 1, rng.randrange(count)])
+    return count + rng.choice([0, 0, 0, 1, rng.randint(0, MANY)])
+
+
+def with_basins(rng, call, short=0.03):
+    """The call with basins, if it has none."""
+    if call.p_basins is not None:
+        return call
+    count = min(len(call.p), len(call.q))
+    lent = [basin_length(rng, count, short) for _ in range(2)]
+    p, q = basins_for(rng, max(lent))
+    return call._replace(p_basins=p[:lent[0]], q_basins=q[:lent[1]])
+
+
+def basin_lengths(rng):
+    """Every number of basins that matters, for each number of pairs, and with places for the answers enough or too
+    few; at bad depths and with a bad least too."""
+    for count in (0, 1, 2, 3, 8, 100):
+        lent = sorted({0, 1, max(0, count - 2), max(0, count - 1), count, count + 1, count + MANY})
+        for p_lent in lent:
+            for q_lent in lent:
+                for room in {max(0, count - 1), count, count + 1}:
+                    depth, least = rng.choice([(3, 1)] * 8 + [(36, 2), (0, 1), (3, 0)])
+                    p, q = some_pairs(rng, depths.good(depth), count)
+                    p_more, q_more = rng.choice([(0, 0), (0, 0), (1, 0), (0, 1), (9, 0)])
+                    p_basins, q_basins = basins_for(rng, max(p_lent, q_lent))
+                    yield Call(depth, least, p + past(rng, p_more), q + past(rng, q_more), room, *odd(rng),
+                               p_basins[:p_lent], q_basins[:q_lent])
+
+
+def of_two_basins(rng):
+    """Pairs of each answer, in one basin and in two, side by side."""
+    asked = [tuple(map(record_of, texts)) for texts in flows.ASKED]
+    for p_basin in lent_basins.EDGES:
+        for q_basin in lent_basins.EDGES:
+            p, q = parted(asked + asked)
+            count = len(asked)
+            yield Call(3, rng.choice([1, 1, 2]), p, q, 2 * count, [], [], [p_basin] * 2 * count,
+                       [q_basin] * count + [p_basin] * count)
+
+
 def questions(rng, count, indexes):
     """A fixed number of calls, some about the labels of sheets, and random ones with `count` pairs in all."""
-    yield from small(rng)
-    yield from lengths(rng)
-    yield from refused_places(rng)
-    yield from edges()
-    yield from gauges(rng)
-    yield from of_sheets(rng, indexes)
-    yield from by_chance(rng, count)
+    yield from basin_lengths(rng)
+    yield from of_two_basins(rng)
+    for call in small(rng):
+        yield with_basins(rng, call, 0.1)
+    for call in edges():
+        basins = [lent_basins.some_basin(rng)] * len(call.p)
+        yield call._replace(p_basins=basins, q_basins=basins)
+    for made in (lengths(rng), refused_places(rng), gauges(rng), of_sheets(rng, indexes), by_chance(rng, count)):
+        for call in made:
+            yield with_basins(rng, call)

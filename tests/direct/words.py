@@ -1,7 +1,7 @@
 """Makes the words of tests/direct/cases.py, each of eight directions with the lowest byte first, and sheets whose
 directions are checked as words and a rest; tells of which kinds they are."""
-import fuzz
 import reference
+import shapes
 
 BYTES = 8  # of a word
 CODES = [reference.OUTSIDE, *reference.STEPS]
@@ -54,7 +54,7 @@ def sheet_kinds(sheet, dirs, labelled):
             yield 'several bad'
         if past:
             yield 'bad in the sheet and past it'
-    elif past and number in (0, 5, 6, 7):  # the directions were checked
+    elif past and number in (0, 5, 6):  # the directions were checked
         yield 'bad past the sheet alone'
         if number == 0:
             yield 'bad past the sheet alone, accepted'
@@ -159,6 +159,6 @@ def sheets(rng):
                 for dirs in bad_sheets(rng, n, first):
                     yield rows, cols, dirs
             for longer in range(MOST_PAST + 1):
-                yield rows, cols, rng.choice(fuzz.SHAPES)(rng, rows, cols) + bad_bytes(rng, longer)
+                yield rows, cols, rng.choice(shapes.SHAPES)(rng, rows, cols) + bad_bytes(rng, longer)
     for count in (1, BYTES, BYTES + 1):
         yield 256, 256, codes(rng, 65536 - count) + bad_bytes(rng, count)

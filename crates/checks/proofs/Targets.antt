@@ -2,12 +2,11 @@
 use mathlib.Core.Path.{_≡_}
 use mathlib.Core.Bool.{false, not}
 use mathlib.Core.List.{List}
-use Prim.Native.Nat.{ℕ, _<_, _≤_}
+use Prim.Native.Nat.{ℕ, _<_}
 use lib.Dec.{eqb}
 use lib.ListN.{getD}
-use borrow.Author.Tests.{le-leb, lt-leb}
-use Rattle.sheet.specs.Sheet.{Grid, cells, dirAt, isOutlet}
-use Rattle.checks.specs.declared.Target.the-variants.{Inside, Unreached, OutletFrom}
+use Rattle.sheet.specs.Sheet.{Grid, cells, dirAt}
+use Rattle.checks.specs.declared.Target.the-variants.{Inside, Unreached}
 use Rattle.checks.specs.Search.{isTarget}
 use Rattle.sheet.proofs.Cells.{inside-no, inside-is, inside-yes}
 
@@ -23,11 +22,3 @@ module _ (G : Grid) (reached : List ℕ) (c : ℕ) where
   pub unreached-inside : c < cells G → (dirAt G c ≡ 0 → ⊥) → isTarget G reached Unreached c ≡ eqb (getD reached c 0) 0
   unfolding isTarget
   unreached-inside on ne = rw (inside-yes G c on ne)
-
-  pub outlet-before : {from : ℕ} → c < from → isTarget G reached (OutletFrom from) c ≡ false
-  unfolding isTarget
-  outlet-before {from} l = rw (lt-leb from c l)
-
-  pub outlet-from : {from : ℕ} → from ≤ c → isTarget G reached (OutletFrom from) c ≡ isOutlet G c
-  unfolding isTarget
-  outlet-from {from} l = rw (le-leb from c l)

@@ -1,25 +1,24 @@
-// The tests of checks 1, 2, 19, 17 and 4 to 7: sizes, depth, least and split, weights, and the first cell in reading
-// order that a check looks for; whether two labels are the same, and the label at a place of a slice.
+// The tests of checks 1, 2, 19, 17 and 4 to 6: sizes, depth, least and split, weights, and the first cell in reading
+// order that a check looks for; whether two labels or units are the same, and those at a place of lent slices.
 pub mod codes;
 
 use sheet::Found;
 use sheet::Label;
+use sheet::UnitName;
 ghost use mathlib.Core.Path.{_≡_};
 ghost use Prim.Native.Nat.{_+_, _*_, _≤_, _<_};
 ghost use lib.ListN.{length};
 ghost use Rattle.sheet.specs.Sheet.{grid, first};
 ghost use Rattle.directions.specs.Sizes.{OnSheet, Sized};
-ghost use Rattle.sheet.specs.Record.{sameLabel, labelPlaces, labelAt};
+ghost use Rattle.sheet.specs.Record.{sameLabel, labelPlaces, labelAt, sameUnit, unitAt};
 ghost use Rattle.sheet.specs.Refusal.{within, sizesFit, depthFits, leastFits, splitFits, leastAndSplitFit};
 ghost use Rattle.sheet.specs.Refusal.{sheetFault, weightFits, weightsFit};
 ghost use Rattle.checks.specs.Search.{isTarget};
 
-// What a search in reading order looks for: an inside cell, an inside cell that a search upstream did not reach, an
-// outlet from a cell on.
+// What a search in reading order looks for: an inside cell, or an inside cell that a search upstream did not reach.
 pub enum Target {
     Inside,
     Unreached,
-    OutletFrom(usize),
 }
 
 // Whether the cell in a row and a column is one that is looked for.
@@ -45,12 +44,6 @@ fn is_target(
                 return false;
             }
             reached[cell] == 0
-        }
-        Target::OutletFrom(from) => {
-            if cell < from {
-                return false;
-            }
-            directions::is_outlet(dirs, rows, cols, row, col)
         }
     }
 }
@@ -161,6 +154,28 @@ pub fn label_at(labels: &[u64], place: usize) -> Label
     Label {
         first: labels[2 * place],
         rest: labels[2 * place + 1],
+    }
+}
+
+// Two units are the same: their basins and their labels are equal.
+pub fn same_unit(p: UnitName, q: UnitName) -> bool
+    ensures { λ r. ⌜ r ≡ sameUnit p q ⌝ }
+{
+    if p.basin == q.basin {
+        return same_label(p.label, q.label);
+    }
+    false
+}
+
+// The unit at a place of a slice of basins and a slice of labels.
+pub fn unit_at(basins: &[u32], labels: &[u64], place: usize) -> UnitName
+    requires { ⌜ place < length (now basins) ⌝ }
+    requires { ⌜ place < labelPlaces (length (now labels)) ⌝ }
+    ensures { λ r. ⌜ r ≡ unitAt (now (basins .entry)) (now (labels .entry)) place ⌝ }
+{
+    UnitName {
+        basin: basins[place],
+        label: label_at(labels, place),
     }
 }
 

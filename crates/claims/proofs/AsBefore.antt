@@ -11,7 +11,7 @@ use Rattle.sheet.specs.Sheet.{Sheet, inside}
 use Rattle.sheet.specs.River.{Network, network, heavier, donors, Run, stem, mouth, upstream, riverWithin, river}
 use Rattle.sheet.specs.Unit.{finished, taken, Parts, last, part, prepend, cutAt, parts}
 use Rattle.sheet.specs.Record.{number, labelOfNumbers, recordOf}
-use Rattle.sheet.specs.Label.{passesIn, holds, placeIn, placeOf, label, outlet, outletOf, labelDigits}
+use Rattle.sheet.specs.Label.{passesIn, holds, placeIn, placeOf, label, outletOf, labelDigits}
 use Rattle.sheet.specs.Refusal.{Lent, outcome, lentAfter}
 use Rattle.sheet.proofs.Records.{record-one-number}
 use Rattle.claims.specs.Demand.{AllCounted, Inside}
@@ -21,9 +21,9 @@ use Rattle.claims.specs.AsBefore.{everyMouth, digitsBy, AsBefore, number
 use Rattle.claims.proofs.Runs.{In}
 use Rattle.claims.proofs.Rivers.{mouth-goes, river-headed, river-covers}
 use Rattle.claims.proofs.Parts.{place-headed, place-holds}
-use Rattle.claims.proofs.Basins.{lawful, drain, own-outlet}
+use Rattle.claims.proofs.Basins.{lawful}
 use Rattle.claims.proofs.Units.{digitsIn}
-use Rattle.claims.proofs.Written.{the-basin, at-most-depth, label-written, label-from-outlet}
+use Rattle.claims.proofs.Written.{the-forest, in-own-basin, at-most-depth, label-written, label-from-outlet}
 use Rattle.claims.proofs.Theorems.{counts}
 
 -- the network with every mouth counted
@@ -94,17 +94,16 @@ module _ {N : Network} (O : Lawful N (heavier N)) (counts : (v s : ℕ) → N .n
 module _ (S : Sheet) (L : Lent) (accepted : outcome S L ≡ Accepted) where
   -- the digits by the network of the sheet, and by that in which every mouth is counted
   digits-same : AllCounted (S .least) → (c : ℕ) → Inside S c
-      → digitsIn (network S) (outlet (S .grid)) (S .depth) c ≡ digitsBy (everyMouth (S .split) S) S c
-  unfolding network everyMouth digitsBy outletOf river
+      → digitsIn (network S) (outletOf (S .grid) c) (S .depth) c ≡ digitsBy (everyMouth (S .split) S) S c
+  unfolding network everyMouth digitsBy river
   digits-same one c i =
-      let B = the-basin S L accepted in
-      let O = lawful (B .forest) in
-      let o = outlet (S .grid) in
+      let F = the-forest S L accepted in
+      let O = lawful F in
+      let o = outletOf (S .grid) c in
       let same =
-      label-same O (λ v s e. counts S L accepted one v (B .forest .from-inside v s e)) (S .depth)
-      (river (network S) o) c
-      (river-headed O o) (river-covers O o c (drain B c i)) in
-      rw (own-outlet B c i, river-same (network S) (network S .cells) o) (sym same)
+      label-same O (λ v s e. counts S L accepted one v (F .from-inside v s e)) (S .depth) (river (network S) o) c
+      (river-headed O o) (river-covers O o c (in-own-basin S L accepted c i .comes)) in
+      rw (river-same (network S) (network S .cells) o) (sym same)
 
   pub as-before : AsBefore S (lentAfter S L .labels)
   as-before = record {

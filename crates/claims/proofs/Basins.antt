@@ -1,5 +1,5 @@
--- The third demand and the outlet rule for any basin: any areas, any number of mouths taken, any rule for counting
--- mouths that is closed upwards.
+-- The third demand and the outlet rule for any basin of a forest: any areas, any number of mouths taken, any rule for
+-- counting mouths that is closed upwards.
 use mathlib.Core.Path.{_≡_, refl, sym, _∙_}
 use mathlib.Core.Bool.{true, true≢false}
 use mathlib.Core.List.{List}
@@ -8,10 +8,10 @@ use Prim.Native.Nat.{ℕ, zero, suc, _<_}
 use native.Mathlib.Omega.{arith}
 use Rattle.sheet.specs.declared.Next.{Next}
 use Rattle.sheet.specs.declared.Next.the-variants.{Outlet, To}
-use Rattle.sheet.specs.Water.{Passes, DrainsTo, here, there, onward, wayEnd}
+use Rattle.sheet.specs.Water.{Passes, DrainsTo, here, there, wayEnd}
 use Rattle.sheet.specs.Unit.{finished}
 use Rattle.sheet.specs.River.{heavier, donors, Run, river, Network}
-use Rattle.claims.specs.Basin.{Ends, Forest, Basin, ends-here, ends-after}
+use Rattle.claims.specs.Basin.{Ends, Forest, Basin, InBasin, ends-here}
 use Rattle.claims.specs.Demand.{Shares, OneOutlet, AllCounted, DemandThree, OutletRule}
 use Rattle.claims.specs.Parting.{PartAt, RuleAt}
 use Rattle.claims.specs.Runs.{MouthOf, Headed}
@@ -24,7 +24,7 @@ use Rattle.claims.proofs.Units.{drains-passes, one-outlet, digitsIn, be
 use Rattle.claims.proofs.Heavier.{heavier-trans, heavier-irrefl, heavier-total, donors-only, donors-all}
 use Rattle.claims.proofs.Heavier.{donors-rise}
 use Rattle.claims.proofs.Mouths.{taken-upward, finished-none}
-use Rattle.claims.proofs.Fuel.{steps, steps-short, steps-fall, ends-within}
+use Rattle.claims.proofs.Fuel.{steps, steps-short, steps-fall, ends-within, ends-end}
 
 module _ {N : Network} {inside : ℕ → Type 0} (F : Forest N inside) where
   pub stays-inside : {c x : ℕ} → inside c → Passes (N .next) c x → inside x
@@ -62,45 +62,43 @@ module _ {N : Network} {inside : ℕ → Type 0} {outlet : ℕ} (B : Basin N ins
   O : Lawful N (heavier N)
   O = lawful (B .forest)
 
-  end-outlet : {k c : ℕ} → Ends (N .next) k c → inside c → Passes (N .next) c outlet
-  end-outlet (ends-here {c = c} e) i = rw (B .one-outlet c i e) here
-  end-outlet (ends-after {c = c} {r = r} e w) i = there e (end-outlet w (B .forest .to-inside c r e))
+  -- the cells of the basin
+  abbrev Cell : ℕ → Type 0
+  Cell c = InBasin N inside outlet c
 
-  pub drain : (c : ℕ) → inside c → Passes (N .next) c outlet
-  drain c i = end-outlet (all-end (B .forest) c) i
+  pub drain : (c : ℕ) → InBasin N inside outlet c → Passes (N .next) c outlet
+  drain c i = i .comes
 
-  pub upstream-inside : (c : ℕ) → Passes (N .next) c outlet → inside c
-  upstream-inside c here = B .outlet-inside
-  upstream-inside c (there {r = r} e h) = B .forest .from-inside c r e
+  pub upstream-inside : (c : ℕ) → Passes (N .next) c outlet → InBasin N inside outlet c
+  upstream-inside c h = record { is-inside = go h; comes = h }
+    where
+      go : {x : ℕ} → Passes (N .next) x outlet → inside x
+      go here = B .outlet-inside
+      go (there {q = q} {r = r} e k) = B .forest .from-inside q r e
 
-  -- the outlet of a cell's own way is the single one
-  end-own : {k c : ℕ} → Ends (N .next) k c → inside c → wayEnd (N .next) k c ≡ outlet
-  unfolding wayEnd onward
-  end-own (ends-here {c = c} e) i = rw e (B .one-outlet c i e)
-  end-own (ends-after {c = c} {r = r} e w) i = rw e (end-own w (B .forest .to-inside c r e))
-
-  pub own-outlet : (c : ℕ) → inside c → wayEnd (N .next) (N .cells) c ≡ outlet
-  own-outlet c i = end-own (all-end (B .forest) c) i
+  -- it is the outlet of the way of each of its cells
+  pub own-outlet : (c : ℕ) → InBasin N inside outlet c → wayEnd (N .next) (N .cells) c ≡ outlet
+  own-outlet c i = ends-end (all-end (B .forest) c) (i .comes) (B .ends-there)
 
   -- the one-outlet statement
-  pub units-drain : (depth : ℕ) (w : List ℕ) (c : ℕ) → Shares inside (digitsIn N outlet depth) w c
-      → OneOutlet (N .next) inside (digitsIn N outlet depth) w
-  units-drain depth = unit-outlet O inside outlet depth drain upstream-inside
+  pub units-drain : (depth : ℕ) (w : List ℕ) (c : ℕ) → Shares Cell (digitsIn N outlet depth) w c
+      → OneOutlet (N .next) Cell (digitsIn N outlet depth) w
+  units-drain depth = unit-outlet O Cell outlet depth drain upstream-inside
 
   -- the outlet rule, for the outlet that the definition of units gives
-  pub named-rule : (depth p q : ℕ) → inside p → inside q
+  pub named-rule : (depth p q : ℕ) → Cell p → Cell q
       → (digitsIn N outlet depth p ≡ digitsIn N outlet depth q)
       ⊎ (Parted (digitsIn N outlet depth p) (digitsIn N outlet depth q)
       × (Passes (N .next) q (unitOutlet N depth (river N outlet) p) ↔ Rule (digitsIn N outlet depth p)
       (digitsIn N outlet depth q)))
   named-rule depth p q i j = outlet-rule O outlet depth p q (drain p i) (drain q j)
 
-  pub named : (depth p : ℕ) → inside p
-      → DrainsTo (N .next) (Shares inside (digitsIn N outlet depth) (digitsIn N outlet depth p))
+  pub named : (depth p : ℕ) → Cell p
+      → DrainsTo (N .next) (Shares Cell (digitsIn N outlet depth) (digitsIn N outlet depth p))
       (unitOutlet N depth (river N outlet) p)
-  named depth = named-outlet O inside outlet depth drain upstream-inside
+  named depth = named-outlet O Cell outlet depth drain upstream-inside
 
-  pub outlet-rule-holds : (depth : ℕ) → OutletRule (N .next) inside (digitsIn N outlet depth)
+  pub outlet-rule-holds : (depth : ℕ) → OutletRule (N .next) Cell (digitsIn N outlet depth)
   outlet-rule-holds depth = record {
     rule = λ p q i j o d k at.
         let same : o ≡ unitOutlet N depth (river N outlet) p = one-outlet (O .dist) (O .falls) d (named depth p i) in
@@ -108,7 +106,7 @@ module _ {N : Network} {inside : ℕ → Type 0} {outlet : ℕ} (B : Basin N ins
   }
 
   -- at any depth: water that passes p meets the rule, so a rule that is not met is a sure No
-  passes-rule : (depth p q : ℕ) → inside p → inside q → (k : ℕ)
+  passes-rule : (depth p q : ℕ) → Cell p → Cell q → (k : ℕ)
       → PartAt (digitsIn N outlet depth p) (digitsIn N outlet depth q) k
       → Passes (N .next) q p → RuleAt (digitsIn N outlet depth p) (digitsIn N outlet depth q) k
   passes-rule depth p q i j k at h =
@@ -119,7 +117,7 @@ module _ {N : Network} {inside : ℕ → Type 0} {outlet : ℕ} (B : Basin N ins
 
   -- demand 3; the cell rule where least is 1, which makes every mouth count
   pub demand-three-holds : (least : ℕ) → (AllCounted least → (v : ℕ) → inside v → N .counted v ≡ true) → (depth : ℕ)
-      → DemandThree (N .next) inside depth least (digitsIn N outlet depth) (digitsIn N outlet depth)
+      → DemandThree (N .next) Cell depth least (digitsIn N outlet depth) (digitsIn N outlet depth)
   demand-three-holds least all depth = record {
     labels-part = λ p q i j d. elim (named-rule depth p q i j) [ inl e ↦ absurd (d e) | inr r ↦ parted-at (r .0) ];
     passed-meets = passes-rule depth;

@@ -11,7 +11,7 @@ use borrow.Author.Tests.{ne-eqb, ltb-true, eqb-true}
 use Rattle.sheet.specs.declared.OutletFlow.{OutletFlow}
 use Rattle.sheet.specs.declared.OutletFlow.the-variants.{Same as OutletSame, Yes as OutletYes, No as OutletNo}
 use Rattle.sheet.specs.declared.OutletFlow.the-variants.{Refused as OutletRefused}
-use Rattle.sheet.specs.declared.Label.{Label}
+use Rattle.sheet.specs.declared.UnitName.{UnitName}
 use Rattle.sheet.specs.Record.{digitsOf, sameLabel}
 use Rattle.sheet.specs.Refusal.{depthFits}
 use Rattle.sheet.specs.Flow.{partAt, ruleAt, isLabel, answerAt, answerUnequal, outletFlow}
@@ -40,9 +40,11 @@ answer-at x y k t = rw (part-found x y k t) (go (ruleAt k x y) refl)
     go true e = answered-yes (rule-true x y k e)
     go false e = answered-no (λ r. true≢false (sym (rule-test x y k r) ∙ e))
 
--- the outlet question asked of two labels of a depth that fits
-pub good-labels : (depth : ℕ) (p q : Label) → depthFits depth ≡ true → isLabel depth p ≡ true → isLabel depth q ≡ true
-    → outletFlow depth p q ≡ cond (sameLabel p q) OutletSame (answerUnequal p q)
+-- the outlet question asked of two units with labels of a depth that fits
+pub good-labels : (depth : ℕ) (p q : UnitName) → depthFits depth ≡ true → isLabel depth (p .label) ≡ true
+    → isLabel depth (q .label) ≡ true
+    → outletFlow depth p q ≡ cond (eqb (p .basin) (q .basin))
+    (cond (sameLabel (p .label) (q .label)) OutletSame (answerUnequal (p .label) (q .label))) OutletNo
 unfolding outletFlow
 good-labels depth p q d e f = rw (d, e, f)
 
@@ -102,5 +104,5 @@ answers-agree alone (OutletRefused number) = record {
 
 pub questions-agree : QuestionsAgree
 questions-agree depth least p q fits =
-    rw (from-outlet-flow depth least p q fits) (answers-agree (stemAlone depth least (length (digitsOf p)))
+    rw (from-outlet-flow depth least p q fits) (answers-agree (stemAlone depth least (length (digitsOf (p .label))))
     (outletFlow depth p q))

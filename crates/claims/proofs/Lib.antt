@@ -16,6 +16,11 @@ pub mod Areas
 pub mod Basins
 pub mod Sheets
 pub mod GridLaws
+pub mod BasinNumbers
+pub mod BasinWays
+pub mod BasinLabels
+pub mod BasinGrids
+pub mod Alone
 pub mod Written
 pub mod Theorems
 pub mod FlowTests

@@ -1,7 +1,7 @@
 -- A refusal of labelling has a number from 1 to 19, and its place is a cell of the sheet, or 0.
 use mathlib.Core.Path.{_≡_, refl}
 use mathlib.Core.Bool.{Bool, true, false, cond}
-use Prim.Native.Nat.{ℕ, suc, _<_, _≤_}
+use Prim.Native.Nat.{ℕ, _<_, _≤_}
 use native.Mathlib.Omega.{arith}
 use borrow.Author.Tests.{eqb-true, eqb-false}
 use lib.Dec.{eqb}
@@ -10,7 +10,7 @@ use Rattle.sheet.specs.declared.Found.the-variants.{At, Nothing}
 use Rattle.sheet.specs.declared.Outcome.{Outcome}
 use Rattle.sheet.specs.declared.Outcome.the-variants.{Accepted, Refused}
 use Rattle.sheet.specs.Sheet.{Grid, Sheet, cells, inside, first}
-use Rattle.sheet.specs.Refusal.{Lent, badCode, undrained, outletFrom, firstAfter, secondOutlet, refusedAt}
+use Rattle.sheet.specs.Refusal.{Lent, badCode, undrained, refusedAt}
 use Rattle.sheet.specs.Refusal.{refusedIfNone, slicesFit, weightsFit, outcomeOn, outcomeFrom17, outcomeFrom3}
 use Rattle.sheet.specs.Refusal.{faultOf, outcome}
 use Rattle.sheet.proofs.First.{at-first}
@@ -28,14 +28,6 @@ Below n f = (c : ℕ) → f ≡ At c → c < n
 
 first-below : (n : ℕ) (test : ℕ → Bool) → Below n (first test n)
 first-below n test c e = at-first test n c e .below
-
-second-below : (G : Grid) → Below (cells G) (secondOutlet G)
-unfolding secondOutlet firstAfter
-second-below G = go (first (outletFrom G 0) (cells G))
-  where
-    go : (f : Found) → Below (cells G) (firstAfter (outletFrom G) (cells G) f)
-    go Nothing c e = let z : _≡_ {A = ℕ} 0 1 = cc in absurd (omega arith)
-    go (At k) c e = first-below (cells G) (outletFrom G (suc k)) c e
 
 at-small : {n number : ℕ} (f : Found) (rest : Outcome) → n ≤ 65536 → 1 ≤ number → number ≤ 19 → Below n f
     → SmallRefusal rest
@@ -55,8 +47,8 @@ unfolding outcomeOn
 on-small G m =
     at-small (first (badCode G) (cells G)) _ m (omega arith) (omega arith) (first-below (cells G) (badCode G))
     (none-small (first (inside G) (cells G)) _ (omega arith) (omega arith)
-    (at-small (first (undrained G) (cells G)) _ m (omega arith) (omega arith) (first-below (cells G) (undrained G))
-    (at-small (secondOutlet G) Accepted m (omega arith) (omega arith) (second-below G) tt)))
+    (at-small (first (undrained G) (cells G)) Accepted m (omega arith) (omega arith)
+    (first-below (cells G) (undrained G)) tt))
 
 from-17-small : (S : Sheet) → cells (S .grid) ≤ 65536 → SmallRefusal (outcomeFrom17 S)
 unfolding outcomeFrom17

@@ -1,33 +1,30 @@
--- What it says of a sheet that the outcome accepts it: every check is passed, and its cells are a basin with one
--- outlet.
-use mathlib.Core.Path.{_≡_, refl, sym, _∙_}
+-- What it says of a sheet that the outcome accepts it: every check is passed, and its inside cells drain to outlets.
+use mathlib.Core.Path.{_≡_, refl, sym}
 use mathlib.Core.Bool.{Bool, true, false, cond, not, true≢false}
-use Prim.Native.Nat.{ℕ, suc, _≤_, _<_}
+use Prim.Native.Nat.{ℕ, _<_}
 use native.Mathlib.Omega.{arith}
-use lib.Dec.{ltb, eqb}
-use borrow.Author.Tests.{ltb-true, ltb-false, le-leb, eqb-true}
+use lib.Dec.{eqb}
+use borrow.Author.Tests.{eqb-true}
 use Rattle.sheet.specs.declared.Found.the-variants.{At, Nothing}
 use Rattle.sheet.specs.declared.Next.{Next}
 use Rattle.sheet.specs.declared.Next.the-variants.{Outlet, To}
 use Rattle.sheet.specs.declared.Found.{Found}
 use Rattle.sheet.specs.declared.Outcome.{Outcome}
 use Rattle.sheet.specs.declared.Outcome.the-variants.{Accepted, Refused}
-use Rattle.sheet.specs.Water.{reachesOutlet, Passes, here, there}
-use Rattle.sheet.specs.Label.{outlet}
+use Rattle.sheet.specs.Water.{reachesOutlet}
 use Rattle.sheet.specs.River.{networkBy}
 use Rattle.sheet.specs.Refusal.{sizesFit, depthFits, leastAndSplitFit, slicesFit, faultOf, badCode, undrained}
-use Rattle.sheet.specs.Refusal.{outletFrom, firstAfter, secondOutlet, refusedAt, refusedIfNone, weightsFit, outcomeOn}
+use Rattle.sheet.specs.Refusal.{refusedAt, refusedIfNone, weightsFit, outcomeOn}
 use Rattle.sheet.specs.Refusal.{outcomeFrom17, outcomeFrom3, outcome, Lent}
 use Rattle.sheet.specs.Sheet.{cells, inside, next, goesNowhere, isOutlet, first, Grid, Sheet}
-use Rattle.sheet.proofs.First.{NoneBelow, none-first, at-first, first-same, FirstAt}
+use Rattle.sheet.proofs.First.{none-first, at-first}
 use Rattle.sheet.proofs.Cells.{inside-lt, next-goes}
 use Rattle.sheet.proofs.Within.{no-fault}
-use Rattle.claims.specs.Basin.{Forest, Basin}
-use Rattle.claims.proofs.Units.{one-outlet}
+use Rattle.claims.specs.Basin.{Forest}
 use Rattle.claims.proofs.Heavier.{heavier-counts}
-use Rattle.claims.proofs.Fuel.{reaches-ends, ends-at}
+use Rattle.claims.proofs.Fuel.{reaches-ends}
 
--- checks 1, 2, 19, 3, 17 and 4 to 7, passed
+-- checks 1, 2, 19, 3, 17 and 4 to 6, passed
 pub record Passed (S : Sheet) (L : Lent) : Type 0 where
   pub sizes : sizesFit (S .grid .rows) (S .grid .cols) ≡ true
   pub depth : depthFits (S .depth) ≡ true
@@ -36,12 +33,11 @@ pub record Passed (S : Sheet) (L : Lent) : Type 0 where
   pub weights : weightsFit (S .grid .rows) (S .weights) ≡ true
   pub rest : outcomeOn (S .grid) ≡ Accepted
 
--- checks 4 to 7, by what they look for
+-- checks 4 to 6, by what they look for
 pub record PassedOn (G : Grid) : Type 0 where
   pub codes : (c : ℕ) → c < cells G → badCode G c ≡ false
   pub some-inside : (c : ℕ) × (c < cells G) × (inside G c ≡ true)
   pub drained : (c : ℕ) → c < cells G → undrained G c ≡ false
-  pub no-second : secondOutlet G ≡ Nothing
 
 if-passed : (n : ℕ) (b : Bool) {x : Outcome} → cond b x (Refused n 0) ≡ Accepted → (b ≡ true) × (x ≡ Accepted)
 if-passed n true e = (refl, e)
@@ -94,13 +90,11 @@ passed-on G e =
     let a = not-found 4 (first (badCode G) (cells G)) e in
     let b = found-one 5 (first (inside G) (cells G)) (a .1) in
     let c = not-found 6 (first (undrained G) (cells G)) (b .1) in
-    let d = not-found 7 (secondOutlet G) (c .1) in
     let i = at-first (inside G) (cells G) (b .0 .0) (b .0 .1) in
     record {
       codes = none-first (badCode G) (cells G) (a .0);
       some-inside = (b .0 .0, i .below, i .passes);
       drained = none-first (undrained G) (cells G) (c .0);
-      no-second = d .0;
     }
 
 module _ (G : Grid) where
@@ -130,8 +124,7 @@ module _ (G : Grid) where
       go true e = refl
       go false e = absurd (true≢false e)
 
-  -- the cells of a grid whose inside cells come to outlets are a forest, and a basin where there is one outlet,
-  -- whatever their areas and the mouths that count
+  -- the cells of a grid whose inside cells come to outlets are a forest, whatever their areas and the mouths that count
   module _ (reaches : (c : ℕ) → inside G c ≡ true → reachesOutlet (next G) (cells G) c ≡ true) (area : ℕ → ℕ)
       (least split : ℕ) where
     pub grid-forest : 0 < cells G → Forest (networkBy G area least split) (λ c. inside G c ≡ true)
@@ -145,83 +138,13 @@ module _ (G : Grid) where
       upwards = heavier-counts area least;
     }
 
-    pub one-basin : isOutlet G (outlet G) ≡ true → ((c : ℕ) → isOutlet G c ≡ true → c ≡ outlet G)
-        → Basin (networkBy G area least split) (λ c. inside G c ≡ true) (outlet G)
-    unfolding networkBy
-    one-basin is-one only =
-        let i = (outlet-is (outlet G) is-one) .0 in
-        record {
-          forest = grid-forest (omega (arith, inside-lt G (outlet G) i));
-          outlet-inside = i;
-          one-outlet = λ u i e. only u (is-outlet u i e);
-        }
-
-  from-zero : (c : ℕ) → outletFrom G 0 c ≡ isOutlet G c
-  unfolding outletFrom
-  from-zero c = rw (le-leb 0 c (omega arith))
-
-  from-later : (from c : ℕ) → from ≤ c → outletFrom G from c ≡ isOutlet G c
-  unfolding outletFrom
-  from-later from c l = rw (le-leb from c l)
-
-  -- the outlets of a sheet that has no second one
   module _ (P : PassedOn G) where
-    some-end : (o : ℕ) × Passes (next G) (P .some-inside .0) o × (next G o ≡ Outlet)
-    some-end =
+    -- the water of every inside cell comes to an outlet
+    pub all-reach : (c : ℕ) → inside G c ≡ true → reachesOutlet (next G) (cells G) c ≡ true
+    all-reach c i = drained-reaches c i (P .drained c (inside-lt G c i))
+
+    -- the cells of the sheet are a forest
+    pub forest : (area : ℕ → ℕ) (least split : ℕ) → Forest (networkBy G area least split) (λ c. inside G c ≡ true)
+    forest area least split =
         let s = P .some-inside in
-        ends-at (reaches-ends (next G) (cells G) (s .0) (drained-reaches (s .0) (s .2) (P .drained (s .0) (s .1))))
-
-    way-inside : {c x : ℕ} → inside G c ≡ true → Passes (next G) c x → inside G x ≡ true
-    way-inside i here = i
-    way-inside i (there {q = q} e h) = way-inside (next-goes G q e .to-inside) h
-
-    -- there is one
-    some-outlet : (o : ℕ) × (o < cells G) × (isOutlet G o ≡ true)
-    some-outlet =
-        let e = some-end in
-        let i : inside G (e .0) ≡ true = way-inside (P .some-inside .2) (e .1) in
-        (e .0, inside-lt G (e .0) i, is-outlet (e .0) i (e .2))
-
-    found-outlet : (f : Found) → first (outletFrom G 0) (cells G) ≡ f → (k : ℕ) × (f ≡ At k)
-    found-outlet (At k) e = (k, refl)
-    found-outlet Nothing e =
-        let o = some-outlet in
-        absurd (true≢false
-        (sym (o .2) ∙ (sym (from-zero (o .0)) ∙ none-first (outletFrom G 0) (cells G) e (o .0) (o .1))))
-
-    first-outlet : (k : ℕ) × (first (outletFrom G 0) (cells G) ≡ At k)
-    first-outlet = found-outlet (first (outletFrom G 0) (cells G)) refl
-
-    outlet-found : outlet G ≡ first-outlet .0
-    unfolding outlet
-    outlet-found = rw (first-same (isOutlet G) (outletFrom G 0) (cells G) (λ k l. sym (from-zero k)), first-outlet .1)
-
-    first-fact : FirstAt (outletFrom G 0) (cells G) (first-outlet .0)
-    first-fact = at-first (outletFrom G 0) (cells G) (first-outlet .0) (first-outlet .1)
-
-    none-later : NoneBelow (outletFrom G (suc (first-outlet .0))) (cells G)
-    unfolding secondOutlet firstAfter
-    none-later = none-first (outletFrom G (suc (first-outlet .0))) (cells G) (rw (first-outlet .1) at (P .no-second))
-
-    only-outlet : (u : ℕ) → u < cells G → isOutlet G u ≡ true → u ≡ first-outlet .0
-    only-outlet u l e = go (ltb u (first-outlet .0)) refl (ltb (first-outlet .0) u) refl
-      where
-        go : (a : Bool) → ltb u (first-outlet .0) ≡ a → (b : Bool) → ltb (first-outlet .0) u ≡ b → u ≡ first-outlet .0
-        go true x b y =
-            absurd (true≢false
-            (sym e ∙ (sym (from-zero u) ∙ first-fact .none-before u (ltb-true u (first-outlet .0) x))))
-        go false x true y =
-            let k : suc (first-outlet .0) ≤ u = ltb-true (first-outlet .0) u y in
-            absurd (true≢false (sym e ∙ (sym (from-later (suc (first-outlet .0)) u k) ∙ none-later u l)))
-        go false x false y =
-            let p = ltb-false u (first-outlet .0) x in let q = ltb-false (first-outlet .0) u y in omega arith
-
-    outlet-one : isOutlet G (outlet G) ≡ true
-    outlet-one = rw outlet-found (sym (from-zero (first-outlet .0)) ∙ first-fact .passes)
-
-    -- the cells of the sheet are a basin
-    pub basin : (area : ℕ → ℕ) (least split : ℕ)
-        → Basin (networkBy G area least split) (λ c. inside G c ≡ true) (outlet G)
-    basin area least split =
-        one-basin (λ c i. drained-reaches c i (P .drained c (inside-lt G c i))) area least split outlet-one
-        (λ u e. only-outlet u (inside-lt G u (outlet-is u e .0)) e ∙ sym outlet-found)
+        grid-forest all-reach area least split (omega (arith, s .1))

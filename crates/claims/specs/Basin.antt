@@ -1,10 +1,11 @@
--- What the general theorems ask of a network: its inside cells drain to outlets, or to a single one, and counted mouths
--- are closed upwards.
+-- What the general theorems ask of a network: its inside cells drain to outlets, and counted mouths are closed upwards;
+-- and the basin of one of its outlets.
 use mathlib.Core.Path.{_≡_}
 use mathlib.Core.Bool.{true}
 use Prim.Native.Nat.{ℕ, zero, suc, _<_}
 use Rattle.sheet.specs.declared.Next.{Next}
 use Rattle.sheet.specs.declared.Next.the-variants.{Outlet, To}
+use Rattle.sheet.specs.Water.{Passes}
 use Rattle.sheet.specs.Area.{heavierBy}
 use Rattle.sheet.specs.River.{Network, heavier}
 
@@ -23,8 +24,13 @@ pub record Forest (N : Network) (inside : ℕ → Type 0) : Type 0 where
   -- a mouth that is heavier than one that counts, counts
   pub upwards : (u v : ℕ) → heavier N u v ≡ true → N .counted v ≡ true → N .counted u ≡ true
 
--- and there is a single outlet
+-- the basin of one of its outlets
 pub record Basin (N : Network) (inside : ℕ → Type 0) (outlet : ℕ) : Type 0 where
   pub forest : Forest N inside
   pub outlet-inside : inside outlet
-  pub one-outlet : (u : ℕ) → inside u → N .next u ≡ Outlet → u ≡ outlet
+  pub ends-there : N .next outlet ≡ Outlet
+
+-- a cell of the basin of an outlet: an inside cell whose water comes to it
+pub record InBasin (N : Network) (inside : ℕ → Type 0) (outlet c : ℕ) : Type 0 where
+  pub is-inside : inside c
+  pub comes : Passes (N .next) c outlet

@@ -5,7 +5,7 @@ use mathlib.Core.Bool.{true}
 use mathlib.Core.List.{List}
 use mathlib.Core.Logic.{_≢_, _↔_}
 use Prim.Native.Nat.{ℕ, _<_}
-use lib.ListN.{length}
+use lib.ListN.{length, getD}
 use Rattle.sheet.specs.declared.Next.{Next}
 use Rattle.sheet.specs.Sheet.{Sheet, inside, next}
 use Rattle.sheet.specs.Water.{Passes, DrainsTo}
@@ -56,10 +56,25 @@ Inside S c = inside (S .grid) c ≡ true
 abbrev pub digitsAt : List ℕ → ℕ → List ℕ
 digitsAt labels c = digitsOf (labelAt labels c)
 
--- demand 3 and the outlet rule about a sheet and the labels that were written for it
-abbrev pub DemandThreeOf : Sheet → List ℕ → Type 0
-DemandThreeOf S labels = DemandThree (next (S .grid)) (Inside S) (S .depth) (S .least) (labelAt labels)
-    (digitsAt labels)
+-- the basin that stands for a cell in a slice of basins
+abbrev pub basinAt : List ℕ → ℕ → ℕ
+basinAt basins c = getD basins c 0
 
-abbrev pub OutletRuleOf : Sheet → List ℕ → Type 0
-OutletRuleOf S labels = OutletRule (next (S .grid)) (Inside S) (digitsAt labels)
+-- an inside cell of a basin, by the basins that were written
+pub record OfBasin (S : Sheet) (basins : List ℕ) (basin c : ℕ) : Type 0 where
+  pub is-inside : Inside S c
+  pub numbered : basinAt basins c ≡ basin
+
+-- demand 3 about a sheet and the basins and labels that were written for it
+pub record DemandThreeOf (S : Sheet) (basins labels : List ℕ) : Type 0 where
+  -- about the cells of one basin
+  pub within : (basin : ℕ) → DemandThree (next (S .grid)) (OfBasin S basins basin) (S .depth) (S .least)
+      (labelAt labels) (digitsAt labels)
+  -- across basins no water passes
+  pub across : (p q : ℕ) → Inside S p → Inside S q → basinAt basins p ≢ basinAt basins q
+      → ¬ Passes (next (S .grid)) q p
+
+-- the outlet rule, about the cells of one basin
+abbrev pub OutletRuleOf : Sheet → List ℕ → List ℕ → Type 0
+OutletRuleOf S basins labels =
+    (basin : ℕ) → OutletRule (next (S .grid)) (OfBasin S basins basin) (digitsAt labels)

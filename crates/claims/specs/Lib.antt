@@ -1,6 +1,7 @@
 pub mod Parting
 pub mod Demand
 pub mod AsBefore
+pub mod Alone
 pub mod Basin
 pub mod Runs
 pub mod Lawful

@@ -12,7 +12,7 @@ use Rattle.sheet.proofs.Cells.{inside-lt}
 use Rattle.claims.proofs.Counts.{count-le}
 use Rattle.upstream.specs.Work.{ranksPart, receiversPart, sizesPart, positionsPart, queuedAt, rankOf, receiverOf}
 use Rattle.upstream.specs.Work.{sizeAt, isReached, KeptFrom, withSizes}
-use Rattle.upstream.specs.Search.{Before, Queue, Upstream, OutletsFirst, Searched, Drained, SingleOutlet}
+use Rattle.upstream.specs.Search.{Before, Queue, Upstream, OutletsFirst, Searched, Drained}
 use Rattle.drainage.specs.Total.{size, sizesOf}
 use Rattle.claims.proofs.Sums.{sum-same, count-sum}
 use Rattle.upstream.proofs.Queues.{item-at, queued-most}
@@ -95,13 +95,6 @@ module _ {G : Grid} {work work′ : List ℕ} (s : SameSearch (cells G) work wor
     coded = d .coded;
     searched = searched-same (d .searched);
     all = λ c i. rw (rank-same s c (inside-lt G c i)) (d .all c i);
-  }
-
-  pub single-same : SingleOutlet G work → SingleOutlet G work′
-  single-same o = record {
-    is-outlet = o .is-outlet;
-    only = o .only;
-    first = let l = outlet-lt G _ (o .is-outlet) in place-same s 0 (omega arith) ∙ o .first;
   }
 
 -- ---- sizes

@@ -1,4 +1,4 @@
-// Drainage of a sheet: refusals 4 to 7, areas and sizes, by the search upstream of crate upstream.
+// Drainage of a sheet: refusals 4 to 6, areas and sizes, by the search upstream of crate upstream.
 use sheet::Outcome;
 
 pub mod inspect;

@@ -5,13 +5,20 @@ use Prim.Native.Nat.{ℕ, zero, suc, _+_, _*_, _-_, _≤_, _<_}
 use native.Mathlib.Nat.{zero-add}
 use native.Mathlib.Numerals.{add-one}
 use native.Mathlib.Omega.{arith}
-use lib.ListN.{length, getD, set, take, drop, length-set, length-take, drop-of-length-le}
+use lib.ListN.{length, length-map, getD, set, take, drop, length-set, length-take, drop-of-length-le}
 use lib.Seq.{sets, drop-cons, drop-drop, getD-take, getD-drop}
 use Rattle.sheet.specs.Area.{rowWeight}
 use Rattle.sheet.specs.Refusal.{written}
 use Rattle.sheet.proofs.Lists.{written-whole}
 use Rattle.claims.specs.Bounds.{sum, mostArea}
-use Rattle.dues.specs.Steps.{Weighed, Shared, partWeights, duesBy}
+use Rattle.index.specs.declared.Indexed.{Indexed}
+use Rattle.index.specs.declared.Indexed.the-variants.{Units, Refused}
+use Rattle.index.specs.Units.{UnitEntry}
+use Rattle.index.specs.Steps.{groupsOf, Group}
+use Rattle.index.proofs.Groups.{groups-past, one-more}
+use Rattle.index.proofs.Room.{groups-few}
+use Rattle.dues.specs.Levy.{ifLevied}
+use Rattle.dues.specs.Steps.{Weighed, Shared, partWeights, countsOf, groupWeights, duesBy}
 use Rattle.dues.proofs.Shares.{owed, owed-none, owed-more, dues-length, product-most}
 
 sum-split : (f : ℕ → ℕ) (m : ℕ) (cs : List ℕ) → sum f cs ≡ sum f (take m cs) + sum f (drop m cs)
@@ -62,41 +69,50 @@ part-weighed {cols} {weights} {cells} j m w l = record {
 
 -- ---- dues written one after the other
 
-module _ (total whole cols : ℕ) (weights cells counts D : List ℕ) where
+module _ (total whole cols : ℕ) (weights cells labels basins D : List ℕ) where
   abbrev f : ℕ → ℕ
   f = rowWeight cols weights
 
-  -- the dues of the units before `at` are written: their cells are those before position `first` and weigh `weight`. D
-  -- was lent, and D′ is what the slice holds
+  -- the groups of the cells from a position on, and their weights
+  abbrev groupsFrom : ℕ → List UnitEntry
+  groupsFrom first = groupsOf (drop first cells) labels basins
+
+  abbrev weightsFrom : ℕ → List ℕ
+  weightsFrom first = groupWeights f (drop first cells) labels basins
+
+  -- the dues of the groups before position `first` are written, at the places before `at`: their cells weigh `weight`.
+  -- D was lent, and D′ is what the slice holds
   pub record Sharing (D′ : List ℕ) (at first weight together : ℕ) : Type 0 where
-    pub within : first + sum (λ m. m) (drop at counts) ≤ length cells
+    pub within : first ≤ length cells
+    pub left : at + length (groupsFrom first) ≡ length (groupsFrom 0)
     pub weighed : WeighedTo f cells first weight
     pub together-is : together ≡ owed total whole weight
     pub same-length : length D′ ≡ length D
-    pub to-do : sets D′ at (duesBy total whole weight (partWeights f (drop at counts) (drop first cells)))
-        ≡ sets D 0 (duesBy total whole 0 (partWeights f counts cells))
+    pub to-do : sets D′ at (duesBy total whole weight (weightsFrom first))
+        ≡ sets D 0 (duesBy total whole 0 (weightsFrom 0))
 
-  module _ (s : Shared total whole cols weights cells counts D) where
+  module _ (s : Shared total whole cols weights cells labels basins D) where
     pub sharing-starts : Sharing D 0 0 0 0
     sharing-starts = record {
-      within = rw (zero-add (sum (λ m. m) counts)) (s .counted);
+      within = omega arith;
+      left = omega arith;
       weighed = zero-add (sum f cells);
       together-is = sym (owed-none total whole);
       same-length = refl;
       to-do = refl;
     }
 
-    module _ {D′ : List ℕ} {at first weight together : ℕ} (h : Sharing D′ at first weight together)
-        (l : at < length counts) where
+    module _ {D′ : List ℕ} {at first weight together last : ℕ} (h : Sharing D′ at first weight together)
+        (g : Group cells labels basins first last) where
       abbrev count : ℕ
-      count = getD counts at 0
+      count = last + 1 - first
 
-      -- the cells of the unit
+      -- the cells of the group
       abbrev part : List ℕ
       part = take count (drop first cells)
 
-      pub part-within : first + count ≤ length cells
-      part-within = omega (arith, h .within, sum-from (λ m. m) counts at l)
+      ends : first + count ≡ last + 1
+      ends = omega (arith, g .from)
 
       pub weight-most : weight + sum f part ≤ mostArea
       weight-most = omega (arith, weighed-part f cells first weight count (h .weighed), s .weighed .small)
@@ -107,17 +123,27 @@ module _ (total whole cols : ℕ) (weights cells counts D : List ℕ) where
       pub together-more : together ≤ owed total whole (weight + sum f part)
       together-more = rw (h .together-is) (owed-more total whole (s .whole-some) weight (sum f part))
 
-      to-do-at : duesBy total whole weight (partWeights f (drop at counts) (drop first cells))
+      pub place-left : at < length D′
+      place-left = omega (arith, h .left, h .same-length, s .room, one-more cells labels basins g)
+
+      -- a unit has a cell, so that there are no more places than cells
+      pub place-few : at < length cells
+      place-few = omega (arith, h .left, one-more cells labels basins g, groups-few cells labels basins)
+
+      to-do-at : duesBy total whole weight (weightsFrom first)
           ≡ (owed total whole (weight + sum f part) - together)
-          ∷ duesBy total whole (weight + sum f part) (partWeights f (drop (suc at) counts) (drop (first + count) cells))
+          ∷ duesBy total whole (weight + sum f part) (weightsFrom (last + 1))
       unfolding partWeights duesBy
-      to-do-at = rw (h .together-is, drop-cons counts at 0 l, drop-drop count first cells) refl
+      to-do-at =
+          let same : last - first + 1 ≡ count = omega (arith, g .from) in
+          rw (h .together-is, g .is, same, drop-drop count first cells, ends) refl
 
       pub sharing-goes-on : Sharing (set D′ at (owed total whole (weight + sum f part) - together)) (at + 1)
-          (first + count) (weight + sum f part) (owed total whole (weight + sum f part))
+          (last + 1) (weight + sum f part) (owed total whole (weight + sum f part))
       sharing-goes-on = record {
-        within = omega (arith, h .within, sum-from (λ m. m) counts at l);
-        weighed = weighed-part f cells first weight count (h .weighed);
+        within = omega (arith, g .to);
+        left = omega (arith, h .left, one-more cells labels basins g);
+        weighed = rw ends at (weighed-part f cells first weight count (h .weighed));
         together-is = refl;
         same-length = length-set D′ at _ ∙ h .same-length;
         to-do = rw (add-one at) (rw to-do-at at (h .to-do));
@@ -129,9 +155,26 @@ module _ (total whole cols : ℕ) (weights cells counts D : List ℕ) where
     parts-length (n ∷ ns) cs = ap suc (parts-length ns (drop n cs))
 
     pub sharing-ends : {D′ : List ℕ} {at first weight together : ℕ} → Sharing D′ at first weight together
-        → length counts ≤ at → D′ ≡ written (duesBy total whole 0 (partWeights f counts cells)) D
+        → length cells ≤ first → D′ ≡ written (duesBy total whole 0 (groupWeights f cells labels basins)) D
     unfolding partWeights duesBy
-    sharing-ends h l =
-        rw (drop-of-length-le counts l) at (h .to-do)
-        ∙ written-whole (duesBy total whole 0 (partWeights f counts cells)) D
-        (omega (arith, dues-length total whole 0 (partWeights f counts cells), parts-length counts cells, s .room))
+    sharing-ends {first = first} h l =
+        rw (groups-past cells labels basins first l) at (h .to-do)
+        ∙ written-whole (duesBy total whole 0 (groupWeights f cells labels basins)) D
+        (omega (
+          arith,
+          dues-length total whole 0 (groupWeights f cells labels basins),
+          parts-length (countsOf (groupsOf cells labels basins)) cells,
+          length-map (groupsOf cells labels basins) (λ (e : UnitEntry). e .count),
+          s .room,
+        ))
+
+  -- without cells no due is written
+  pub no-cells : (answer : Indexed) → length cells ≡ 0
+      → D ≡ ifLevied answer (duesBy total whole 0 (groupWeights f cells labels basins)) D
+  unfolding partWeights duesBy
+  no-cells answer e =
+      rw (groups-past cells labels basins 0 (omega (arith, e))) (go answer)
+    where
+      go : (x : Indexed) → D ≡ ifLevied x [] D
+      go (Units units) = refl
+      go (Refused number place) = refl

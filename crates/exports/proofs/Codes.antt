@@ -12,7 +12,7 @@ use Rattle.index.specs.declared.Indexed.{Indexed}
 use Rattle.index.specs.declared.Indexed.the-variants.{Units, Refused}
 use Rattle.index.specs.Index.{LentIndex, indexed, indexedValues}
 use Rattle.index.proofs.SmallAnswers.{SmallAnswer, answer-small}
-use Rattle.dues.specs.Levy.{totalFits, withDues, leviedOn, levied}
+use Rattle.dues.specs.Levy.{unitsOfBasin, totalFits, withDues, leviedOn, levied}
 use Rattle.exports.specs.Exports.{indexedCode, CodeTells}
 
 -- every answer of the call is one that its code tells
@@ -24,17 +24,18 @@ answer-told S L I = go (indexed S L I) (answer-small S L I)
     go (Refused number place) s = (s .0, omega (arith, s .1), s .2)
 
 -- and of the levy's
-pub levy-told : (S : Sheet) (L : Lent) (I : LentIndex) (total : ℕ) (dues : List ℕ)
-    → CodeTells (levied S L I total dues)
+pub levy-told : (S : Sheet) (L : Lent) (I : LentIndex) (basin total : ℕ) (dues : List ℕ)
+    → CodeTells (levied S L I basin total dues)
 unfolding levied leviedOn withDues
-levy-told S L I total dues = go (totalFits total) (indexed S L I) (answer-told S L I)
+levy-told S L I basin total dues = go (totalFits total) (indexed S L I) (answer-told S L I)
   where
     fitted : (units : ℕ) → units ≤ 65536 → (b : Bool) → CodeTells (cond b (Units units) (Refused 3 0))
     fitted units l true = l
     fitted units l false = (omega arith, omega arith, omega arith)
 
-    go : (b : Bool) (a : Indexed) → CodeTells a → CodeTells (cond b (withDues a dues) (Refused 18 0))
-    go true (Units units) t = fitted units t (leb units (length dues))
+    go : (b : Bool) (a : Indexed) → CodeTells a
+        → CodeTells (cond b (withDues a (length (unitsOfBasin S basin)) dues) (Refused 18 0))
+    go true (Units units) t = fitted units t (leb (length (unitsOfBasin S basin)) (length dues))
     go true (Refused number place) t = t
     go false a t = (omega arith, omega arith, omega arith)
 

@@ -8,10 +8,11 @@ use index::Indexed;
 use lookup::LookupAnswer;
 use sheet::Label;
 use sheet::Outcome;
+use sheet::UnitName;
 ghost use mathlib.Core.Path.{_≡_};
 ghost use Prim.Native.Nat.{_<_};
 ghost use lib.ListN.{length};
-ghost use Rattle.sheet.specs.Record.{labelOfNumbers, labelsIn};
+ghost use Rattle.sheet.specs.Record.{labelOfNumbers, labelsIn, unitName};
 ghost use Rattle.sheet.specs.Refusal.{outcomeValues, outcome, lentAfter};
 ghost use Rattle.sheet.specs.Word.{firstBadOf};
 ghost use Rattle.sheet.specs.Flow.{flow, answerNumber, outletFlow, outletAnswerNumber};
@@ -43,14 +44,15 @@ pub extern "C" fn pf_label(
     weights: &[u16],
     areas: &mut [u32],
     labels: &mut [u64],
+    basins: &mut [u32],
     work: &mut [u32],
 ) -> u64
     ensures outcome { λ r. ⌜ r ≡ outcomeCode (outcome
         (sheet rows cols depth least split (now (dirs .entry)) (now (weights .entry)))
-        (lent (now (areas .entry)) (now (labels .entry)) (now (work .entry)))) ⌝ }
-    ensures lent { λ _. ⌜ lent (now (areas .exit)) (now (labels .exit)) (now (work .exit))
+        (lent (now (areas .entry)) (now (labels .entry)) (now (basins .entry)) (now (work .entry)))) ⌝ }
+    ensures lent { λ _. ⌜ lent (now (areas .exit)) (now (labels .exit)) (now (basins .exit)) (now (work .exit))
         ≡ lentAfter (sheet rows cols depth least split (now (dirs .entry)) (now (weights .entry)))
-        (lent (now (areas .entry)) (now (labels .entry)) (now (work .entry))) ⌝ }
+        (lent (now (areas .entry)) (now (labels .entry)) (now (basins .entry)) (now (work .entry))) ⌝ }
 {
     outcome_code(labelling::label(
         rows,
@@ -62,6 +64,7 @@ pub extern "C" fn pf_label(
         weights,
         areas,
         labels,
+        basins,
         work,
     ))
 }
@@ -77,24 +80,29 @@ fn indexed_code(answer: Indexed) -> u64
     }
 }
 
-// Where the labels that begin with the leading digits start, and how many there are. The refusal's number, or 0. The
-// leading digits are a label of two numbers.
+// Where the labels of a basin that begin with the leading digits start, and how many there are. The refusal's number,
+// or 0. The leading digits are a label of two numbers.
 #[no_mangle]
 pub extern "C" fn pf_lookup(
+    basin: u32,
     first: u64,
     rest: u64,
     labels: &[u64],
+    basins: &[u32],
     start: &mut usize,
     length: &mut usize,
 ) -> u32
     ensures number { λ r. ⌜ r
-        ≡ lookupValues (lookupAnswer (labelOfNumbers first rest) (labelsIn (now (labels .entry)))) .number ⌝ }
+        ≡ lookupValues (lookupAnswer (unitName basin (labelOfNumbers first rest)) (labelsIn (now (labels .entry)))
+        (now (basins .entry))) .number ⌝ }
     ensures start { λ _. ⌜ now (start .exit)
-        ≡ lookupValues (lookupAnswer (labelOfNumbers first rest) (labelsIn (now (labels .entry)))) .start ⌝ }
+        ≡ lookupValues (lookupAnswer (unitName basin (labelOfNumbers first rest)) (labelsIn (now (labels .entry)))
+        (now (basins .entry))) .start ⌝ }
     ensures length { λ _. ⌜ now (length .exit)
-        ≡ lookupValues (lookupAnswer (labelOfNumbers first rest) (labelsIn (now (labels .entry)))) .length ⌝ }
+        ≡ lookupValues (lookupAnswer (unitName basin (labelOfNumbers first rest)) (labelsIn (now (labels .entry)))
+        (now (basins .entry))) .length ⌝ }
 {
-    match lookup::find(Label { first, rest }, labels) {
+    match lookup::find(unit(basin, first, rest), labels, basins) {
         LookupAnswer::Part(place, count) => {
             *start = place;
             *length = count;
@@ -108,50 +116,53 @@ pub extern "C" fn pf_lookup(
     }
 }
 
-// The flow question: does water from the label q pass the label p?
+// The unit of a basin whose label has these two numbers.
+fn unit(basin: u32, first: u64, rest: u64) -> UnitName
+    ensures { λ r. ⌜ r ≡ unitName basin (labelOfNumbers first rest) ⌝ }
+{
+    UnitName {
+        basin,
+        label: Label { first, rest },
+    }
+}
+
+// The flow question: does water from the unit q pass the unit p? A unit is a basin and a label.
 #[no_mangle]
 pub extern "C" fn pf_flow(
     depth: usize,
     least: usize,
+    p_basin: u32,
     p_first: u64,
     p_rest: u64,
+    q_basin: u32,
     q_first: u64,
     q_rest: u64,
 ) -> u32
-    ensures { λ r. ⌜ r ≡ answerNumber (flow depth least (labelOfNumbers «p_first» «p_rest»)
-        (labelOfNumbers «q_first» «q_rest»)) ⌝ }
+    ensures { λ r. ⌜ r ≡ answerNumber (flow depth least (unitName «p_basin» (labelOfNumbers «p_first» «p_rest»))
+        (unitName «q_basin» (labelOfNumbers «q_first» «q_rest»))) ⌝ }
 {
-    let p = Label {
-        first: p_first,
-        rest: p_rest,
-    };
-    let q = Label {
-        first: q_first,
-        rest: q_rest,
-    };
+    let p = unit(p_basin, p_first, p_rest);
+    let q = unit(q_basin, q_first, q_rest);
     flow::answer_number(flow::flow_of(depth, least, p, q))
 }
 
-// The outlet question: does water from the label q pass the outlet of the unit that the label p names?
+// The outlet question: does water from the unit q pass the outlet of the unit p?
 #[no_mangle]
 pub extern "C" fn pf_outlet_flow(
     depth: usize,
+    p_basin: u32,
     p_first: u64,
     p_rest: u64,
+    q_basin: u32,
     q_first: u64,
     q_rest: u64,
 ) -> u32
-    ensures { λ r. ⌜ r ≡ outletAnswerNumber (outletFlow depth (labelOfNumbers «p_first» «p_rest»)
-        (labelOfNumbers «q_first» «q_rest»)) ⌝ }
+    ensures { λ r. ⌜ r ≡ outletAnswerNumber (outletFlow depth
+        (unitName «p_basin» (labelOfNumbers «p_first» «p_rest»))
+        (unitName «q_basin» (labelOfNumbers «q_first» «q_rest»))) ⌝ }
 {
-    let p = Label {
-        first: p_first,
-        rest: p_rest,
-    };
-    let q = Label {
-        first: q_first,
-        rest: q_rest,
-    };
+    let p = unit(p_basin, p_first, p_rest);
+    let q = unit(q_basin, q_first, q_rest);
     flow::outlet_answer_number(flow::outlet_flow_of(depth, p, q))
 }
 
@@ -165,21 +176,25 @@ fn pairs_code(answer: PairsAnswer) -> u64
     }
 }
 
-// The flow question for each pair, P's label and Q's at the same place.
+// The flow question for each pair, P's basin and label and Q's at the same place.
 #[no_mangle]
 pub extern "C" fn pf_flow_pairs(
     depth: usize,
     least: usize,
     p: &[u64],
+    p_basins: &[u32],
     q: &[u64],
+    q_basins: &[u32],
     answers: &mut [u8],
 ) -> u64
-    ensures answer { λ r. ⌜ r ≡ pairsCode (pairsAnswer depth least (length (now (p .entry))) (length (now (q .entry)))
+    ensures answer { λ r. ⌜ r ≡ pairsCode (pairsAnswer depth least (length (now (p .entry)))
+        (length (now («p_basins» .entry))) (length (now (q .entry))) (length (now («q_basins» .entry)))
         (length (now (answers .entry)))) ⌝ }
     ensures places { λ _. ⌜ now (answers .exit)
-        ≡ pairsPlaces depth least (now (p .entry)) (now (q .entry)) (now (answers .entry)) ⌝ }
+        ≡ pairsPlaces depth least (now (p .entry)) (now («p_basins» .entry)) (now (q .entry))
+        (now («q_basins» .entry)) (now (answers .entry)) ⌝ }
 {
-    pairs_code(flow::pairs::flow_pairs(depth, least, p, q, answers))
+    pairs_code(flow::pairs::flow_pairs(depth, least, p, p_basins, q, q_basins, answers))
 }
 
 // The word test: the place of the first of a word's eight directions that is none of the nine codes.

@@ -18,22 +18,27 @@ pub extern "C" fn pf_index(
     weights: &[u16],
     areas: &mut [u32],
     labels: &mut [u64],
+    basins: &mut [u32],
     work: &mut [u32],
     units: &mut [u64],
     outlets: &mut [u32],
     counts: &mut [u32],
+    unit_basins: &mut [u32],
 ) -> u64
     ensures answer { λ r. ⌜ r ≡ indexedCode (indexed
         (sheet rows cols depth least split (now (dirs .entry)) (now (weights .entry)))
-        (lent (now (areas .entry)) (now (labels .entry)) (now (work .entry)))
-        (lentIndex (now (units .entry)) (now (outlets .entry)) (now (counts .entry)))) ⌝ }
-    ensures lent { λ _. ⌜ lent (now (areas .exit)) (now (labels .exit)) (now (work .exit))
+        (lent (now (areas .entry)) (now (labels .entry)) (now (basins .entry)) (now (work .entry)))
+        (lentIndex (now (units .entry)) (now (outlets .entry)) (now (counts .entry))
+        (now («unit_basins» .entry)))) ⌝ }
+    ensures lent { λ _. ⌜ lent (now (areas .exit)) (now (labels .exit)) (now (basins .exit)) (now (work .exit))
         ≡ lentAfter (sheet rows cols depth least split (now (dirs .entry)) (now (weights .entry)))
-        (lent (now (areas .entry)) (now (labels .entry)) (now (work .entry))) ⌝ }
+        (lent (now (areas .entry)) (now (labels .entry)) (now (basins .entry)) (now (work .entry))) ⌝ }
     ensures index { λ _. ⌜ lentIndex (now (units .exit)) (now (outlets .exit)) (now (counts .exit))
+        (now («unit_basins» .exit))
         ≡ indexAfter (sheet rows cols depth least split (now (dirs .entry)) (now (weights .entry)))
-        (lent (now (areas .entry)) (now (labels .entry)) (now (work .entry)))
-        (lentIndex (now (units .entry)) (now (outlets .entry)) (now (counts .entry))) ⌝ }
+        (lent (now (areas .entry)) (now (labels .entry)) (now (basins .entry)) (now (work .entry)))
+        (lentIndex (now (units .entry)) (now (outlets .entry)) (now (counts .entry))
+        (now («unit_basins» .entry))) ⌝ }
 {
     indexed_code(index::index(
         rows,
@@ -45,9 +50,11 @@ pub extern "C" fn pf_index(
         weights,
         areas,
         labels,
+        basins,
         work,
         units,
         outlets,
         counts,
+        unit_basins,
     ))
 }

@@ -15,6 +15,7 @@ use Rattle.sheet.specs.declared.OutletFlow.{OutletFlow}
 use Rattle.sheet.specs.declared.OutletFlow.the-variants.{Same as OutletSame, Yes as OutletYes, No as OutletNo}
 use Rattle.sheet.specs.declared.OutletFlow.the-variants.{Refused as OutletRefused}
 use Rattle.sheet.specs.declared.Label.{Label}
+use Rattle.sheet.specs.declared.UnitName.{UnitName}
 use Rattle.sheet.specs.Record.{digitsOf, sameLabel}
 use Rattle.sheet.specs.Refusal.{both, depthFits, leastFits}
 use Rattle.sheet.specs.Flow.{ruleAt, isLabel, partAt, answerAt, answerUnequal, outletFlow, stemAlone}
@@ -60,11 +61,11 @@ outlet-of-cell alone OutletNo = refl
 outlet-of-cell alone (OutletRefused number) = refl
 
 -- the outlet question's answer, from the flow question's where least is 1
-pub outlet-from-flow : (depth : ℕ) (p q : Label) → outletAnswer (flow depth 1 p q) ≡ outletFlow depth p q
+pub outlet-from-flow : (depth : ℕ) (p q : UnitName) → outletAnswer (flow depth 1 p q) ≡ outletFlow depth p q
 unfolding leastFits
 outlet-from-flow depth p q =
     ap outletAnswer (from-outlet-flow depth 1 p q refl)
-    ∙ outlet-of-cell (stemAlone depth 1 (length (digitsOf p))) (outletFlow depth p q)
+    ∙ outlet-of-cell (stemAlone depth 1 (length (digitsOf (p .label)))) (outletFlow depth p q)
 
 pub outlet-answer-number-apart : (a b : OutletFlow) → outletAnswerNumber a ≡ outletAnswerNumber b → a ≡ b
 outlet-answer-number-apart a b e =
@@ -88,12 +89,14 @@ unequal-byte : (p q : Label) → fitsByte (answerUnequal p q)
 unfolding answerUnequal
 unequal-byte p q = answer-byte (digitsOf p) (digitsOf q) (partAt (digitsOf p) (digitsOf q))
 
-pub outlet-flow-byte : (depth : ℕ) (p q : Label) → fitsByte (outletFlow depth p q)
+pub outlet-flow-byte : (depth : ℕ) (p q : UnitName) → fitsByte (outletFlow depth p q)
 unfolding outletFlow
 outlet-flow-byte depth p q =
     either (depthFits depth) _ (OutletRefused 2)
-    (either (both (isLabel depth p) (isLabel depth q)) _ (OutletRefused 11)
-    (either (sameLabel p q) OutletSame _ (omega arith) (unequal-byte p q))
+    (either (both (isLabel depth (p .label)) (isLabel depth (q .label))) _ (OutletRefused 11)
+    (either (eqb (p .basin) (q .basin)) _ OutletNo
+    (either (sameLabel (p .label) (q .label)) OutletSame _ (omega arith) (unequal-byte (p .label) (q .label)))
+    (omega arith))
     (omega arith))
     (omega arith)
 
@@ -104,11 +107,12 @@ cell-byte false OutletYes h = omega arith
 cell-byte alone OutletNo h = omega arith
 cell-byte alone (OutletRefused number) h = h
 
-pub flow-byte : (depth least : ℕ) (p q : Label) → answerNumber (flow depth least p q) < 256
+pub flow-byte : (depth least : ℕ) (p q : UnitName) → answerNumber (flow depth least p q) < 256
 unfolding flow
 flow-byte depth least p q =
     go (depthFits depth) (leastFits least) _
-    (cell-byte (stemAlone depth least (length (digitsOf p))) (outletFlow depth p q) (outlet-flow-byte depth p q))
+    (cell-byte (stemAlone depth least (length (digitsOf (p .label)))) (outletFlow depth p q)
+    (outlet-flow-byte depth p q))
   where
     go : (d l : Bool) (answer : Flow) → answerNumber answer < 256
         → answerNumber (cond d (cond l answer (Refused 19)) (Refused 2)) < 256
@@ -116,6 +120,6 @@ flow-byte depth least p q =
     go true false answer h = omega arith
     go false l answer h = omega arith
 
-pub number-byte : (depth least : ℕ) (p q : Label) (number : ℕ)
+pub number-byte : (depth least : ℕ) (p q : UnitName) (number : ℕ)
     → number ≡ answerNumber (flow depth least p q) → number < 256
 number-byte depth least p q number e = omega (arith, flow-byte depth least p q)

@@ -1,5 +1,4 @@
-// The flow question, does water from the label q pass the label p, and the outlet question, does it pass the outlet of
-// the unit that p names?
+// The flow question, does water from the unit q pass the unit p, and the outlet question, does it pass the outlet of p?
 pub mod pairs;
 
 use checks::depth_fits;
@@ -8,8 +7,8 @@ use checks::same_label;
 use digits::put_label;
 use sheet::Flow;
 use sheet::Found;
-use sheet::Label;
 use sheet::OutletFlow;
+use sheet::UnitName;
 ghost use mathlib.Core.Path.{_≡_};
 ghost use mathlib.Core.Bool.{true};
 ghost use Prim.Native.Nat.{_<_};
@@ -102,18 +101,22 @@ fn cell_answer(alone: bool, answer: OutletFlow) -> Flow
     }
 }
 
-// The answer to the flow question where p is a label and its digits are at hand: 11 for q, Same, 12, then the rule.
-fn answer_by_digits(depth: usize, least: usize, p: Label, digits: &[u8], q: Label) -> Flow
+// The answer to the flow question where p has a label and its digits are at hand: 11 for q, No for different
+// basins, Same, 12, then the rule.
+fn answer_by_digits(depth: usize, least: usize, p: UnitName, digits: &[u8], q: UnitName) -> Flow
     requires { ⌜ (depthFits depth ≡ true) × (leastFits least ≡ true) ⌝ }
-    requires { ⌜ isLabel depth p ≡ true ⌝ }
-    requires { ⌜ now digits ≡ digitsOf p ⌝ }
+    requires { ⌜ isLabel depth (p .label) ≡ true ⌝ }
+    requires { ⌜ now digits ≡ digitsOf (p .label) ⌝ }
     ensures { λ r. ⌜ r ≡ flow depth least p q ⌝ }
 {
     let mut places = [0u8; 36];
-    match put_label(depth, q, &mut places) {
+    match put_label(depth, q.label, &mut places) {
         Found::Nothing => Flow::Refused(11),
         Found::At(start) => {
-            if same_label(p, q) {
+            if p.basin != q.basin {
+                return Flow::No;
+            }
+            if same_label(p.label, q.label) {
                 return Flow::Same;
             }
             let alone = is_stem_alone(depth, least, digits.len());
@@ -122,21 +125,21 @@ fn answer_by_digits(depth: usize, least: usize, p: Label, digits: &[u8], q: Labe
     }
 }
 
-// The answer to the flow question where depth and least fit: 11, Same, 12, then the rule.
-fn answer_fitting(depth: usize, least: usize, p: Label, q: Label) -> Flow
+// The answer to the flow question where depth and least fit: 11, No for different basins, Same, 12, then the rule.
+fn answer_fitting(depth: usize, least: usize, p: UnitName, q: UnitName) -> Flow
     requires { ⌜ (depthFits depth ≡ true) × (leastFits least ≡ true) ⌝ }
     ensures { λ r. ⌜ r ≡ flow depth least p q ⌝ }
 {
     let mut places = [0u8; 36];
-    match put_label(depth, p, &mut places) {
+    match put_label(depth, p.label, &mut places) {
         Found::Nothing => Flow::Refused(11),
         Found::At(start) => answer_by_digits(depth, least, p, &places[start..], q),
     }
 }
 
-// The flow question: does water from the label q pass the label p? 2, 19, 11, Same, 12, then the rule; Undecided where
-// it is met and least is above 1 or p has as many digits as the depth.
-pub fn flow_of(depth: usize, least: usize, p: Label, q: Label) -> Flow
+// The flow question: does water from the unit q pass the unit p? 2, 19, 11, No for different basins, Same, 12, then the
+// rule; Undecided where it is met and least is above 1 or p's label has as many digits as the depth.
+pub fn flow_of(depth: usize, least: usize, p: UnitName, q: UnitName) -> Flow
     ensures answer { λ r. ⌜ r ≡ flow depth least p q ⌝ }
     ensures number { λ r. ⌜ answerNumber r ≡ answerNumber (flow depth least p q) ⌝ }
 {
@@ -162,9 +165,9 @@ fn outlet_answer(answer: Flow) -> OutletFlow
     }
 }
 
-// The outlet question: does water from the label q pass the outlet of the unit that the label p names? 2, 11, Same, 12,
-// then the rule.
-pub fn outlet_flow_of(depth: usize, p: Label, q: Label) -> OutletFlow
+// The outlet question: does water from the unit q pass the outlet of the unit p? 2, 11, No for different basins, Same,
+// 12, then the rule.
+pub fn outlet_flow_of(depth: usize, p: UnitName, q: UnitName) -> OutletFlow
     ensures answer { λ r. ⌜ r ≡ outletFlow depth p q ⌝ }
     ensures number { λ r. ⌜ outletAnswerNumber r ≡ outletAnswerNumber (outletFlow depth p q) ⌝ }
 {

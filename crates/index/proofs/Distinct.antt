@@ -1,4 +1,5 @@
--- The distinct labels of a sheet rise, and are those of its inside cells; equal digits by the test.
+-- The distinct units of a sheet rise, and are those of its inside cells; equal digits by the test, and the test of a
+-- unit's cells.
 use mathlib.Core.Path.{_≡_, refl, sym, _∙_, ap}
 use mathlib.Core.Bool.{Bool, true, false, cond, true≢false}
 use mathlib.Core.List.{List, [], _∷_, List·Memᴰ, List·Memᴰ·not-nil}
@@ -8,47 +9,48 @@ use native.Mathlib.Omega.{arith}
 use lib.Dec.{eqb}
 use borrow.Author.Tests.{eqb-true, eqb-false, eq-eqb}
 use Rattle.sheet.specs.Sheet.{Sheet, inside}
-use Rattle.sheet.specs.Label.{labelDigits}
-use Rattle.index.specs.Units.{withLabel, labelsAmong, sameDigits}
-use Rattle.index.proofs.LabelsRise.{LabelsRise, rise-none, with-mem, with-new, with-old, with-rise}
+use Rattle.sheet.specs.Basins.{basinDigits}
+use Rattle.sheet.proofs.Within.{both-true}
+use Rattle.index.specs.Units.{withUnit, unitsAmong, sameDigits, isOfUnit}
+use Rattle.index.proofs.UnitsRise.{UnitsRise, rise-none, with-mem, with-new, with-old, with-rise}
 
--- ---- the distinct labels
+-- ---- the distinct units
 
-pub among-rise : (S : Sheet) (n : ℕ) → LabelsRise (labelsAmong S n)
-unfolding labelsAmong
+pub among-rise : (S : Sheet) (n : ℕ) → UnitsRise (unitsAmong S n)
+unfolding unitsAmong
 among-rise S zero = rise-none
 among-rise S (suc n) = go (inside (S .grid) n) (among-rise S n)
   where
-    go : (b : Bool) → LabelsRise (labelsAmong S n)
-        → LabelsRise (cond b (withLabel (labelDigits S n) (labelsAmong S n)) (labelsAmong S n))
-    go true w = with-rise (labelDigits S n) (labelsAmong S n) w
+    go : (b : Bool) → UnitsRise (unitsAmong S n)
+        → UnitsRise (cond b (withUnit (basinDigits S n) (unitsAmong S n)) (unitsAmong S n))
+    go true w = with-rise (basinDigits S n) (unitsAmong S n) w
     go false w = w
 
 pub among-has : (S : Sheet) (n c : ℕ) → c < n → inside (S .grid) c ≡ true
-    → List·Memᴰ (labelDigits S c) (labelsAmong S n)
-unfolding labelsAmong
+    → List·Memᴰ (basinDigits S c) (unitsAmong S n)
+unfolding unitsAmong
 among-has S zero c l i = absurd (omega arith)
 among-has S (suc n) c l i = go (eqb c n) refl (inside (S .grid) n) refl (λ k. among-has S n c k i)
   where
     go : (s : Bool) → eqb c n ≡ s → (b : Bool) → inside (S .grid) n ≡ b
-        → (c < n → List·Memᴰ (labelDigits S c) (labelsAmong S n))
-        → List·Memᴰ (labelDigits S c) (cond b (withLabel (labelDigits S n) (labelsAmong S n)) (labelsAmong S n))
-    go true e true q f = rw (eqb-true c n e) (with-new (labelDigits S n) (labelsAmong S n))
+        → (c < n → List·Memᴰ (basinDigits S c) (unitsAmong S n))
+        → List·Memᴰ (basinDigits S c) (cond b (withUnit (basinDigits S n) (unitsAmong S n)) (unitsAmong S n))
+    go true e true q f = rw (eqb-true c n e) (with-new (basinDigits S n) (unitsAmong S n))
     go true e false q f = absurd (true≢false (sym i ∙ ap (inside (S .grid)) (eqb-true c n e) ∙ q))
     go false e true q f =
         let d : c ≢ n = eqb-false c n e in
-        with-old (labelDigits S n) (labelDigits S c) (labelsAmong S n) (f (omega arith))
+        with-old (basinDigits S n) (basinDigits S c) (unitsAmong S n) (f (omega arith))
     go false e false q f = let d : c ≢ n = eqb-false c n e in f (omega arith)
 
--- an inside cell below n with the label x
+-- an inside cell below n of the unit x
 pub record CellOf (S : Sheet) (n : ℕ) (x : List ℕ) : Type 0 where
   pub cell : ℕ
   pub below : cell < n
   pub is-inside : inside (S .grid) cell ≡ true
-  pub named : labelDigits S cell ≡ x
+  pub named : basinDigits S cell ≡ x
 
-pub among-from : (S : Sheet) (n : ℕ) (x : List ℕ) → List·Memᴰ x (labelsAmong S n) → CellOf S n x
-unfolding labelsAmong
+pub among-from : (S : Sheet) (n : ℕ) (x : List ℕ) → List·Memᴰ x (unitsAmong S n) → CellOf S n x
+unfolding unitsAmong
 among-from S zero x m = absurd (List·Memᴰ·not-nil m)
 among-from S (suc n) x m = go (inside (S .grid) n) refl m (among-from S n x)
   where
@@ -58,9 +60,9 @@ among-from S (suc n) x m = go (inside (S .grid) n) refl m (among-from S n x)
         record { cell = r .cell; below = omega arith; is-inside = r .is-inside; named = r .named }
 
     go : (b : Bool) → inside (S .grid) n ≡ b
-        → List·Memᴰ x (cond b (withLabel (labelDigits S n) (labelsAmong S n)) (labelsAmong S n))
-        → (List·Memᴰ x (labelsAmong S n) → CellOf S n x) → CellOf S (suc n) x
-    go true q k f = elim (with-mem (labelDigits S n) x (labelsAmong S n) k) [
+        → List·Memᴰ x (cond b (withUnit (basinDigits S n) (unitsAmong S n)) (unitsAmong S n))
+        → (List·Memᴰ x (unitsAmong S n) → CellOf S n x) → CellOf S (suc n) x
+    go true q k f = elim (with-mem (basinDigits S n) x (unitsAmong S n) k) [
       | inl e ↦ record { cell = n; below = omega arith; is-inside = q; named = sym e }
       | inr j ↦ older (f j)
     ]
@@ -84,3 +86,18 @@ pub same-refl : (x : List ℕ) → sameDigits x x ≡ true
 unfolding sameDigits
 same-refl [] = refl
 same-refl (a ∷ x) = rw (eq-eqb a a refl) (same-refl x)
+
+pub same-equal : (x y : List ℕ) → x ≡ y → sameDigits x y ≡ true
+same-equal x y e = rw e (same-refl y)
+
+-- ---- the test of a unit's cells
+
+pub of-unit : (S : Sheet) (c : ℕ) (x : List ℕ) → inside (S .grid) c ≡ true → basinDigits S c ≡ x → isOfUnit S x c ≡ true
+unfolding isOfUnit
+of-unit S c x i e = rw i (same-equal (basinDigits S c) x e)
+
+pub unit-of : (S : Sheet) (c : ℕ) (x : List ℕ) → isOfUnit S x c ≡ true
+    → (inside (S .grid) c ≡ true) × (basinDigits S c ≡ x)
+unfolding isOfUnit
+unit-of S c x e =
+    let b = both-true (inside (S .grid) c) (sameDigits (basinDigits S c) x) e in (b .0, same-true _ x (b .1))

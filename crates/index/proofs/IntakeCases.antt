@@ -17,10 +17,10 @@ use Rattle.index.specs.Index.{LentIndex, lentIndex}
 use Rattle.index.specs.FromIntake.{intakeIndexed, intakeIndexAfter}
 
 abbrev pub one : Lent
-one = lent (7 ∷ 7 ∷ []) (7 ∷ 7 ∷ 7 ∷ []) (replicate 9 7)
+one = lent (7 ∷ 7 ∷ []) (7 ∷ 7 ∷ 7 ∷ []) (7 ∷ 7 ∷ []) (replicate 9 7)
 
 abbrev pub two : LentIndex
-two = lentIndex (7 ∷ 7 ∷ 7 ∷ 7 ∷ []) (7 ∷ 7 ∷ []) (7 ∷ 7 ∷ [])
+two = lentIndex (7 ∷ 7 ∷ 7 ∷ 7 ∷ []) (7 ∷ 7 ∷ []) (7 ∷ 7 ∷ []) (7 ∷ 7 ∷ [])
 
 abbrev pub sizes : Sizes
 sizes = record { rows = 1; cols = 1; depth = 1; least = 1; split = 4 }
@@ -64,15 +64,15 @@ pub ended : intakeIndexed (record { stage = Ended sizes }) (withWeight 1) one tw
 unfolding intakeIndexed
 ended = refl
 
--- one unit is written: label 0, outlet cell 0, one cell
+-- one unit is written: label 0, outlet cell 0, one cell, basin 1
 pub ended-index : intakeIndexAfter (record { stage = Ended sizes }) (withWeight 1) one two
-    ≡ lentIndex (0 ∷ 0 ∷ 7 ∷ 7 ∷ []) (0 ∷ 7 ∷ []) (1 ∷ 7 ∷ [])
+    ≡ lentIndex (0 ∷ 0 ∷ 7 ∷ 7 ∷ []) (0 ∷ 7 ∷ []) (1 ∷ 7 ∷ []) (1 ∷ 7 ∷ [])
 unfolding intakeIndexAfter
 ended-index = refl
 
 -- a weight changes no count of cells; 17 for one outside 1 to 1000, and no place is written
 pub ended-weighted : intakeIndexAfter (record { stage = Ended sizes }) (withWeight 1000) one two
-    ≡ lentIndex (0 ∷ 0 ∷ 7 ∷ 7 ∷ []) (0 ∷ 7 ∷ []) (1 ∷ 7 ∷ [])
+    ≡ lentIndex (0 ∷ 0 ∷ 7 ∷ 7 ∷ []) (0 ∷ 7 ∷ []) (1 ∷ 7 ∷ []) (1 ∷ 7 ∷ [])
 unfolding intakeIndexAfter
 ended-weighted = refl
 

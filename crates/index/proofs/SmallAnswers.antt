@@ -9,7 +9,7 @@ use lib.ListN.{length, length-map}
 use Rattle.sheet.specs.declared.Outcome.{Outcome}
 use Rattle.sheet.specs.declared.Outcome.the-variants.{Accepted, Refused as NotLabelled}
 use Rattle.sheet.specs.Sheet.{Sheet, cells, inside}
-use Rattle.sheet.specs.Label.{labelDigits}
+use Rattle.sheet.specs.Basins.{basinDigits}
 use Rattle.sheet.specs.Refusal.{Lent, outcome}
 use Rattle.sheet.proofs.Cells.{cells-most}
 use Rattle.sheet.proofs.Within.{rows-cols-most}
@@ -18,38 +18,38 @@ use Rattle.claims.proofs.Places.{SmallRefusal, refusal-small}
 use Rattle.claims.proofs.Written.{checks}
 use Rattle.index.specs.declared.Indexed.{Indexed}
 use Rattle.index.specs.declared.Indexed.the-variants.{Units, Refused}
-use Rattle.index.specs.Units.{withLabel, labelsAmong, distinctLabels, entryOfUnit, units}
+use Rattle.index.specs.Units.{withUnit, unitsAmong, distinctUnits, entryOfUnit, units}
 use Rattle.index.specs.Index.{LentIndex, indexFits, indexedOn, indexed}
 
 abbrev pub SmallAnswer : Indexed → Type 0
 SmallAnswer (Units units) = units ≤ 65536
 SmallAnswer (Refused number place) = (1 ≤ number) × (number ≤ 19) × (place < 65536)
 
-with-label-length : (x : List ℕ) (ys : List (List ℕ)) → length (withLabel x ys) ≤ suc (length ys)
-unfolding withLabel
-with-label-length x [] = omega arith
-with-label-length x (y ∷ ys) = go (isBefore x y) (isBefore y x) (with-label-length x ys)
+with-unit-length : (x : List ℕ) (ys : List (List ℕ)) → length (withUnit x ys) ≤ suc (length ys)
+unfolding withUnit
+with-unit-length x [] = omega arith
+with-unit-length x (y ∷ ys) = go (isBefore x y) (isBefore y x) (with-unit-length x ys)
   where
-    go : (a b : Bool) → length (withLabel x ys) ≤ suc (length ys)
-        → length (cond a (x ∷ y ∷ ys) (cond b (y ∷ withLabel x ys) (y ∷ ys))) ≤ suc (suc (length ys))
+    go : (a b : Bool) → length (withUnit x ys) ≤ suc (length ys)
+        → length (cond a (x ∷ y ∷ ys) (cond b (y ∷ withUnit x ys) (y ∷ ys))) ≤ suc (suc (length ys))
     go true b h = omega arith
     go false true h = omega arith
     go false false h = omega arith
 
 module _ (S : Sheet) where
-  labels-few : (n : ℕ) → length (labelsAmong S n) ≤ n
-  unfolding labelsAmong
-  labels-few zero = omega arith
-  labels-few (suc n) = go (inside (S .grid) n) (labels-few n)
+  among-few : (n : ℕ) → length (unitsAmong S n) ≤ n
+  unfolding unitsAmong
+  among-few zero = omega arith
+  among-few (suc n) = go (inside (S .grid) n) (among-few n)
     where
-      go : (b : Bool) → length (labelsAmong S n) ≤ n
-          → length (cond b (withLabel (labelDigits S n) (labelsAmong S n)) (labelsAmong S n)) ≤ suc n
-      go true h = let l = with-label-length (labelDigits S n) (labelsAmong S n) in omega arith
+      go : (b : Bool) → length (unitsAmong S n) ≤ n
+          → length (cond b (withUnit (basinDigits S n) (unitsAmong S n)) (unitsAmong S n)) ≤ suc n
+      go true h = let l = with-unit-length (basinDigits S n) (unitsAmong S n) in omega arith
       go false h = omega arith
 
   pub units-few : length (units S) ≤ cells (S .grid)
-  unfolding units distinctLabels
-  units-few = rw (length-map (distinctLabels S) (entryOfUnit S)) (labels-few (cells (S .grid)))
+  unfolding units distinctUnits
+  units-few = rw (length-map (distinctUnits S) (entryOfUnit S)) (among-few (cells (S .grid)))
 
 pub answer-small : (S : Sheet) (L : Lent) (I : LentIndex) → SmallAnswer (indexed S L I)
 unfolding indexed

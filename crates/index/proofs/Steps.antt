@@ -9,8 +9,11 @@ use Rattle.sheet.specs.declared.Outcome.the-variants.{Accepted, Refused as NotL
 use Rattle.sheet.specs.Sheet.{Sheet, Grid, cells}
 use Rattle.sheet.specs.Record.{labelPlaces}
 use Rattle.sheet.specs.Label.{areasOf, labelsOf}
+use Rattle.sheet.specs.Basins.{basinsOf}
 use Rattle.sheet.specs.Refusal.{Lent, outcome, ifAccepted, lentAfter}
 use Rattle.directions.specs.Sizes.{mostCells}
+use Rattle.claims.proofs.Alone.{alone-is-direct}
+use Rattle.claims.proofs.Written.{checks}
 use Rattle.drainage.specs.declared.Inspection.{Inspection}
 use Rattle.upstream.specs.Work.{cellsPart}
 use Rattle.order.specs.Places.{cellsIn, Arranged}
@@ -24,10 +27,10 @@ use Rattle.index.specs.Steps.{groupsOf, InOrder, IndexedFitting}
 use Rattle.index.proofs.UnitsInOrder.{groups-are-units}
 
 -- from the order along rivers to the cells that the units are written from
-pub in-order : {G : Grid} {areas work labels : List ℕ} {queued : ℕ} → cells G ≤ mostCells
-    → length work ≡ 8 * cells G → cells G ≤ labelPlaces (length labels) → Arranged G areas work queued
-    → InOrder (cells G) work labels queued
-in-order {G} {areas} {work} {labels} {queued} small long enough r =
+pub in-order : {G : Grid} {areas work labels basins : List ℕ} {queued : ℕ} → cells G ≤ mostCells
+    → length work ≡ 8 * cells G → cells G ≤ labelPlaces (length labels) → cells G ≤ length basins
+    → Arranged G areas work queued → InOrder (cells G) work labels basins queued
+in-order {G} {areas} {work} {labels} {basins} {queued} small long enough numbered r =
     let part = drop (cellsPart * cells G) work in
     let few : cellsPart * cells G + queued ≤ length work =
     omega (arith, r .some, r .long, length-take queued part, length-drop (cellsPart * cells G) work) in
@@ -37,6 +40,7 @@ in-order {G} {areas} {work} {labels} {queued} small long enough r =
       labelled = record {
         few = rw (r .long) (omega arith);
         on = λ j l. let o = r .layout .on j l in omega arith;
+        numbered = λ j l. let o = r .layout .on j l in omega arith;
       };
     }
 
@@ -44,17 +48,24 @@ in-order {G} {areas} {work} {labels} {queued} small long enough r =
 module _ (S : Sheet) (L : Lent) (passed : firstChecks S L ≡ Accepted) {L′ : Lent} {found : Inspection}
     (o : LabelledInOrder S L L′ found) where
   abbrev groups : List UnitEntry
-  groups = groupsOf (cellsIn (cells (S .grid)) (L′ .work) (found .queued)) (L′ .labels)
+  groups = groupsOf (cellsIn (cells (S .grid)) (L′ .work) (found .queued)) (L′ .labels) (L′ .basins)
 
-  labels-after : L′ .labels ≡ lentAfter S L .labels
-  unfolding lentAfter
-  labels-after =
-      o .labels ∙ ap (λ (x : Outcome). ifAccepted x (labelsOf S) (L .labels)) (o .outcome ∙ sym (the-rest S L passed))
+  module _ (e : found .outcome ≡ Accepted) where
+    pub accepted : outcome S L ≡ Accepted
+    accepted = the-rest S L passed ∙ sym (o .outcome) ∙ e
 
-  groups-of-accepted : found .outcome ≡ Accepted → groups ≡ units S
-  groups-of-accepted e =
-      rw labels-after (groups-are-units S L (L .areas) (the-rest S L passed ∙ sym (o .outcome) ∙ e)
-      (rw e at (o .areas)) (o .order e))
+    pub labels-after : L′ .labels ≡ lentAfter S L .labels
+    unfolding lentAfter
+    labels-after = rw (accepted, alone-is-direct S (checks S L accepted .rest) .labels) (rw e at (o .labels))
+
+    pub basins-after : L′ .basins ≡ lentAfter S L .basins
+    unfolding lentAfter
+    basins-after = rw accepted (rw e at (o .basins))
+
+    pub groups-of-accepted : groups ≡ units S
+    groups-of-accepted =
+        rw (labels-after, basins-after)
+        (groups-are-units S L (L .areas) accepted (rw e at (o .areas)) (o .order e))
 
   module _ (I : LentIndex) where
     answer-is : indexedOn (found .outcome) (length groups) I ≡ indexedOn (found .outcome) (length (units S)) I
@@ -78,11 +89,12 @@ module _ (S : Sheet) (L : Lent) (passed : firstChecks S L ≡ Accepted) {L′ : 
     pub indexed-fitting : {I′ : LentIndex} {r : Indexed} {work : List ℕ}
         → r ≡ indexedOn (found .outcome) (length groups) I → I′ ≡ ifIndexed r groups I
         → work ≡ replicate (8 * cells (S .grid)) 0
-        → IndexedFitting S L (lent (L′ .areas) (L′ .labels) work) I I′ r
+        → IndexedFitting S L (lent (L′ .areas) (L′ .labels) (L′ .basins) work) I I′ r
     indexed-fitting {I′} {r} {work} a i w = record {
       answer = a ∙ answer-is ∙ ap (λ (x : Outcome). indexedOn x (length (units S)) I) (o .outcome);
       areas = o .areas ∙ ap (λ (x : Outcome). ifAccepted x (areasOf S) (L .areas)) (o .outcome);
       labels = o .labels ∙ ap (λ (x : Outcome). ifAccepted x (labelsOf S) (L .labels)) (o .outcome);
+      basins = o .basins ∙ ap (λ (x : Outcome). ifAccepted x (basinsOf (S .grid)) (L .basins)) (o .outcome);
       work = w;
       index = i ∙ index-is a;
     }
@@ -109,13 +121,13 @@ module _ (S : Sheet) (L : Lent) (I : LentIndex) where
       answered (ap (λ (x : Outcome). indexedOn x (length (units S)) I) (a .0)) (a .1 .1) refl
 
   -- after the first checks
-  pub indexed-after : firstChecks S L ≡ Accepted → {areas labels work : List ℕ} {I′ : LentIndex} {r : Indexed}
-      → IndexedFitting S (lent (L .areas) (L .labels) (take (8 * cells (S .grid)) (L .work)))
-      (lent areas labels work) I I′ r
-      → Answered r (lent areas labels (work ++ drop (8 * cells (S .grid)) (L .work))) I′
+  pub indexed-after : firstChecks S L ≡ Accepted → {areas labels basins work : List ℕ} {I′ : LentIndex} {r : Indexed}
+      → IndexedFitting S (lent (L .areas) (L .labels) (L .basins) (take (8 * cells (S .grid)) (L .work)))
+      (lent areas labels basins work) I I′ r
+      → Answered r (lent areas labels basins (work ++ drop (8 * cells (S .grid)) (L .work))) I′
   unfolding indexed
   indexed-after passed f =
-      let a = labelled S L passed refl (f .areas) (f .labels)
+      let a = labelled S L passed refl (f .areas) (f .labels) (f .basins)
       (ap (λ (w : List ℕ). w ++ drop (8 * cells (S .grid)) (L .work)) (f .work)) in
       answered (f .answer ∙ ap (λ (x : Outcome). indexedOn x (length (units S)) I) (sym (the-rest S L passed)))
       (a .1 .1) (f .index)

@@ -5,45 +5,47 @@ use mathlib.Core.List.{List, [], _∷_, map, map-id, List·Memᴰ, List·Memᴰ�
 use Prim.Native.Nat.{ℕ, suc, _≤_, _<_}
 use native.Mathlib.Omega.{arith}
 use lib.ListN.{length, getD}
-use Rattle.sheet.specs.declared.Label.{Label}
+use Rattle.sheet.specs.declared.UnitName.{UnitName}
 use Rattle.sheet.specs.declared.Outcome.the-variants.{Accepted}
 use Rattle.sheet.specs.Sheet.{Sheet, cells, next}
-use Rattle.sheet.specs.Record.{recordOf, digitsOf, sameLabel, labelAt}
-use Rattle.sheet.specs.Label.{labelDigits, areasOf}
+use Rattle.sheet.specs.Record.{sameUnit, unitAt, basinAndDigits, unitDigitsAt}
+use Rattle.sheet.specs.Label.{areasOf}
+use Rattle.sheet.specs.Basins.{basinDigits}
 use Rattle.sheet.specs.Refusal.{Lent, outcome, written, lentAfter}
 use Rattle.sheet.proofs.Cells.{inside-lt}
-use Rattle.sheet.proofs.Records.{same-true, same-false}
-use Rattle.claims.specs.Demand.{Inside, digitsAt}
+use Rattle.claims.specs.Demand.{Inside}
 use Rattle.claims.specs.Dictionary.{NotAfter}
 use Rattle.claims.proofs.Counts.{not-true}
-use Rattle.claims.proofs.Written.{label-written, digits-written}
 use Rattle.rivers.specs.LabelOrder.{InLabelOrder}
 use Rattle.rivers.proofs.WrittenOrder.{same-in-order}
 use Rattle.order.specs.Places.{cellsIn, Arranged}
 use Rattle.labelling.proofs.LabelOrder.{labels-in-order}
-use Rattle.index.specs.Units.{isOfUnit, UnitEntry, unitEntry, entryOfUnit, distinctLabels, units, outletCell}
-use Rattle.index.specs.Units.{unitCells}
+use Rattle.index.specs.Units.{isOfUnit, unitOf, UnitEntry, unitEntry, entryOfUnit, distinctUnits, units}
+use Rattle.index.specs.Units.{outletCell, unitCells}
 use Rattle.index.specs.Groups.{grouped}
-use Rattle.index.proofs.LabelsRise.{same-labels}
-use Rattle.index.proofs.Distinct.{among-rise, among-has, among-from}
+use Rattle.index.proofs.UnitNames.{same-true, same-false}
+use Rattle.index.proofs.UnitsRise.{same-units}
+use Rattle.index.proofs.Distinct.{among-rise, among-has, among-from, of-unit, unit-of}
 use Rattle.index.proofs.ListPlaces.{at-place, place-of}
 use Rattle.index.proofs.Counting.{Once, once-none, once-on, SameTests, counted-cells}
 use Rattle.index.proofs.GroupsInOrder.{NeverFall, fall-none, fall-on, entryDigits, GroupsOf, groups-of}
-use Rattle.index.proofs.Outlets.{of-unit, unit-of, outlet-is}
+use Rattle.index.proofs.WrittenUnits.{unit-digits-written, unit-written, unit-told}
+use Rattle.index.proofs.Outlets.{outlet-is}
 
 -- ---- a list of cells by its places
 
-never-fall : (label : ℕ → Label) (cs : List ℕ)
-    → ((i : ℕ) → i < length cs → recordOf (digitsOf (label (getD cs i 0))) ≡ label (getD cs i 0))
-    → ((i j : ℕ) → i ≤ j → j < length cs → NotAfter (digitsOf (label (getD cs i 0))) (digitsOf (label (getD cs j 0))))
-    → NeverFall label cs
-never-fall label [] told falls = fall-none
-never-fall label (c ∷ cs) told falls =
+never-fall : (unit : ℕ → UnitName) (cs : List ℕ)
+    → ((i : ℕ) → i < length cs → unitOf (basinAndDigits (unit (getD cs i 0))) ≡ unit (getD cs i 0))
+    → ((i j : ℕ) → i ≤ j → j < length cs
+    → NotAfter (basinAndDigits (unit (getD cs i 0))) (basinAndDigits (unit (getD cs j 0))))
+    → NeverFall unit cs
+never-fall unit [] told falls = fall-none
+never-fall unit (c ∷ cs) told falls =
     fall-on (told 0 (omega arith))
     (λ d m.
     let p = place-of 0 cs m in
     rw (p .2) at (falls 0 (suc (p .0)) (omega arith) (omega (arith, p .1))))
-    (never-fall label cs (λ i l. told (suc i) (omega arith))
+    (never-fall unit cs (λ i l. told (suc i) (omega arith))
     (λ i j l k. falls (suc i) (suc j) (omega arith) (omega arith)))
 
 stand-once : (cs : List ℕ)
@@ -57,7 +59,7 @@ stand-once (c ∷ cs) once =
     omega arith)
     (stand-once cs (λ i j l k e. let q = once (suc i) (suc j) (omega arith) (omega arith) e in omega arith))
 
--- values of entries that are told by their digits
+-- values of entries that are told by their basins and digits
 pub entries-map : {A : Type 0} (f : UnitEntry → A) (g : List ℕ → A) (es : List UnitEntry)
     → ((e : UnitEntry) → List·Memᴰ e es → f e ≡ g (entryDigits e)) → map f es ≡ map g (map entryDigits es)
 entries-map f g [] h = refl
@@ -72,20 +74,21 @@ module _ (S : Sheet) (L : Lent) (old : List ℕ) {areas work : List ℕ} {queued
   abbrev cs : List ℕ
   cs = cellsIn (cells (S .grid)) work queued
 
-  abbrev label : ℕ → Label
-  label = labelAt (lentAfter S L .labels)
+  abbrev unit : ℕ → UnitName
+  unit = unitAt (lentAfter S L .basins) (lentAfter S L .labels)
 
-  order : InLabelOrder (next (S .grid)) (Inside S) (digitsAt (lentAfter S L .labels)) cs 0 queued
+  order : InLabelOrder (next (S .grid)) (Inside S) (unitDigitsAt (lentAfter S L .basins) (lentAfter S L .labels)) cs 0
+      queued
   order = labels-in-order S L old accepted measured arranged
 
-  defined : InLabelOrder (next (S .grid)) (Inside S) (labelDigits S) cs 0 queued
-  defined = same-in-order (λ c h. h) (λ c h. h) (digits-written S L accepted) order
+  defined : InLabelOrder (next (S .grid)) (Inside S) (basinDigits S) cs 0 queued
+  defined = same-in-order (λ c h. h) (λ c h. h) (unit-digits-written S L accepted) order
 
   long : length cs ≡ queued
   long = arranged .long
 
-  told : (c : ℕ) → Inside S c → recordOf (digitsOf (label c)) ≡ label c
-  told c i = ap recordOf (digits-written S L accepted c i) ∙ sym (label-written S L accepted c i)
+  told : (c : ℕ) → Inside S c → unitOf (basinAndDigits (unit c)) ≡ unit c
+  told = unit-told S L accepted
 
   pub listed-inside : (c : ℕ) → List·Memᴰ c cs → Inside S c
   listed-inside c m =
@@ -101,41 +104,42 @@ module _ (S : Sheet) (L : Lent) (old : List ℕ) {areas work : List ℕ} {queued
       stand-once cs
       (λ i j l k e. order .once i j (omega arith) (omega (arith, long)) (omega arith) (omega (arith, long)) e)
 
-  pub falls : NeverFall label cs
+  pub falls : NeverFall unit cs
   falls =
-      never-fall label cs
+      never-fall unit cs
       (λ i l. told (getD cs i 0) (order .are-inside i (omega arith) (omega (arith, long))))
       (λ i j l k. order .never-fall i j (omega arith) l (omega (arith, long)))
 
-  groups : GroupsOf label cs (grouped label cs)
-  groups = groups-of label cs falls
+  groups : GroupsOf unit cs (grouped unit cs)
+  groups = groups-of unit cs falls
 
-  -- an entry's first cell is inside, and has its label
-  entry-inside : (e : UnitEntry) → List·Memᴰ e (grouped label cs) → Inside S (e .outlet)
+  -- an entry's first cell is inside, and is of its unit
+  entry-inside : (e : UnitEntry) → List·Memᴰ e (grouped unit cs) → Inside S (e .outlet)
   entry-inside e m =
       let g = groups .each e m in
       listed-inside (e .outlet) (rw (g .at) at (at-place 0 cs (g .place) (g .below)))
 
-  entry-named : (e : UnitEntry) → List·Memᴰ e (grouped label cs) → labelDigits S (e .outlet) ≡ entryDigits e
+  entry-named : (e : UnitEntry) → List·Memᴰ e (grouped unit cs) → basinDigits S (e .outlet) ≡ entryDigits e
   entry-named e m =
-      sym (digits-written S L accepted (e .outlet) (entry-inside e m)) ∙ ap digitsOf (groups .each e m .named)
+      sym (unit-digits-written S L accepted (e .outlet) (entry-inside e m))
+      ∙ ap basinAndDigits (groups .each e m .named)
 
-  pub same-digits : map entryDigits (grouped label cs) ≡ distinctLabels S
-  unfolding distinctLabels
+  pub same-digits : map entryDigits (grouped unit cs) ≡ distinctUnits S
+  unfolding distinctUnits
   same-digits =
-      same-labels _ _ (groups .rise) (among-rise S (cells (S .grid)))
+      same-units _ _ (groups .rise) (among-rise S (cells (S .grid)))
       (λ z m.
-      let e = Memᴰ·of-map entryDigits (grouped label cs) m in
+      let e = Memᴰ·of-map entryDigits (grouped unit cs) m in
       let i = entry-inside (e .0) (e .1) in
       rw (← e .2, ← entry-named (e .0) (e .1))
       (among-has S (cells (S .grid)) (e .0 .outlet) (inside-lt (S .grid) _ i) i))
       (λ z m.
       let c = among-from S (cells (S .grid)) z m in
       let e = groups .has (c .cell) (inside-listed (c .cell) (c .is-inside)) in
-      let q = ap digitsOf (e .2) ∙ digits-written S L accepted (c .cell) (c .is-inside) ∙ c .named in
+      let q = ap basinAndDigits (e .2) ∙ unit-digits-written S L accepted (c .cell) (c .is-inside) ∙ c .named in
       rw q at (Memᴰ·map entryDigits (e .1)))
 
-  entry-outlet : (e : UnitEntry) → List·Memᴰ e (grouped label cs) → outletCell S (entryDigits e) ≡ e .outlet
+  entry-outlet : (e : UnitEntry) → List·Memᴰ e (grouped unit cs) → outletCell S (entryDigits e) ≡ e .outlet
   entry-outlet e m =
       let g = groups .each e m in
       let l = g .below in
@@ -143,55 +147,55 @@ module _ (S : Sheet) (L : Lent) (old : List ℕ) {areas work : List ℕ} {queued
       (rw (g .at, entry-named e m) at
       (defined .first-is-outlet (g .place) (omega arith) (omega (arith, long))
       (λ k a b q.
-      let i = label-written S L accepted (getD cs k 0) (order .are-inside k a (omega (arith, long))) in
-      let j = label-written S L accepted (getD cs (g .place) 0)
+      let i = unit-written S L accepted (getD cs k 0) (order .are-inside k a (omega (arith, long))) in
+      let j = unit-written S L accepted (getD cs (g .place) 0)
       (order .are-inside (g .place) (omega arith) (omega (arith, long))) in
-      g .first k (omega arith) (i ∙ ap recordOf q ∙ sym j ∙ ap label (g .at) ∙ g .named))))
+      g .first k (omega arith) (i ∙ ap unitOf q ∙ sym j ∙ ap unit (g .at) ∙ g .named))))
 
-  entry-told : (e : UnitEntry) → List·Memᴰ e (grouped label cs) → recordOf (entryDigits e) ≡ e .label
+  entry-told : (e : UnitEntry) → List·Memᴰ e (grouped unit cs) → unitOf (entryDigits e) ≡ e .unit
   entry-told e m = rw (groups .each e m .named) at (told (e .outlet) (entry-inside e m))
 
-  -- a listed cell is of an entry's unit exactly if it has its label
-  same-test : (e : UnitEntry) → List·Memᴰ e (grouped label cs) → (c : ℕ) → List·Memᴰ c cs
-      → isOfUnit S (entryDigits e) c ≡ sameLabel (label c) (e .label)
-  same-test e m c k = go (sameLabel (label c) (e .label)) refl
+  -- a listed cell is of an entry's unit exactly if that unit was written for it
+  same-test : (e : UnitEntry) → List·Memᴰ e (grouped unit cs) → (c : ℕ) → List·Memᴰ c cs
+      → isOfUnit S (entryDigits e) c ≡ sameUnit (unit c) (e .unit)
+  same-test e m c k = go (sameUnit (unit c) (e .unit)) refl
     where
       i : Inside S c
       i = listed-inside c k
 
-      go : (b : Bool) → sameLabel (label c) (e .label) ≡ b → isOfUnit S (entryDigits e) c ≡ b
+      go : (b : Bool) → sameUnit (unit c) (e .unit) ≡ b → isOfUnit S (entryDigits e) c ≡ b
       go true q =
           of-unit S c (entryDigits e) i
-          (sym (digits-written S L accepted c i) ∙ ap digitsOf (same-true (label c) (e .label) q))
+          (sym (unit-digits-written S L accepted c i) ∙ ap basinAndDigits (same-true (unit c) (e .unit) q))
       go false q =
           not-true _
-          (λ u. same-false (label c) (e .label) q
-          (label-written S L accepted c i ∙ ap recordOf (unit-of S c (entryDigits e) u .1) ∙ entry-told e m))
+          (λ u. same-false (unit c) (e .unit) q
+          (unit-written S L accepted c i ∙ ap unitOf (unit-of S c (entryDigits e) u .1) ∙ entry-told e m))
 
-  -- so the listed cells with its label are the cells of its unit
-  pub entry-tests : (e : UnitEntry) → List·Memᴰ e (grouped label cs)
-      → SameTests (cells (S .grid)) cs (isOfUnit S (entryDigits e)) (λ c. sameLabel (label c) (e .label))
+  -- so the listed cells with that unit are its cells
+  pub entry-tests : (e : UnitEntry) → List·Memᴰ e (grouped unit cs)
+      → SameTests (cells (S .grid)) cs (isOfUnit S (entryDigits e)) (λ c. sameUnit (unit c) (e .unit))
   entry-tests e m = record {
     below = λ c k. inside-lt (S .grid) c (listed-inside c k);
     listed = λ q l h. inside-listed q (unit-of S q (entryDigits e) h .0);
     same = same-test e m;
   }
 
-  entry-count : (e : UnitEntry) → List·Memᴰ e (grouped label cs) → unitCells S (entryDigits e) ≡ e .count
+  entry-count : (e : UnitEntry) → List·Memᴰ e (grouped unit cs) → unitCells S (entryDigits e) ≡ e .count
   unfolding unitCells
   entry-count e m =
-      counted-cells (cells (S .grid)) cs (isOfUnit S (entryDigits e)) (λ c. sameLabel (label c) (e .label)) listed-once
+      counted-cells (cells (S .grid)) cs (isOfUnit S (entryDigits e)) (λ c. sameUnit (unit c) (e .unit)) listed-once
       (entry-tests e m)
       ∙ sym (groups .each e m .has-count)
 
-  entry-is : (e : UnitEntry) → List·Memᴰ e (grouped label cs) → e ≡ entryOfUnit S (entryDigits e)
+  entry-is : (e : UnitEntry) → List·Memᴰ e (grouped unit cs) → e ≡ entryOfUnit S (entryDigits e)
   unfolding entryOfUnit
   entry-is e m =
       let p = sym (entry-told e m) in
       let q = sym (entry-outlet e m) in let r = sym (entry-count e m) in λ i. unitEntry (p i) (q i) (r i)
 
-  pub groups-are-units : grouped label cs ≡ units S
+  pub groups-are-units : grouped unit cs ≡ units S
   unfolding units
   groups-are-units =
-      sym (map-id (grouped label cs)) ∙ entries-map (λ e. e) (entryOfUnit S) (grouped label cs) entry-is
+      sym (map-id (grouped unit cs)) ∙ entries-map (λ e. e) (entryOfUnit S) (grouped unit cs) entry-is
       ∙ ap (map (entryOfUnit S)) same-digits

@@ -24,8 +24,8 @@ unfoldable pub intakeIndexed : Intake → LentSheet → Lent → LentIndex → I
 unfolding endedSizes indexedWith
 intakeIndexed i T L I = indexedWith (endedSizes (i .stage)) T L I
 
--- what the three slices of the index hold afterwards; areas, labels and work places are those after labelling from the
--- intake (intakeLent)
+-- what the four slices of the index hold afterwards; areas, labels, basins and work places are those after labelling
+-- from the intake (intakeLent)
 unfoldable pub intakeIndexAfter : Intake → LentSheet → Lent → LentIndex → LentIndex
 unfolding endedSizes indexWith
 intakeIndexAfter i T L I = indexWith (endedSizes (i .stage)) T L I

@@ -1,4 +1,4 @@
-// The index of a sheet's units: their labels in dictionary order, each with its outlet cell and its count of cells.
+// The index of a sheet's units, by basin and then label, each with its outlet cell and its count of cells.
 pub mod from_intake;
 pub mod units;
 
@@ -27,17 +27,23 @@ pub fn index_in_order(
     n: usize,
     work: &[u32],
     labels: &[u64],
+    basins: &[u32],
     units: &mut [u64],
     outlets: &mut [u32],
     counts: &mut [u32],
+    unit_basins: &mut [u32],
 ) -> Indexed
-    requires { ⌜ (found .outcome ≡ Outcome.Accepted → InOrder n (now work) (now labels) (found .queued)) ⌝ }
+    requires { ⌜ (found .outcome
+        ≡ Outcome.Accepted
+        → InOrder n (now work) (now labels) (now basins) (found .queued)) ⌝ }
     ensures answer { λ r. ⌜ r ≡ indexedOn (found .outcome)
-        (length (groupsOf (cellsIn n (now (work .entry)) (found .queued)) (now (labels .entry))))
-        (lentIndex (now (units .entry)) (now (outlets .entry)) (now (counts .entry))) ⌝ }
+        (length (groupsOf (cellsIn n (now (work .entry)) (found .queued)) (now (labels .entry)) (now (basins .entry))))
+        (lentIndex (now (units .entry)) (now (outlets .entry)) (now (counts .entry)) (now («unit_basins» .entry))) ⌝ }
     ensures index { λ r. ⌜ lentIndex (now (units .exit)) (now (outlets .exit)) (now (counts .exit))
-        ≡ ifIndexed r (groupsOf (cellsIn n (now (work .entry)) (found .queued)) (now (labels .entry)))
-        (lentIndex (now (units .entry)) (now (outlets .entry)) (now (counts .entry))) ⌝ }
+        (now («unit_basins» .exit))
+        ≡ ifIndexed r
+        (groupsOf (cellsIn n (now (work .entry)) (found .queued)) (now (labels .entry)) (now (basins .entry)))
+        (lentIndex (now (units .entry)) (now (outlets .entry)) (now (counts .entry)) (now («unit_basins» .entry))) ⌝ }
 {
     let outcome = found.outcome;
     let queued = found.queued;
@@ -45,7 +51,15 @@ pub fn index_in_order(
         Outcome::Accepted => {
             let cells = parts::CELLS * n;
             let cells_end = cells + queued;
-            write_units(&work[cells..cells_end], labels, units, outlets, counts)
+            write_units(
+                &work[cells..cells_end],
+                labels,
+                basins,
+                units,
+                outlets,
+                counts,
+                unit_basins,
+            )
         }
         Outcome::Refused(number, place) => Indexed::Refused(number, place),
     }
@@ -62,21 +76,23 @@ fn index_fitting(
     weights: &[u16],
     areas: &mut [u32],
     labels: &mut [u64],
+    basins: &mut [u32],
     work: &mut [u32],
     units: &mut [u64],
     outlets: &mut [u32],
     counts: &mut [u32],
+    unit_basins: &mut [u32],
 ) -> Indexed
     requires { ⌜ Fitting (sheet rows cols depth least split (now dirs) (now weights))
-        (lent (now areas) (now labels) (now work)) ⌝ }
+        (lent (now areas) (now labels) (now basins) (now work)) ⌝ }
     requires { ⌜ firstChecks (sheet rows cols depth least split (now dirs) (now weights))
-        (lent (now areas) (now labels) (now work))
+        (lent (now areas) (now labels) (now basins) (now work))
         ≡ Outcome.Accepted ⌝ }
     ensures { λ r. ⌜ IndexedFitting (sheet rows cols depth least split (now (dirs .entry)) (now (weights .entry)))
-        (lent (now (areas .entry)) (now (labels .entry)) (now (work .entry)))
-        (lent (now (areas .exit)) (now (labels .exit)) (now (work .exit)))
-        (lentIndex (now (units .entry)) (now (outlets .entry)) (now (counts .entry)))
-        (lentIndex (now (units .exit)) (now (outlets .exit)) (now (counts .exit))) r ⌝ }
+        (lent (now (areas .entry)) (now (labels .entry)) (now (basins .entry)) (now (work .entry)))
+        (lent (now (areas .exit)) (now (labels .exit)) (now (basins .exit)) (now (work .exit)))
+        (lentIndex (now (units .entry)) (now (outlets .entry)) (now (counts .entry)) (now («unit_basins» .entry)))
+        (lentIndex (now (units .exit)) (now (outlets .exit)) (now (counts .exit)) (now («unit_basins» .exit))) r ⌝ }
 {
     let found = labelling::label_in_order(
         rows,
@@ -88,16 +104,28 @@ fn index_fitting(
         weights,
         areas,
         labels,
+        basins,
         work,
     );
-    let answer = index_in_order(found, rows * cols, work, labels, units, outlets, counts);
+    let answer = index_in_order(
+        found,
+        rows * cols,
+        work,
+        labels,
+        basins,
+        units,
+        outlets,
+        counts,
+        unit_basins,
+    );
     labelling::clear_places(work);
     answer
 }
 
 // Labels a sheet as `labelling::label` does, and fills the index of its units: `units` gets their labels, two numbers
-// each. The answer is the number of units; refused as labelling is, then by 3 if a slice of the index has too few
-// places for them. Refused, no place of the index is written; areas and labels are written once labelling is accepted.
+// each, and `unit_basins` their basins. The answer is the number of units; refused as labelling is, then by 3 if a
+// slice of the index has too few places for them. Refused, no place of the index is written; areas, labels and basins
+// are written once labelling is accepted.
 pub fn index(
     rows: usize,
     cols: usize,
@@ -108,25 +136,28 @@ pub fn index(
     weights: &[u16],
     areas: &mut [u32],
     labels: &mut [u64],
+    basins: &mut [u32],
     work: &mut [u32],
     units: &mut [u64],
     outlets: &mut [u32],
     counts: &mut [u32],
+    unit_basins: &mut [u32],
 ) -> Indexed
     ensures answer { λ r. ⌜ r ≡ indexed (sheet rows cols depth least split (now (dirs .entry)) (now (weights .entry)))
-        (lent (now (areas .entry)) (now (labels .entry)) (now (work .entry)))
-        (lentIndex (now (units .entry)) (now (outlets .entry)) (now (counts .entry))) ⌝ }
+        (lent (now (areas .entry)) (now (labels .entry)) (now (basins .entry)) (now (work .entry)))
+        (lentIndex (now (units .entry)) (now (outlets .entry)) (now (counts .entry)) (now («unit_basins» .entry))) ⌝ }
     ensures values { λ r. ⌜ indexedValues r
         ≡ indexedValues (indexed (sheet rows cols depth least split (now (dirs .entry)) (now (weights .entry)))
-        (lent (now (areas .entry)) (now (labels .entry)) (now (work .entry)))
-        (lentIndex (now (units .entry)) (now (outlets .entry)) (now (counts .entry)))) ⌝ }
-    ensures lent { λ _. ⌜ lent (now (areas .exit)) (now (labels .exit)) (now (work .exit))
+        (lent (now (areas .entry)) (now (labels .entry)) (now (basins .entry)) (now (work .entry)))
+        (lentIndex (now (units .entry)) (now (outlets .entry)) (now (counts .entry)) (now («unit_basins» .entry)))) ⌝ }
+    ensures lent { λ _. ⌜ lent (now (areas .exit)) (now (labels .exit)) (now (basins .exit)) (now (work .exit))
         ≡ lentAfter (sheet rows cols depth least split (now (dirs .entry)) (now (weights .entry)))
-        (lent (now (areas .entry)) (now (labels .entry)) (now (work .entry))) ⌝ }
+        (lent (now (areas .entry)) (now (labels .entry)) (now (basins .entry)) (now (work .entry))) ⌝ }
     ensures index { λ _. ⌜ lentIndex (now (units .exit)) (now (outlets .exit)) (now (counts .exit))
+        (now («unit_basins» .exit))
         ≡ indexAfter (sheet rows cols depth least split (now (dirs .entry)) (now (weights .entry)))
-        (lent (now (areas .entry)) (now (labels .entry)) (now (work .entry)))
-        (lentIndex (now (units .entry)) (now (outlets .entry)) (now (counts .entry))) ⌝ }
+        (lent (now (areas .entry)) (now (labels .entry)) (now (basins .entry)) (now (work .entry)))
+        (lentIndex (now (units .entry)) (now (outlets .entry)) (now (counts .entry)) (now («unit_basins» .entry))) ⌝ }
 {
     match labelling::first_checks(
         rows,
@@ -138,6 +169,7 @@ pub fn index(
         weights.len(),
         areas.len(),
         labels.len(),
+        basins.len(),
         work.len(),
     ) {
         Outcome::Accepted => {
@@ -152,10 +184,12 @@ pub fn index(
                 weights,
                 areas,
                 labels,
+                basins,
                 &mut work[..places],
                 units,
                 outlets,
                 counts,
+                unit_basins,
             )
         }
         Outcome::Refused(number, place) => Indexed::Refused(number, place),

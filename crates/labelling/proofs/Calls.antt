@@ -12,6 +12,9 @@ use Rattle.sheet.specs.declared.Outcome.{Outcome}
 use Rattle.sheet.specs.declared.Outcome.the-variants.{Accepted, Refused}
 use Rattle.sheet.specs.Sheet.{Sheet, cells}
 use Rattle.sheet.specs.Label.{areasOf, labelsOf}
+use Rattle.sheet.specs.Basins.{basinAreas, basinLabels, basinsOf}
+use Rattle.claims.proofs.Alone.{alone-is-direct}
+use Rattle.claims.proofs.Sheets.{accepted-from-17}
 use Rattle.sheet.specs.Record.{labelPlaces}
 use Rattle.sheet.specs.Refusal.{Lent, both, written, sizesFit, depthFits, leastAndSplitFit, slicesFit, faultOf}
 use Rattle.sheet.specs.Refusal.{outcomeFrom17, outcomeFrom3, outcome, outcomeValues, ifAccepted, lentAfter}
@@ -54,6 +57,7 @@ module _ (S : Sheet) (L : Lent) where
     weights : S .grid .rows ≤ length (S .weights)
     areas : cells (S .grid) ≤ length (L .areas)
     labels : cells (S .grid) ≤ labelPlaces (length (L .labels))
+    basins : cells (S .grid) ≤ length (L .basins)
     work : 8 * cells (S .grid) ≤ length (L .work)
 
   -- refused before the work places are touched
@@ -63,8 +67,9 @@ module _ (S : Sheet) (L : Lent) where
     where
       go : (o : Outcome) → o ≡ Refused number place → (b : Bool) → b ≡ false
           → L ≡ record {
-            areas = ifAccepted o (areasOf S) (L .areas);
-            labels = ifAccepted o (labelsOf S) (L .labels);
+            areas = ifAccepted o (basinAreas S) (L .areas);
+            labels = ifAccepted o (basinLabels S) (L .labels);
+            basins = ifAccepted o (basinsOf (S .grid)) (L .basins);
             work = cond b (written (replicate (8 * cells (S .grid)) 0) (L .work)) (L .work);
           }
       go o e b f = rw (e, f)
@@ -125,17 +130,20 @@ module _ (S : Sheet) (L : Lent) where
         let w = leb (S .grid .rows) (length (S .weights)) in
         let b = leb (cells (S .grid)) (length (L .areas)) in
         let c = leb (cells (S .grid)) (labelPlaces (length (L .labels))) in
-        let d = leb (8 * cells (S .grid)) (length (L .work)) in
-        let o = both-true a (both w (both b (both c d))) (passed accepted .slices) in
-        let p = both-true w (both b (both c d)) (o .1) in
-        let q = both-true b (both c d) (p .1) in
-        let r = both-true c d (q .1) in
+        let d = leb (cells (S .grid)) (length (L .basins)) in
+        let e = leb (8 * cells (S .grid)) (length (L .work)) in
+        let o = both-true a (both w (both b (both c (both d e)))) (passed accepted .slices) in
+        let p = both-true w (both b (both c (both d e))) (o .1) in
+        let q = both-true b (both c (both d e)) (p .1) in
+        let r = both-true c (both d e) (q .1) in
+        let s = both-true d e (r .1) in
         record {
           dirs = leb-true (cells (S .grid)) (length (S .grid .dirs)) (o .0);
           weights = leb-true (S .grid .rows) (length (S .weights)) (p .0);
           areas = leb-true (cells (S .grid)) (length (L .areas)) (q .0);
           labels = leb-true (cells (S .grid)) (labelPlaces (length (L .labels))) (r .0);
-          work = leb-true (8 * cells (S .grid)) (length (L .work)) (r .1);
+          basins = leb-true (cells (S .grid)) (length (L .basins)) (s .0);
+          work = leb-true (8 * cells (S .grid)) (length (L .work)) (s .1);
         }
 
     -- checks 1, 2 and 19
@@ -151,9 +159,14 @@ module _ (S : Sheet) (L : Lent) where
     pub sizes-bounded : Bounded (S .grid .rows) (S .grid .cols)
     sizes-bounded = bounded (S .grid .rows) (S .grid .cols) (sheet-fits .0)
 
-    -- checks 17 and 4 to 7 can begin
+    -- checks 17 and 4 to 6 can begin
     pub fitting : Fitting S
-        (record { areas = L .areas; labels = L .labels; work = take (8 * cells (S .grid)) (L .work) })
+        (record {
+          areas = L .areas;
+          labels = L .labels;
+          basins = L .basins;
+          work = take (8 * cells (S .grid)) (L .work);
+        })
     fitting = record {
       sized = record {
         rows-most = sizes-bounded .rows-most;
@@ -168,12 +181,18 @@ module _ (S : Sheet) (L : Lent) where
       weights = long .weights;
       areas = long .areas;
       labels = long .labels;
+      basins = long .basins;
       work = length-take-le (8 * cells (S .grid)) (L .work) room;
     }
 
     -- these checks are passed with exactly the work places that are needed, too
     pub still-passed : firstChecks S
-        (record { areas = L .areas; labels = L .labels; work = take (8 * cells (S .grid)) (L .work) }) ≡ Accepted
+        (record {
+          areas = L .areas;
+          labels = L .labels;
+          basins = L .basins;
+          work = take (8 * cells (S .grid)) (L .work);
+        }) ≡ Accepted
     unfolding checkedFirst
     still-passed =
         let n = cells (S .grid) in
@@ -184,28 +203,48 @@ module _ (S : Sheet) (L : Lent) where
           le-leb (S .grid .rows) (length (S .weights)) (long .weights),
           le-leb n (length (L .areas)) (long .areas),
           le-leb n (labelPlaces (length (L .labels))) (long .labels),
+          le-leb n (length (L .basins)) (long .basins),
           le-leb (8 * n) (8 * n) (omega arith),
         )
 
-    -- checks 17 and 4 to 7 decide
+    -- checks 17 and 4 to 6 decide
     pub the-rest : outcome S L ≡ outcomeFrom17 S
     the-rest = passed accepted .whole
 
-    -- after checks 17 and 4 to 7
-    pub labelled : {r : Outcome} {areas labels work : List ℕ} → r ≡ outcomeFrom17 S
+    -- areas and labels as they are worked out on the whole sheet are those of each basin by itself
+    direct-areas : (r : Outcome) → r ≡ outcomeFrom17 S
+        → ifAccepted r (areasOf S) (L .areas) ≡ ifAccepted r (basinAreas S) (L .areas)
+    direct-areas Accepted e =
+        ap (λ (new : List ℕ). written new (L .areas))
+        (sym (alone-is-direct S ((accepted-from-17 S (sym e)) .1) .areas))
+    direct-areas (Refused number place) e = refl
+
+    direct-labels : (r : Outcome) → r ≡ outcomeFrom17 S
+        → ifAccepted r (labelsOf S) (L .labels) ≡ ifAccepted r (basinLabels S) (L .labels)
+    direct-labels Accepted e =
+        ap (λ (new : List ℕ). written new (L .labels))
+        (sym (alone-is-direct S ((accepted-from-17 S (sym e)) .1) .labels))
+    direct-labels (Refused number place) e = refl
+
+    -- after checks 17 and 4 to 6
+    pub labelled : {r : Outcome} {areas labels basins work : List ℕ} → r ≡ outcomeFrom17 S
         → areas ≡ ifAccepted r (areasOf S) (L .areas)
-        → labels ≡ ifAccepted r (labelsOf S) (L .labels) → work ≡ replicate (8 * cells (S .grid)) 0 ++ drop
-        (8 * cells (S .grid)) (L .work)
-        → Answered r (record { areas = areas; labels = labels; work = work })
+        → labels ≡ ifAccepted r (labelsOf S) (L .labels)
+        → basins ≡ ifAccepted r (basinsOf (S .grid)) (L .basins)
+        → work ≡ replicate (8 * cells (S .grid)) 0 ++ drop (8 * cells (S .grid)) (L .work)
+        → Answered r (record { areas = areas; labels = labels; basins = basins; work = work })
     unfolding lentAfter
-    labelled {r} {areas} {labels} {work} o a l w =
+    labelled {r} {areas} {labels} {basins} {work} o a l b w =
         let same : r ≡ outcome S L = o ∙ sym the-rest in
-        answered same (go (outcome S L) same fits (passed accepted .fit))
+        answered same
+        (go (outcome S L) same fits (passed accepted .fit) (a ∙ direct-areas r o) (l ∙ direct-labels r o))
       where
-        go : (x : Outcome) → r ≡ x → (b : Bool) → b ≡ true
-            → _≡_ {A = Lent} (record { areas = areas; labels = labels; work = work }) (record {
-              areas = ifAccepted x (areasOf S) (L .areas);
-              labels = ifAccepted x (labelsOf S) (L .labels);
-              work = cond b (written (replicate (8 * cells (S .grid)) 0) (L .work)) (L .work);
+        go : (x : Outcome) → r ≡ x → (t : Bool) → t ≡ true
+            → areas ≡ ifAccepted r (basinAreas S) (L .areas) → labels ≡ ifAccepted r (basinLabels S) (L .labels)
+            → _≡_ {A = Lent} (record { areas = areas; labels = labels; basins = basins; work = work }) (record {
+              areas = ifAccepted x (basinAreas S) (L .areas);
+              labels = ifAccepted x (basinLabels S) (L .labels);
+              basins = ifAccepted x (basinsOf (S .grid)) (L .basins);
+              work = cond t (written (replicate (8 * cells (S .grid)) 0) (L .work)) (L .work);
             })
-        go x p b q = rw (q, a, l, w, p, length-replicate {A = ℕ} (8 * cells (S .grid)) 0)
+        go x p t q a l = rw (q, a, l, b, w, p, length-replicate {A = ℕ} (8 * cells (S .grid)) 0)

@@ -15,7 +15,7 @@ use Rattle.labelling.specs.Labelling.{lent}
 use Rattle.labelling.specs.FromIntake.{intakeOutcome, intakeLent}
 
 abbrev one : Lent
-one = lent (7 ∷ 7 ∷ []) (7 ∷ 7 ∷ 7 ∷ []) (replicate 9 7)
+one = lent (7 ∷ 7 ∷ []) (7 ∷ 7 ∷ 7 ∷ []) (7 ∷ 7 ∷ []) (replicate 9 7)
 
 abbrev sheetOne : LentSheet
 sheetOne = lentSheet (1 ∷ []) (5 ∷ [])
@@ -52,9 +52,9 @@ pub ended : intakeOutcome (record { stage = Ended sizes }) sheetOne one ≡ Acce
 unfolding intakeOutcome
 ended = refl
 
--- one area and one label are written, eight work places are cleared, and what is beyond keeps its values; of the labels
+-- one area, one label and one basin are written, eight work places are cleared, and what is beyond keeps its values; of the labels
 -- that is an odd number at the end
-pub ended-lent : intakeLent (record { stage = Ended sizes }) sheetOne one ≡ lent (5 ∷ 7 ∷ []) (0 ∷ 0 ∷ 7 ∷ [])
+pub ended-lent : intakeLent (record { stage = Ended sizes }) sheetOne one ≡ lent (5 ∷ 7 ∷ []) (0 ∷ 0 ∷ 7 ∷ []) (1 ∷ 7 ∷ [])
     (0 ∷ 0 ∷ 0 ∷ 0 ∷ 0 ∷ 0 ∷ 0 ∷ 0 ∷ 7 ∷ [])
 unfolding intakeLent
 ended-lent = refl
@@ -65,6 +65,6 @@ unfolding intakeOutcome
 ended-17 = refl
 
 pub ended-17-lent : intakeLent (record { stage = Ended sizes }) (lentSheet (1 ∷ []) (0 ∷ [])) one ≡ lent (7 ∷ 7 ∷ [])
-    (7 ∷ 7 ∷ 7 ∷ []) (0 ∷ 0 ∷ 0 ∷ 0 ∷ 0 ∷ 0 ∷ 0 ∷ 0 ∷ 7 ∷ [])
+    (7 ∷ 7 ∷ 7 ∷ []) (7 ∷ 7 ∷ []) (0 ∷ 0 ∷ 0 ∷ 0 ∷ 0 ∷ 0 ∷ 0 ∷ 0 ∷ 7 ∷ [])
 unfolding intakeLent
 ended-17-lent = refl

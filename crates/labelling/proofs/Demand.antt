@@ -1,7 +1,6 @@
--- The statements of specs/Demand.antt hold of the labels as the calls wrote them.
+-- The statements of specs/Demand.antt hold of what the calls wrote.
 use mathlib.Core.Path.{_≡_, refl}
 use mathlib.Core.Option.{Option, none, some}
-use mathlib.Core.List.{List}
 use Prim.Native.Nat.{ℕ}
 use native.Mathlib.Omega.{arith}
 use Rattle.sheet.specs.declared.Outcome.the-variants.{Accepted}
@@ -13,18 +12,20 @@ use Rattle.intake.specs.Intake.{LentSheet, endedSizes}
 use Rattle.claims.proofs.Theorems.{demand-three}
 use Rattle.claims.proofs.AsBefore.{as-before, one-number}
 use Rattle.claims.proofs.FlowMeaning.{flow-meaning, outlet-flow-meaning}
+use Rattle.claims.proofs.Written.{basins-mean, alone-meaning, direct-meaning}
 use Rattle.labelling.specs.FromIntake.{sheetOf, outcomeWith, lentWith, intakeOutcome, intakeLent}
 use Rattle.labelling.specs.Demand.{LabelledDirectly, OfIntake, ForAllAccepted, DemandThreeWhole, FlowWhole}
-use Rattle.labelling.specs.Demand.{AsBeforeWhole, OneNumberWhole, OutletFlowWhole}
+use Rattle.labelling.specs.Demand.{AsBeforeWhole, OneNumberWhole, OutletFlowWhole, BasinsWhole, AloneWhole}
+use Rattle.labelling.specs.Demand.{DirectWhole}
 
--- what holds of every accepted sheet and the labels that the definition writes, holds however it is labelled
-module _ (Statement : Sheet → List ℕ → Type 0)
-    (of : (S : Sheet) (L : Lent) → outcome S L ≡ Accepted → Statement S (lentAfter S L .labels)) where
-  directly : (S : Sheet) (L L′ : Lent) → LabelledDirectly S L L′ → Statement S (L′ .labels)
+-- what holds of every accepted sheet and what the definition writes, holds however it is labelled
+module _ (Statement : Sheet → Lent → Type 0)
+    (of : (S : Sheet) (L : Lent) → outcome S L ≡ Accepted → Statement S (lentAfter S L)) where
+  directly : (S : Sheet) (L L′ : Lent) → LabelledDirectly S L L′ → Statement S L′
   directly S L L′ c = rw (c .after) (of S L (c .accepted))
 
   from-sizes : (i : Intake) (sizes : Option Sizes) (T : LentSheet) (L L′ : Lent) → endedSizes (i .stage) ≡ sizes
-      → outcomeWith sizes T L ≡ Accepted → L′ ≡ lentWith sizes T L → OfIntake Statement i T (L′ .labels)
+      → outcomeWith sizes T L ≡ Accepted → L′ ≡ lentWith sizes T L → OfIntake Statement i T L′
   unfolding outcomeWith lentWith
   from-sizes i none T L L′ e a f = let z : _≡_ {A = ℕ} 0 1 = cc in absurd (omega arith)
   from-sizes i (some z) T L L′ e a f = record {
@@ -54,3 +55,12 @@ one-number-whole = for-all-accepted _ one-number
 
 pub outlet-flow-whole : OutletFlowWhole
 outlet-flow-whole = for-all-accepted _ outlet-flow-meaning
+
+pub basins-whole : BasinsWhole
+basins-whole = for-all-accepted _ basins-mean
+
+pub alone-whole : AloneWhole
+alone-whole = for-all-accepted _ alone-meaning
+
+pub direct-whole : DirectWhole
+direct-whole = for-all-accepted _ direct-meaning

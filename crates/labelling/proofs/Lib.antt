@@ -1,4 +1,5 @@
 pub mod Labels
+pub mod InOrder
 pub mod Steps
 pub mod Calls
 pub mod Demand

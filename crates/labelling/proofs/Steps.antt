@@ -1,5 +1,5 @@
 -- What each step of labelling hands to the next.
-use mathlib.Core.Path.{_≡_, sym, ap, _∙_, fun-ext}
+use mathlib.Core.Path.{_≡_, refl, sym, ap, _∙_, fun-ext}
 use mathlib.Core.Bool.{true, false}
 use mathlib.Core.List.{List, _++_}
 use Prim.Native.Nat.{ℕ, _+_, _*_, _-_, _<_, _≤_}
@@ -12,13 +12,13 @@ use borrow.Rule.Slice.PartMut.{putMid, midOf, postOf, mid-len, same-len-mid}
 use Rattle.sheet.specs.declared.Outcome.the-variants.{Accepted, Refused}
 use Rattle.sheet.specs.Sheet.{Grid, Sheet, cells, inside}
 use Rattle.sheet.specs.Area.{area}
-use Rattle.sheet.specs.River.{network, networkBy, river}
-use Rattle.sheet.specs.Record.{recordOf, labelPlaces}
-use Rattle.sheet.specs.Label.{areasOf, labelsOf, outlet, holds, label}
+use Rattle.sheet.specs.River.{network, networkBy}
+use Rattle.sheet.specs.Record.{labelPlaces}
+use Rattle.sheet.specs.Label.{labelOf, areasOf, labelsOf}
+use Rattle.sheet.specs.Basins.{basinOf, basinsOf}
 use Rattle.sheet.specs.Refusal.{Lent, written, weightsFit, outcomeOn, outcomeFrom17}
-use Rattle.claims.specs.Basin.{Basin}
-use Rattle.claims.proofs.Basins.{lawful}
-use Rattle.claims.proofs.Sheets.{basin, passed-on, accepted-from-17}
+use Rattle.claims.proofs.Lawful.{decided}
+use Rattle.claims.proofs.Sheets.{passed-on, accepted-from-17}
 use Rattle.sheet.proofs.Lists.{length-list, written-at}
 use Rattle.upstream.specs.Work.{sizesPart, withSizes}
 use Rattle.upstream.proofs.Queues.{queued-most as queue-most}
@@ -27,14 +27,16 @@ use Rattle.upstream.specs.Search.{Drained}
 use Rattle.drainage.specs.Inspect.{InspectionResult}
 use Rattle.upstream.specs.Work.{ranksPart, Unranked}
 use Rattle.drainage.specs.Total.{sizesOf, Weighted}
-use Rattle.drainage.proofs.Kept.{with-sizes-same, drained-same, single-same, size-written}
+use Rattle.drainage.proofs.Kept.{with-sizes-same, drained-same, size-written}
 use Rattle.rivers.specs.Layout.{Layout}
-use Rattle.rivers.specs.Labelled.{cellsLabelled}
-use Rattle.rivers.specs.UnitAt.{NetworkOf, Places}
+use Rattle.rivers.specs.Labelled.{relabelled, cellsLabelled, stands}
+use Rattle.rivers.specs.UnitAt.{Places}
+use Rattle.rivers.proofs.Positions.{stands-test, same-test}
+use Rattle.rivers.proofs.Relabelled.{relabelled-same, labelled-same}
 use Rattle.order.specs.Network.{areaIn, networkIn}
 use Rattle.order.specs.Places.{cellsIn, sizesIn, Surveyed, Arranged}
-use Rattle.labelling.specs.Labelling.{Fitting, Inspected, InspectedAs}
-use Rattle.labelling.proofs.Labels.{written-length, outside-past, basin-labels}
+use Rattle.labelling.specs.Labelling.{Fitting, Inspected, BasinsOf, InspectedAs}
+use Rattle.labelling.proofs.Labels.{written-length, outside-past, labels-over, basins-over}
 
 module _ (S : Sheet) where
   areas-length : (areas : List ℕ) → cells (S .grid) ≤ length areas → length (written (areasOf S) areas) ≡ length areas
@@ -67,6 +69,14 @@ module _ (S : Sheet) where
 pub queued-most : {G : Grid} {work : List ℕ} {queued : ℕ} → Drained G work queued → queued ≤ cells G
 queued-most d = queue-most (d .searched .upstream .queue)
 
+-- an accepted sheet has an inside cell, which is queued
+some-queued : {S : Sheet} {work : List ℕ} {queued : ℕ} → Inspected S work queued → 0 < queued
+some-queued {S} {work} i =
+    let cell = passed-on (S .grid) ((accepted-from-17 S (i .accepted)) .1) .some-inside in
+    let reached = i .drained .all (cell .0) (cell .2) in
+    let stands = i .drained .searched .upstream .queue .stands (cell .0) (cell .1) reached in
+    omega (arith, reached, stands .most)
+
 -- after the areas and sizes, the order along rivers can be worked out
 pub surveyed : {S : Sheet} {L : Lent} {queued : ℕ} {areas work : List ℕ} → Fitting S L
     → Inspected S (L .work) queued
@@ -81,7 +91,7 @@ surveyed {S} {L} {queued} {areas} {work} f i e a l = rw (e, a) (record {
   };
   room = rw e at (let w = f .work in let r : 8 * cells (S .grid) ≤ length work = omega arith in r);
   drained = drained-same (with-sizes-same _ _ _ room) (i .drained);
-  single = single-same (with-sizes-same _ _ _ room) (i .single);
+  some = some-queued i;
   size-is = size-written (S .grid) (L .work) room;
 })
   where
@@ -103,13 +113,7 @@ layout-more {n = n} {m = m} h l = record {
 pub part-is : (a q : ℕ) (work : List ℕ) → take (a + q - a) (drop a work) ≡ take q (drop a work)
 part-is a q work = let e : a + q - a ≡ q = omega arith in ap (λ (k : ℕ). take k (drop a work)) e
 
--- the cells of an accepted sheet are a basin
-the-basin : (S : Sheet) → outcomeOn (S .grid) ≡ Accepted
-    → Basin (network S) (λ c. inside (S .grid) c ≡ true) (outlet (S .grid))
-unfolding network
-the-basin S accepted = basin (S .grid) (passed-on (S .grid) accepted) (area S) (S .least) (S .split)
-
--- what labelling a basin asks
+-- what labelling the basins asks
 module _ (S : Sheet) {areas work : List ℕ} {queued : ℕ} (accepted : outcomeOn (S .grid) ≡ Accepted)
     (same : networkIn (S .grid) areas (S .least) (S .split) ≡ network S)
     (r : Arranged (S .grid) areas work queued) where
@@ -119,11 +123,17 @@ module _ (S : Sheet) {areas work : List ℕ} {queued : ℕ} (accepted : outcomeO
   abbrev size : List ℕ
   size = sizesIn (cells (S .grid)) work queued
 
-  pub network-of : NetworkOf cell size areas (S .split) (S .least)
-  network-of = record {
-    network = network S;
-    lawful = lawful (the-basin S accepted .forest);
+  pub basins-of : S .depth ≤ 36 → queued ≤ 65536 → BasinsOf cell size areas (S .depth) (S .split) (S .least)
+  basins-of few most = record {
+    sheet = S;
+    accepted = accepted;
+    depth-is = refl;
+    depth-most = few;
     laid-out = rw same at (r .layout-of (S .least) (S .split));
+    few = omega (arith, r .long);
+    are-inside = λ j l. r .are-inside j (omega (arith, r .long));
+    first = λ l. r .first;
+    onward = λ j k b l. r .onward j k b (omega (arith, r .long));
   }
 
   pub places : (n m : ℕ) → cells (S .grid) ≤ n → cells (S .grid) ≤ m → 1 ≤ S .split → S .split ≤ 4
@@ -135,20 +145,45 @@ module _ (S : Sheet) {areas work : List ℕ} {queued : ℕ} (accepted : outcomeO
     split-most = most;
   }
 
-  pub some-cell : 0 < length cell
-  some-cell = rw (r .long) (r .some)
+  pub layout-in : (n : ℕ) → cells (S .grid) ≤ n → Layout cell size n
+  layout-in n l = layout-more l (r .layout)
 
-  -- the labels that a basin's river gets are those of the sheet
-  pub labels-written : (labels : List ℕ) {labels′ labels″ : List ℕ}
+  -- the cells that stand in the order are the inside cells
+  all-inside : (c : ℕ) → stands cell 0 (length cell) c ≡ inside (S .grid) c
+  all-inside c =
+      same-test (stands-test cell (length cell) 0 c)
+      (decided {A = inside (S .grid) c ≡ true} (inside (S .grid) c) (λ e. e) (λ e. e))
+      (λ s. let t = s .to in rw (s .is) at (r .are-inside (s .at) (omega (arith, r .long))))
+      (λ i.
+      let s = r .all-stand c i in
+      record { at = s .0; from = omega arith; to = omega (arith, s .1, r .long); is = s .2 })
+
+  -- the labels that all basins get are those of the sheet
+  pub labels-written : (few : S .depth ≤ 36) (most : queued ≤ 65536) (labels : List ℕ) {labels′ labels″ : List ℕ}
       → cells (S .grid) ≤ labelPlaces (length labels)
       → labels′ ≡ written (replicate (2 * cells (S .grid)) 0) labels
-      → ((n : NetworkOf cell size areas (S .split) (S .least))
-      → labels″ ≡ cellsLabelled (holds (n .network) (river (n .network) (getD cell 0 0)))
-      (λ c. recordOf (label (n .network) (S .depth) (river (n .network) (getD cell 0 0)) c)) labels′)
+      → ((b : BasinsOf cell size areas (S .depth) (S .split) (S .least))
+      → labels″ ≡ cellsLabelled (stands cell 0 (length cell)) (labelOf (b .sheet)) labels′)
       → labels″ ≡ written (labelsOf S) labels
-  unfolding network-of
-  labels-written labels room e f =
-      f network-of ∙ (rw (r .outlet-first, e) (basin-labels S (the-basin S accepted) labels room))
+  unfolding basins-of
+  labels-written few most labels {labels′} room e f =
+      f (basins-of few most)
+      ∙ labelled-same _ _ _ _ labels′ all-inside (λ c h. refl)
+      ∙ ap (cellsLabelled (inside (S .grid)) (labelOf S)) e
+      ∙ labels-over S labels room
+
+  pub basins-written : (few : S .depth ≤ 36) (most : queued ≤ 65536) (basins : List ℕ) {basins′ basins″ : List ℕ}
+      → cells (S .grid) ≤ length basins
+      → basins′ ≡ written (replicate (cells (S .grid)) 0) basins
+      → ((b : BasinsOf cell size areas (S .depth) (S .split) (S .least))
+      → basins″ ≡ relabelled (stands cell 0 (length cell)) (basinOf (b .sheet .grid)) basins′)
+      → basins″ ≡ written (basinsOf (S .grid)) basins
+  unfolding basins-of
+  basins-written few most basins {basins′} room e f =
+      f (basins-of few most)
+      ∙ relabelled-same _ _ _ _ basins′ all-inside (λ c h. refl)
+      ∙ ap (relabelled (inside (S .grid)) (basinOf (S .grid))) e
+      ∙ basins-over S basins room
 
 -- ---- the work places
 -- 8n work places of which the part with the ranks is cleared
@@ -179,9 +214,9 @@ module _ (n : ℕ) (old : List ℕ) (long : length old ≡ 8 * n) where
               ∙ getD-replicate (length (midOf (ranksPart * n) part old)) c 0 0 (omega (arith, middle));
         }
 
-pub other-work : {S : Sheet} {areas labels work work′ : List ℕ}
-    → Fitting S (record { areas = areas; labels = labels; work = work }) → length work′ ≡ length work
-    → Fitting S (record { areas = areas; labels = labels; work = work′ })
+pub other-work : {S : Sheet} {areas labels basins work work′ : List ℕ}
+    → Fitting S (record { areas = areas; labels = labels; basins = basins; work = work }) → length work′ ≡ length work
+    → Fitting S (record { areas = areas; labels = labels; basins = basins; work = work′ })
 other-work f e =
     record {
       sized = f .sized;
@@ -192,12 +227,13 @@ other-work f e =
       weights = f .weights;
       areas = f .areas;
       labels = f .labels;
+      basins = f .basins;
       work = e ∙ f .work;
     }
 
--- ---- checks 17 and 4 to 7
+-- ---- checks 17 and 4 to 6
 module _ (S : Sheet) where
-  -- weights that fit: 4 to 7 decide
+  -- weights that fit: 4 to 6 decide
   pub inspected : {work work′ : List ℕ} {r : Inspection} → weightsFit (S .grid .rows) (S .weights) ≡ true
       → InspectionResult (S .grid) work work′ r → InspectedAs S work′ r
   unfolding outcomeFrom17
@@ -205,7 +241,7 @@ module _ (S : Sheet) where
       let same : r .outcome ≡ outcomeFrom17 S = i .outcome ∙ sym (on-fit fit) in
       record {
         outcome = same;
-        passed = λ h. record { accepted = sym same ∙ h; drained = i .drained h; single = i .single h };
+        passed = λ h. record { accepted = sym same ∙ h; drained = i .drained h };
       }
     where
       on-fit : weightsFit (S .grid .rows) (S .weights) ≡ true → outcomeFrom17 S ≡ outcomeOn (S .grid)

@@ -16,16 +16,17 @@ pub fn label_intake(
     weights: &[u16],
     areas: &mut [u32],
     labels: &mut [u64],
+    basins: &mut [u32],
     work: &mut [u32],
 ) -> Outcome
     ensures outcome { λ r. ⌜ r ≡ intakeOutcome intake (lentSheet (now (dirs .entry)) (now (weights .entry)))
-        (lent (now (areas .entry)) (now (labels .entry)) (now (work .entry))) ⌝ }
+        (lent (now (areas .entry)) (now (labels .entry)) (now (basins .entry)) (now (work .entry))) ⌝ }
     ensures values { λ r. ⌜ outcomeValues r
         ≡ outcomeValues (intakeOutcome intake (lentSheet (now (dirs .entry)) (now (weights .entry)))
-        (lent (now (areas .entry)) (now (labels .entry)) (now (work .entry)))) ⌝ }
-    ensures lent { λ _. ⌜ lent (now (areas .exit)) (now (labels .exit)) (now (work .exit))
+        (lent (now (areas .entry)) (now (labels .entry)) (now (basins .entry)) (now (work .entry)))) ⌝ }
+    ensures lent { λ _. ⌜ lent (now (areas .exit)) (now (labels .exit)) (now (basins .exit)) (now (work .exit))
         ≡ intakeLent intake (lentSheet (now (dirs .entry)) (now (weights .entry)))
-        (lent (now (areas .entry)) (now (labels .entry)) (now (work .entry))) ⌝ }
+        (lent (now (areas .entry)) (now (labels .entry)) (now (basins .entry)) (now (work .entry))) ⌝ }
 {
     let stage = intake.stage;
     match stage {
@@ -46,6 +47,7 @@ pub fn label_intake(
                 weights,
                 areas,
                 labels,
+                basins,
                 work,
             )
         }

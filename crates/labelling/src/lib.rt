@@ -1,6 +1,8 @@
-// Labelling of a sheet by a direct call: the areas and labels of its cells, in lent slices.
+// Labelling of a sheet by a direct call: the areas, labels and basins of its cells, in lent slices.
+mod basins;
 pub mod from_intake;
 
+use crate::basins::label_basins;
 use drainage::Inspection;
 use sheet::Outcome;
 use upstream::parts;
@@ -11,6 +13,7 @@ ghost use lib.ListN.{length, replicate};
 ghost use Rattle.sheet.specs.Sheet.{grid, cells};
 ghost use Rattle.sheet.specs.Record.{labelPlaces};
 ghost use Rattle.sheet.specs.Label.{areasOf, labelsOf};
+ghost use Rattle.sheet.specs.Basins.{basinsOf};
 ghost use Rattle.sheet.specs.Refusal.{written, ifAccepted, both, outcomeFrom17, outcome, outcomeValues, lentAfter};
 ghost use Rattle.directions.specs.Sizes.{mostCells, Sized};
 ghost use Rattle.upstream.specs.Work.{Unranked};
@@ -37,7 +40,17 @@ fn clear_labels(labels: &mut [u64], numbers: usize)
     }
 }
 
-// Writes the areas and labels of an accepted sheet, and leaves its order along rivers in the work places.
+// Sets the first basins of a slice to 0, so many.
+fn clear_basins(basins: &mut [u32], count: usize)
+    requires { ⌜ count ≤ length (now basins) ⌝ }
+    ensures { λ _. ⌜ now (basins .exit) ≡ written (replicate count 0) (now (basins .entry)) ⌝ }
+{
+    for i in 0..count {
+        basins[i] = 0;
+    }
+}
+
+// Writes the areas, labels and basins of an accepted sheet, and leaves its order along rivers in the work places.
 fn write_labels(
     rows: usize,
     cols: usize,
@@ -49,10 +62,11 @@ fn write_labels(
     queued: usize,
     areas: &mut [u32],
     labels: &mut [u64],
+    basins: &mut [u32],
     work: &mut [u32],
 )
     requires { ⌜ Fitting (sheet rows cols depth least split (now dirs) (now weights))
-        (lent (now areas) (now labels) (now work)) ⌝ }
+        (lent (now areas) (now labels) (now basins) (now work)) ⌝ }
     requires { ⌜ Inspected (sheet rows cols depth least split (now dirs) (now weights)) (now work) queued ⌝ }
     ensures areas { λ _. ⌜ now (areas .exit)
         ≡ written (areasOf (sheet rows cols depth least split (now (dirs .entry)) (now (weights .entry))))
@@ -60,18 +74,21 @@ fn write_labels(
     ensures labels { λ _. ⌜ now (labels .exit)
         ≡ written (labelsOf (sheet rows cols depth least split (now (dirs .entry)) (now (weights .entry))))
         (now (labels .entry)) ⌝ }
+    ensures basins { λ _. ⌜ now (basins .exit)
+        ≡ written (basinsOf (grid rows cols (now (dirs .entry)))) (now (basins .entry)) ⌝ }
     ensures order { λ _. ⌜ Arranged (grid rows cols (now (dirs .entry))) (now (areas .exit))
         (now (work .exit)) queued ⌝ }
 {
     let n = rows * cols;
     clear_labels(labels, 2 * n);
+    clear_basins(basins, n);
     drainage::measure::measure(dirs, rows, cols, weights, work, queued, areas);
     order::positions::arrange(dirs, rows, cols, areas, queued, work);
     let cells = parts::CELLS * n;
     let cells_end = cells + queued;
     let sizes = parts::ORDERED_SIZES * n;
     let sizes_end = sizes + queued;
-    rivers::units::label_basin(
+    label_basins(
         depth,
         split,
         least as u32,
@@ -79,6 +96,7 @@ fn write_labels(
         &work[sizes..sizes_end],
         areas,
         labels,
+        basins,
     );
 }
 
@@ -94,10 +112,11 @@ fn write_if_accepted(
     weights: &[u16],
     areas: &mut [u32],
     labels: &mut [u64],
+    basins: &mut [u32],
     work: &mut [u32],
 )
     requires { ⌜ Fitting (sheet rows cols depth least split (now dirs) (now weights))
-        (lent (now areas) (now labels) (now work)) ⌝ }
+        (lent (now areas) (now labels) (now basins) (now work)) ⌝ }
     requires { ⌜ (found .outcome
         ≡ Outcome.Accepted
         → Inspected (sheet rows cols depth least split (now dirs) (now weights)) (now work) (found .queued)) ⌝ }
@@ -109,6 +128,8 @@ fn write_if_accepted(
         ≡ ifAccepted (found .outcome) (labelsOf (sheet rows cols depth least split (now (dirs .entry))
         (now (weights .entry))))
         (now (labels .entry)) ⌝ }
+    ensures basins { λ _. ⌜ now (basins .exit)
+        ≡ ifAccepted (found .outcome) (basinsOf (grid rows cols (now (dirs .entry)))) (now (basins .entry)) ⌝ }
     ensures order { λ _. ⌜ (found .outcome
         ≡ Outcome.Accepted
         → Arranged (grid rows cols (now (dirs .entry))) (now (areas .exit)) (now (work .exit)) (found .queued)) ⌝ }
@@ -128,6 +149,7 @@ fn write_if_accepted(
                 queued,
                 areas,
                 labels,
+                basins,
                 work,
             )
         }
@@ -135,7 +157,7 @@ fn write_if_accepted(
     }
 }
 
-// Check 17, then 4 to 7, of a sheet that passed the checks before.
+// Check 17, then 4 to 6, of a sheet that passed the checks before.
 fn inspect_sheet(
     rows: usize,
     cols: usize,
@@ -169,13 +191,14 @@ pub fn label_in_order(
     weights: &[u16],
     areas: &mut [u32],
     labels: &mut [u64],
+    basins: &mut [u32],
     work: &mut [u32],
 ) -> Inspection
     requires { ⌜ Fitting (sheet rows cols depth least split (now dirs) (now weights))
-        (lent (now areas) (now labels) (now work)) ⌝ }
+        (lent (now areas) (now labels) (now basins) (now work)) ⌝ }
     ensures { λ r. ⌜ LabelledInOrder (sheet rows cols depth least split (now (dirs .entry)) (now (weights .entry)))
-        (lent (now (areas .entry)) (now (labels .entry)) (now (work .entry)))
-        (lent (now (areas .exit)) (now (labels .exit)) (now (work .exit))) r ⌝ }
+        (lent (now (areas .entry)) (now (labels .entry)) (now (basins .entry)) (now (work .entry)))
+        (lent (now (areas .exit)) (now (labels .exit)) (now (basins .exit)) (now (work .exit))) r ⌝ }
 {
     let n = rows * cols;
     let ranks = parts::RANKS * n;
@@ -193,6 +216,7 @@ pub fn label_in_order(
         weights,
         areas,
         labels,
+        basins,
         work,
     );
     found
@@ -209,10 +233,11 @@ fn label_fitting(
     weights: &[u16],
     areas: &mut [u32],
     labels: &mut [u64],
+    basins: &mut [u32],
     work: &mut [u32],
 ) -> Outcome
     requires { ⌜ Fitting (sheet rows cols depth least split (now dirs) (now weights))
-        (lent (now areas) (now labels) (now work)) ⌝ }
+        (lent (now areas) (now labels) (now basins) (now work)) ⌝ }
     ensures outcome { λ r. ⌜ r ≡ outcomeFrom17 (sheet rows cols depth least split (now (dirs .entry))
         (now (weights .entry))) ⌝ }
     ensures areas { λ r. ⌜ now (areas .exit)
@@ -221,6 +246,8 @@ fn label_fitting(
     ensures labels { λ r. ⌜ now (labels .exit)
         ≡ ifAccepted r (labelsOf (sheet rows cols depth least split (now (dirs .entry)) (now (weights .entry))))
         (now (labels .entry)) ⌝ }
+    ensures basins { λ r. ⌜ now (basins .exit)
+        ≡ ifAccepted r (basinsOf (grid rows cols (now (dirs .entry)))) (now (basins .entry)) ⌝ }
     ensures work { λ _. ⌜ now (work .exit) ≡ replicate (8 * (rows * cols)) 0 ⌝ }
 {
     let found = label_in_order(
@@ -233,6 +260,7 @@ fn label_fitting(
         weights,
         areas,
         labels,
+        basins,
         work,
     );
     clear_places(work);
@@ -247,11 +275,13 @@ fn slices_fit(
     weights: usize,
     areas: usize,
     labels: usize,
+    basins: usize,
     work: usize,
 ) -> bool
     requires { ⌜ n ≤ mostCells ⌝ }
     ensures { λ r. ⌜ r ≡ both (leb n dirs)
-        (both (leb rows weights) (both (leb n areas) (both (leb n (labelPlaces labels)) (leb (8 * n) work)))) ⌝ }
+        (both (leb rows weights) (both (leb n areas)
+        (both (leb n (labelPlaces labels)) (both (leb n basins) (leb (8 * n) work))))) ⌝ }
 {
     if dirs < n {
         return false;
@@ -263,6 +293,9 @@ fn slices_fit(
         return false;
     }
     if labels / 2 < n {
+        return false;
+    }
+    if basins < n {
         return false;
     }
     8 * n <= work
@@ -279,13 +312,23 @@ pub fn first_checks(
     weights: usize,
     areas: usize,
     labels: usize,
+    basins: usize,
     work: usize,
 ) -> Outcome
-    ensures { λ r. ⌜ r ≡ checkedFirst rows cols depth least split dirs weights areas labels work ⌝ }
+    ensures { λ r. ⌜ r ≡ checkedFirst rows cols depth least split dirs weights areas labels basins work ⌝ }
 {
     let fault = checks::sheet_fault(rows, cols, depth, least, split);
     if fault == 0 {
-        if slices_fit(rows * cols, rows, dirs, weights, areas, labels, work) {
+        if slices_fit(
+            rows * cols,
+            rows,
+            dirs,
+            weights,
+            areas,
+            labels,
+            basins,
+            work,
+        ) {
             return Outcome::Accepted;
         }
         return Outcome::Refused(3, 0);
@@ -293,8 +336,8 @@ pub fn first_checks(
     Outcome::Refused(fault, 0)
 }
 
-// Labels a sheet, whose weights are one a row: refusals 1, 2, 19, 3, 17, 4, 5, 6 and 7, in this order, with their
-// numbers and places; accepted, the first rows × cols areas and labels are written.
+// Labels a sheet, whose weights are one a row: refusals 1, 2, 19, 3, 17, 4, 5 and 6, in this order, with their numbers
+// and places; accepted, the first rows × cols areas, labels and basins are written.
 pub fn label(
     rows: usize,
     cols: usize,
@@ -305,16 +348,17 @@ pub fn label(
     weights: &[u16],
     areas: &mut [u32],
     labels: &mut [u64],
+    basins: &mut [u32],
     work: &mut [u32],
 ) -> Outcome
     ensures outcome { λ r. ⌜ r ≡ outcome (sheet rows cols depth least split (now (dirs .entry)) (now (weights .entry)))
-        (lent (now (areas .entry)) (now (labels .entry)) (now (work .entry))) ⌝ }
+        (lent (now (areas .entry)) (now (labels .entry)) (now (basins .entry)) (now (work .entry))) ⌝ }
     ensures values { λ r. ⌜ outcomeValues r
         ≡ outcomeValues (outcome (sheet rows cols depth least split (now (dirs .entry)) (now (weights .entry)))
-        (lent (now (areas .entry)) (now (labels .entry)) (now (work .entry)))) ⌝ }
-    ensures lent { λ _. ⌜ lent (now (areas .exit)) (now (labels .exit)) (now (work .exit))
+        (lent (now (areas .entry)) (now (labels .entry)) (now (basins .entry)) (now (work .entry)))) ⌝ }
+    ensures lent { λ _. ⌜ lent (now (areas .exit)) (now (labels .exit)) (now (basins .exit)) (now (work .exit))
         ≡ lentAfter (sheet rows cols depth least split (now (dirs .entry)) (now (weights .entry)))
-        (lent (now (areas .entry)) (now (labels .entry)) (now (work .entry))) ⌝ }
+        (lent (now (areas .entry)) (now (labels .entry)) (now (basins .entry)) (now (work .entry))) ⌝ }
 {
     match first_checks(
         rows,
@@ -326,6 +370,7 @@ pub fn label(
         weights.len(),
         areas.len(),
         labels.len(),
+        basins.len(),
         work.len(),
     ) {
         Outcome::Accepted => {
@@ -340,6 +385,7 @@ pub fn label(
                 weights,
                 areas,
                 labels,
+                basins,
                 &mut work[..places],
             )
         }

@@ -14,7 +14,7 @@ use Rattle.decimal.proofs.TextLaws.{overwrite-then, overwrite-one, overwrite-le
 use Rattle.listing.specs.declared.Listing.{Listing}
 use Rattle.listing.specs.declared.Listing.the-variants.{Bytes, Refused}
 use Rattle.sheet.specs.Sheet.{Grid, cells, dirAt}
-use Rattle.listing.specs.Listing.{field, lineOf, linesBelow}
+use Rattle.listing.specs.Listing.{field, linesBelow}
 use Rattle.listing.specs.Writing.{listingValues, Listed, textInto}
 use Rattle.listing.specs.Steps.{Put}
 use Rattle.listing.proofs.Lengths.{field-length, lines-outside, lines-inside}
@@ -113,22 +113,22 @@ promises e = (e, ap (λ (x : Listed). listingValues (x .answer)) e)
 
 -- ---- the lines of cells
 
-module _ (G : Grid) (areas : List ℕ) (labels : ℕ → List ℕ) (cell : ℕ) where
+module _ (G : Grid) (line : ℕ → List ℕ) (cell : ℕ) where
   -- an outside cell has no line
-  pub put-outside : {a b : List ℕ} {at next : ℕ} → dirAt G cell ≡ 0 → Put a b at next (linesBelow G areas labels cell)
-      → Put a b at next (linesBelow G areas labels (cell + 1))
-  put-outside e p = rw (lines-outside G areas labels cell e) p
+  pub put-outside : {a b : List ℕ} {at next : ℕ} → dirAt G cell ≡ 0 → Put a b at next (linesBelow G line cell)
+      → Put a b at next (linesBelow G line (cell + 1))
+  put-outside e p = rw (lines-outside G line cell e) p
 
   module _ {a b : List ℕ} {at mid : ℕ} (on : cell < cells G) (inside : dirAt G cell ≡ 0 → ⊥)
-      (room : at + length (linesBelow G areas labels (cell + 1)) ≤ length a)
-      (p : Put a b at mid (linesBelow G areas labels cell)) where
-    lines-room : at + length (linesBelow G areas labels cell ++ lineOf G areas labels cell) ≤ length a
-    lines-room = rw (lines-inside G areas labels cell on inside) at room
+      (room : at + length (linesBelow G line (cell + 1)) ≤ length a)
+      (p : Put a b at mid (linesBelow G line cell)) where
+    lines-room : at + length (linesBelow G line cell ++ line cell) ≤ length a
+    lines-room = rw (lines-inside G line cell on inside) at room
 
     -- the line of an inside cell has room after those before it
-    pub line-room : mid + length (lineOf G areas labels cell) ≤ length b
-    line-room = put-room p (lineOf G areas labels cell) lines-room
+    pub line-room : mid + length (line cell) ≤ length b
+    line-room = put-room p (line cell) lines-room
 
-    pub put-inside : {c : List ℕ} {next : ℕ} → Put b c mid next (lineOf G areas labels cell)
-        → Put a c at next (linesBelow G areas labels (cell + 1))
-    put-inside q = rw (lines-inside G areas labels cell on inside) (put-then p q lines-room)
+    pub put-inside : {c : List ℕ} {next : ℕ} → Put b c mid next (line cell)
+        → Put a c at next (linesBelow G line (cell + 1))
+    put-inside q = rw (lines-inside G line cell on inside) (put-then p q lines-room)

@@ -1,4 +1,4 @@
--- The text of document 01's listing, with document 02's labels, and of a refusal.
+-- The text of document 01's listing, with document 02's labels and basins, and of a refusal.
 use mathlib.Core.Bool.{cond}
 use mathlib.Core.List.{List, [], _∷_, _++_}
 use Prim.Native.Nat.{ℕ, zero, suc, _+_, _/_, _%_}
@@ -10,7 +10,7 @@ use Rattle.sheet.specs.Record.{digitsOf, labelsIn, labelAt}
 use Rattle.sheet.specs.Sheet.{Grid, cells, inside}
 
 abbrev pub listingHeading : List ℕ
-listingHeading = ascii "row,col,area,label" ++ (lineFeed ∷ [])
+listingHeading = ascii "basin,row,col,area,label" ++ (lineFeed ∷ [])
 
 abbrev pub refusalHeading : List ℕ
 refusalHeading = ascii "refused,place" ++ (lineFeed ∷ [])
@@ -32,48 +32,41 @@ unfoldable pub labelText : Label → List ℕ
 unfolding digitsOf digitsText
 labelText label = digitsText (digitsOf label)
 
--- the texts of labels that stand in a slice, by cell number
-unfoldable pub labelTexts : List ℕ → ℕ → List ℕ
-unfolding labelText labelsIn
-labelTexts labels c = labelText (labelAt labels c)
-
 -- ---- lines
 
 -- a text, and the byte after it
 unfoldable pub field : List ℕ → ℕ → List ℕ
 field text after = text ++ (after ∷ [])
 
--- the line of a cell, with its line feed; the label as text
-unfoldable pub cellLine : ℕ → ℕ → ℕ → List ℕ → List ℕ
+-- the line of a cell, with its line feed: "the listing begins with a column `basin`"; the label as text
+unfoldable pub cellLine : ℕ → ℕ → ℕ → ℕ → List ℕ → List ℕ
 unfolding field decimalText
-cellLine row col area label =
-    field (decimalText row) comma
-    ++ (field (decimalText col) comma ++ (field (decimalText area) comma ++ field label lineFeed))
+cellLine basin row col area label =
+    field (decimalText basin) comma
+    ++ (field (decimalText row) comma
+    ++ (field (decimalText col) comma ++ (field (decimalText area) comma ++ field label lineFeed)))
 
--- the line of the cell c; areas stand in their list, and the labels' texts are given, by cell number
-abbrev pub lineOf : Grid → List ℕ → (ℕ → List ℕ) → ℕ → List ℕ
-lineOf G areas labels c = cellLine (c / G .cols) (c % G .cols) (getD areas c 0) (labels c)
+-- the line of the cell c; its area, its label and its basin stand in slices, by cell number
+unfoldable pub lineOf : Grid → List ℕ → List ℕ → List ℕ → ℕ → List ℕ
+unfolding cellLine labelText labelsIn
+lineOf G areas labels basins c =
+    cellLine (getD basins c 0) (c / G .cols) (c % G .cols) (getD areas c 0) (labelText (labelAt labels c))
 
--- "inside cells only"
-unfoldable pub insideLine : Grid → List ℕ → (ℕ → List ℕ) → ℕ → List ℕ
-unfolding inside cellLine
-insideLine G areas labels c = let line : List ℕ = lineOf G areas labels c in cond (inside G c) line []
+-- "inside cells only"; the lines are given by cell number
+unfoldable pub insideLine : Grid → (ℕ → List ℕ) → ℕ → List ℕ
+unfolding inside
+insideLine G line c = let text : List ℕ = line c in cond (inside G c) text []
 
 -- the lines of the first n cells, in reading order
-unfoldable pub linesBelow : Grid → List ℕ → (ℕ → List ℕ) → ℕ → List ℕ
+unfoldable pub linesBelow : Grid → (ℕ → List ℕ) → ℕ → List ℕ
 unfolding insideLine
-linesBelow G areas labels zero = []
-linesBelow G areas labels (suc n) = linesBelow G areas labels n ++ insideLine G areas labels n
+linesBelow G line zero = []
+linesBelow G line (suc n) = linesBelow G line n ++ insideLine G line n
 
 -- "the listing, in reading order, inside cells only, each printed line ended by a line feed"
-unfoldable pub listingOf : Grid → List ℕ → (ℕ → List ℕ) → List ℕ
-unfolding linesBelow
-listingOf G areas labels = listingHeading ++ linesBelow G areas labels (cells G)
-
--- the listing with the labels of a slice
-unfoldable pub listingText : Grid → List ℕ → List ℕ → List ℕ
-unfolding listingOf labelTexts
-listingText G areas labels = listingOf G areas (labelTexts labels)
+unfoldable pub listingText : Grid → List ℕ → List ℕ → List ℕ → List ℕ
+unfolding linesBelow lineOf
+listingText G areas labels basins = listingHeading ++ linesBelow G (lineOf G areas labels basins) (cells G)
 
 -- after a refusal: "only `refused,place` and a line of the two values"
 unfoldable pub refusalText : ℕ → ℕ → List ℕ

@@ -11,11 +11,13 @@ pub record Put (before after : List ℕ) (at next : ℕ) (text : List ℕ) : Typ
   pub next-is : next ≡ at + length text
   pub after-is : after ≡ overwrite before at text
 
--- a sheet that can be listed: at most 256 rows, 1 to 256 columns, and a direction, an area and a label for each cell
-pub record Listable (rows cols : ℕ) (dirs areas labels : List ℕ) : Type 0 where
+-- a sheet that can be listed: at most 256 rows, 1 to 256 columns, and a direction, an area, a label and a basin for
+-- each cell
+pub record Listable (rows cols : ℕ) (dirs areas labels basins : List ℕ) : Type 0 where
   pub rows-most : rows ≤ 256
   pub cols-most : cols ≤ 256
   pub cols-some : 0 < cols
   pub dirs-long : rows * cols ≤ length dirs
   pub areas-long : rows * cols ≤ length areas
   pub labels-long : rows * cols ≤ labelPlaces (length labels)
+  pub basins-long : rows * cols ≤ length basins

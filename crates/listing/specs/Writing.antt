@@ -37,19 +37,21 @@ accepted text buffer = record { answer = Bytes (length text); buffer = written t
 unfoldable pub textInto : List ℕ → List ℕ → Listed
 textInto text buffer = cond (leb (length text) (length buffer)) (accepted text buffer) (refused 3 buffer)
 
--- with n = rows × columns: n directions, n areas, n labels, where a label is two numbers of its slice
-unfoldable pub placesFit : Grid → List ℕ → List ℕ → Bool
+-- with n = rows × columns: n directions, n areas, n labels, where a label is two numbers of its slice, n basins
+unfoldable pub placesFit : Grid → List ℕ → List ℕ → List ℕ → Bool
 unfolding labelPlaces
-placesFit G areas labels =
+placesFit G areas labels basins =
     both (leb (cells G) (length (G .dirs)))
-    (both (leb (cells G) (length areas)) (leb (cells G) (labelPlaces (length labels))))
+    (both (leb (cells G) (length areas))
+    (both (leb (cells G) (labelPlaces (length labels))) (leb (cells G) (length basins))))
 
 -- the listing in a lent buffer: 1, then 3
-unfoldable pub listingInto : Grid → List ℕ → List ℕ → List ℕ → Listed
+unfoldable pub listingInto : Grid → List ℕ → List ℕ → List ℕ → List ℕ → Listed
 unfolding sizesFit placesFit listingText textInto
-listingInto G areas labels buffer =
-    let rest : Listed = textInto (listingText G areas labels) buffer in
-    cond (sizesFit (G .rows) (G .cols)) (cond (placesFit G areas labels) rest (refused 3 buffer)) (refused 1 buffer)
+listingInto G areas labels basins buffer =
+    let rest : Listed = textInto (listingText G areas labels basins) buffer in
+    cond (sizesFit (G .rows) (G .cols)) (cond (placesFit G areas labels basins) rest (refused 3 buffer))
+    (refused 1 buffer)
 
 -- the two lines after a refusal in a lent buffer
 unfoldable pub refusalInto : ℕ → ℕ → List ℕ → Listed

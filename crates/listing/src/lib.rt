@@ -4,7 +4,7 @@ ghost use Prim.Native.Nat.{_+_, _*_, _<_, _≤_};
 ghost use lib.ListN.{length};
 ghost use Rattle.decimal.specs.Text.{decimalText};
 ghost use Rattle.sheet.specs.Sheet.{grid};
-ghost use Rattle.listing.specs.Listing.{labelText, labelTexts, field, cellLine, linesBelow};
+ghost use Rattle.listing.specs.Listing.{labelText, field, cellLine, lineOf, linesBelow};
 ghost use Rattle.listing.specs.Writing.{listingValues, listingInto, refusalInto};
 ghost use Rattle.listing.specs.Steps.{Listable, Put};
 use checks::sizes_fit;
@@ -36,21 +36,30 @@ fn label_length(label: Label) -> usize
 }
 
 // The bytes of the line of a cell.
-fn cell_length(row: usize, col: usize, area: u32, label: Label) -> usize
-    ensures { λ r. ⌜ r ≡ length (cellLine row col area (labelText label)) ⌝ }
+fn cell_length(basin: u32, row: usize, col: usize, area: u32, label: Label) -> usize
+    ensures { λ r. ⌜ r ≡ length (cellLine basin row col area (labelText label)) ⌝ }
 {
+    let basin_digits = decimal_length(basin as u64);
     let row_digits = decimal_length(row as u64);
     let col_digits = decimal_length(col as u64);
     let area_digits = decimal_length(area as u64);
     let label_bytes = label_length(label);
-    row_digits + col_digits + area_digits + label_bytes + 4
+    basin_digits + row_digits + col_digits + area_digits + label_bytes + 5
 }
 
 // The bytes of the lines of all inside cells.
-fn lines_length(rows: usize, cols: usize, dirs: &[u8], areas: &[u32], labels: &[u64]) -> usize
-    requires { ⌜ Listable rows cols (now dirs) (now areas) (now labels) ⌝ }
-    ensures { λ r. ⌜ r ≡ length (linesBelow (grid rows cols (now (dirs .entry))) (now (areas .entry))
-        (labelTexts (now (labels .entry))) (rows * cols)) ⌝ }
+fn lines_length(
+    rows: usize,
+    cols: usize,
+    dirs: &[u8],
+    areas: &[u32],
+    labels: &[u64],
+    basins: &[u32],
+) -> usize
+    requires { ⌜ Listable rows cols (now dirs) (now areas) (now labels) (now basins) ⌝ }
+    ensures { λ r. ⌜ r ≡ length (linesBelow (grid rows cols (now (dirs .entry)))
+        (lineOf (grid rows cols (now (dirs .entry))) (now (areas .entry)) (now (labels .entry)) (now (basins .entry)))
+        (rows * cols)) ⌝ }
 {
     let n = rows * cols;
     let mut count = 0;
@@ -59,7 +68,7 @@ fn lines_length(rows: usize, cols: usize, dirs: &[u8], areas: &[u32], labels: &[
             continue;
         }
         let label = checks::label_at(labels, cell);
-        count += cell_length(cell / cols, cell % cols, areas[cell], label);
+        count += cell_length(basins[cell], cell / cols, cell % cols, areas[cell], label);
     }
     count
 }
@@ -114,11 +123,20 @@ fn put_label(label: Label, after: u8, out: &mut [u8], at: usize) -> usize
 }
 
 // Writes the line of a cell.
-fn put_cell(row: usize, col: usize, area: u32, label: Label, out: &mut [u8], at: usize) -> usize
-    requires { ⌜ at + length (cellLine row col area (labelText label)) ≤ length (now out) ⌝ }
-    ensures { λ r. ⌜ Put (now (out .entry)) (now (out .exit)) at r (cellLine row col area (labelText label)) ⌝ }
+fn put_cell(
+    basin: u32,
+    row: usize,
+    col: usize,
+    area: u32,
+    label: Label,
+    out: &mut [u8],
+    at: usize,
+) -> usize
+    requires { ⌜ at + length (cellLine basin row col area (labelText label)) ≤ length (now out) ⌝ }
+    ensures { λ r. ⌜ Put (now (out .entry)) (now (out .exit)) at r (cellLine basin row col area (labelText label)) ⌝ }
 {
-    let col_at = put_field(row as u64, COMMA, out, at);
+    let row_at = put_field(basin as u64, COMMA, out, at);
+    let col_at = put_field(row as u64, COMMA, out, row_at);
     let area_at = put_field(col as u64, COMMA, out, col_at);
     let label_at = put_field(area as u64, COMMA, out, area_at);
     put_label(label, LINE_FEED, out, label_at)
@@ -131,14 +149,17 @@ fn put_lines(
     dirs: &[u8],
     areas: &[u32],
     labels: &[u64],
+    basins: &[u32],
     out: &mut [u8],
     at: usize,
 ) -> usize
-    requires { ⌜ Listable rows cols (now dirs) (now areas) (now labels)
-        × (at + length (linesBelow (grid rows cols (now dirs)) (now areas) (labelTexts (now labels)) (rows * cols))
+    requires { ⌜ Listable rows cols (now dirs) (now areas) (now labels) (now basins)
+        × (at + length (linesBelow (grid rows cols (now dirs))
+        (lineOf (grid rows cols (now dirs)) (now areas) (now labels) (now basins)) (rows * cols))
         ≤ length (now out)) ⌝ }
     ensures { λ r. ⌜ Put (now (out .entry)) (now (out .exit)) at r
-        (linesBelow (grid rows cols (now (dirs .entry))) (now (areas .entry)) (labelTexts (now (labels .entry)))
+        (linesBelow (grid rows cols (now (dirs .entry)))
+        (lineOf (grid rows cols (now (dirs .entry))) (now (areas .entry)) (now (labels .entry)) (now (basins .entry)))
         (rows * cols)) ⌝ }
 {
     let n = rows * cols;
@@ -149,7 +170,15 @@ fn put_lines(
             continue;
         }
         let label = checks::label_at(labels, cell);
-        next = put_cell(cell / cols, cell % cols, areas[cell], label, out, next);
+        next = put_cell(
+            basins[cell],
+            cell / cols,
+            cell % cols,
+            areas[cell],
+            label,
+            out,
+            next,
+        );
     }
     next
 }
@@ -161,14 +190,15 @@ pub fn write_listing(
     dirs: &[u8],
     areas: &[u32],
     labels: &[u64],
+    basins: &[u32],
     out: &mut [u8],
 ) -> Listing
     ensures listing { λ r. ⌜ record { answer = r; buffer = now (out .exit) }
         ≡ listingInto (grid rows cols (now (dirs .entry))) (now (areas .entry)) (now (labels .entry))
-        (now (out .entry)) ⌝ }
+        (now (basins .entry)) (now (out .entry)) ⌝ }
     ensures values { λ r. ⌜ listingValues r
         ≡ listingValues (listingInto (grid rows cols (now (dirs .entry))) (now (areas .entry)) (now (labels .entry))
-        (now (out .entry)) .answer) ⌝ }
+        (now (basins .entry)) (now (out .entry)) .answer) ⌝ }
 {
     if sizes_fit(rows, cols) {
         let n = rows * cols;
@@ -181,13 +211,16 @@ pub fn write_listing(
         if labels.len() / 2 < n {
             return Listing::Refused(3);
         }
-        let heading = b"row,col,area,label\n";
-        let length = heading.len() + lines_length(rows, cols, dirs, areas, labels);
+        if basins.len() < n {
+            return Listing::Refused(3);
+        }
+        let heading = b"basin,row,col,area,label\n";
+        let length = heading.len() + lines_length(rows, cols, dirs, areas, labels, basins);
         if out.len() < length {
             return Listing::Refused(3);
         }
         let at = put_text(heading, out, 0);
-        Listing::Bytes(put_lines(rows, cols, dirs, areas, labels, out, at))
+        Listing::Bytes(put_lines(rows, cols, dirs, areas, labels, basins, out, at))
     } else {
         Listing::Refused(1)
     }

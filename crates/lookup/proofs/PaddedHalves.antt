@@ -18,7 +18,7 @@ use Rattle.sheet.proofs.Records.{digits-take, digits-drop, record-digits, label
 use Rattle.digits.proofs.Numbers.{digits-counted}
 use Rattle.sheet.proofs.Records.{first-short as record-first-short, rest-short as record-rest-short}
 use Rattle.sheet.proofs.Records.{first-below, rest-below}
-use Rattle.lookup.specs.Lookup.{greatestDepth, standsBefore}
+use Rattle.lookup.specs.Lookup.{greatestDepth}
 use Rattle.lookup.specs.Padded.{padded, paddedEnd}
 use Rattle.lookup.specs.PaddedHalves.{numberWithZeros, paddedNumber}
 use Rattle.lookup.proofs.PaddedOrder.{value, span, value-below, number-value}
@@ -146,7 +146,6 @@ pub dictionary-order : (p q : Label) → isLabel greatestDepth p ≡ true → is
     ≡ cond (eqb (paddedNumber (p .first)) (paddedNumber (q .first)))
     (ltb (paddedNumber (p .rest)) (paddedNumber (q .rest)))
     (ltb (paddedNumber (p .first)) (paddedNumber (q .first)))
-unfolding standsBefore
 dictionary-order p q e f =
     let small : paddedNumber (q .rest) ≤ 10 ^ 18 = omega (arith, padded-rest-below q f) in
     before-padded p q e f ∙ rw (padded-halves q f)

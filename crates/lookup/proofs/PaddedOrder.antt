@@ -5,16 +5,17 @@ use mathlib.Core.List.{List, [], _∷_}
 use Prim.Native.Nat.{ℕ, zero, suc, _+_, _*_, _-_, _^_, _≤_, _<_}
 use native.Mathlib.Omega.{arith}
 use native.Mathlib.Nat.{mul-le-mul-right, one-le-pow, pow-suc, sub-zero}
-use lib.Dec.{ltb}
+use lib.Dec.{eqb, ltb}
 use lib.ListN.{length}
-use borrow.Author.Tests.{lt-ltb, le-ltb, ltb-true, ltb-false, eq-eqb, ne-eqb}
+use borrow.Author.Tests.{lt-ltb, le-ltb, ltb-true, ltb-false, eq-eqb, ne-eqb, eqb-true, eqb-false}
 use Rattle.claims.specs.Dictionary.{isBefore}
 use Rattle.sheet.specs.declared.Label.{Label}
-use Rattle.sheet.specs.Record.{Digits, digits-none, digits-cons, numberFrom, number, digitsOf}
+use Rattle.sheet.specs.declared.UnitName.{UnitName}
+use Rattle.sheet.specs.Record.{Digits, digits-none, digits-cons, numberFrom, number, digitsOf, basinAndDigits}
 use Rattle.sheet.specs.Flow.{isLabel}
 use Rattle.sheet.proofs.Records.{label-shape}
 use Rattle.lookup.specs.Lookup.{greatestDepth, begins, standsBefore, beginsWith}
-use Rattle.lookup.specs.Padded.{withZeros, padded, paddedEnd}
+use Rattle.lookup.specs.Padded.{withZeros, padded, paddedEnd, isBelow}
 
 -- ---- digits in k places, the most significant first, with zeros behind them
 
@@ -125,8 +126,7 @@ module _ (m : Label) (k : KnownLabel m) where
 
 -- a label stands before another exactly if its padded number is less
 pub before-padded : (m w : Label) → isLabel greatestDepth m ≡ true → isLabel greatestDepth w ≡ true
-    → standsBefore m w ≡ ltb (padded m) (padded w)
-unfolding standsBefore
+    → isBefore (digitsOf m) (digitsOf w) ≡ ltb (padded m) (padded w)
 before-padded m w e f =
     let a = known m e in
     let b = known w f in
@@ -135,12 +135,39 @@ before-padded m w e f =
     (stands greatestDepth (digitsOf w) (digitsOf m) (b .digits) (a .digits) (b .most) (a .most)))
 
 -- a label stands before leading digits or begins with them exactly if its padded number is less than their end
-pub not-past-padded : (m w : Label) → isLabel greatestDepth m ≡ true → isLabel greatestDepth w ≡ true
-    → cond (standsBefore m w) true (beginsWith w m) ≡ ltb (padded m) (paddedEnd w)
-unfolding standsBefore beginsWith
+not-past-padded : (m w : Label) → isLabel greatestDepth m ≡ true → isLabel greatestDepth w ≡ true
+    → cond (isBefore (digitsOf m) (digitsOf w)) true (begins (digitsOf w) (digitsOf m)) ≡ ltb (padded m) (paddedEnd w)
 not-past-padded m w e f =
     let a = known m e in
     let b = known w f in
     rw (padded-value m a, padded-end w b)
     (not-past-value greatestDepth (digitsOf w) (digitsOf m)
     (stands greatestDepth (digitsOf w) (digitsOf m) (b .digits) (a .digits) (b .most) (a .most)))
+
+-- ---- units, by basin and then label
+
+module _ (m w : UnitName) (e : isLabel greatestDepth (m .label) ≡ true) (f : isLabel greatestDepth (w .label) ≡ true)
+  where
+    pub unit-before-padded : standsBefore m w ≡ isBelow (w .basin) (padded (w .label)) m
+    unfolding standsBefore basinAndDigits isBefore isBelow
+    unit-before-padded = rw (before-padded (m .label) (w .label) e f)
+
+    pub unit-not-past-padded : cond (standsBefore m w) true (beginsWith w m)
+        ≡ isBelow (w .basin) (paddedEnd (w .label)) m
+    unfolding standsBefore beginsWith basinAndDigits isBefore begins isBelow
+    unit-not-past-padded = go (eqb (m .basin) (w .basin)) refl
+      where
+        itself : (t : Bool) → cond t true false ≡ t
+        itself true = refl
+        itself false = refl
+
+        go : (s : Bool) → eqb (m .basin) (w .basin) ≡ s
+            → cond (cond s (isBefore (digitsOf (m .label)) (digitsOf (w .label))) (ltb (m .basin) (w .basin))) true
+            (cond (eqb (w .basin) (m .basin)) (begins (digitsOf (w .label)) (digitsOf (m .label))) false)
+            ≡ cond s (ltb (padded (m .label)) (paddedEnd (w .label))) (ltb (m .basin) (w .basin))
+        go true h =
+            rw (eq-eqb (w .basin) (m .basin) (sym (eqb-true (m .basin) (w .basin) h)))
+            (not-past-padded (m .label) (w .label) e f)
+        go false h =
+            rw (ne-eqb (w .basin) (m .basin) (λ g. eqb-false (m .basin) (w .basin) h (sym g)))
+            (itself (ltb (m .basin) (w .basin)))

@@ -6,89 +6,89 @@ use mathlib.Core.Logic.{_↔_}
 use Prim.Native.Nat.{ℕ, zero, suc, _+_, _-_, _≤_, _<_}
 use native.Mathlib.Numerals.{add-one}
 use native.Mathlib.Omega.{arith}
-use lib.ListN.{length, drop, getD, drop-of-length-le}
+use lib.ListN.{length, drop, drop-of-length-le}
 use lib.Seq.{drop-cons}
 use Rattle.claims.proofs.Dictionary.{before-transitive}
-use Rattle.sheet.specs.declared.Label.{Label}
-use Rattle.sheet.specs.Record.{digitsOf, noDigits}
+use Rattle.sheet.specs.declared.UnitName.{UnitName}
+use Rattle.sheet.specs.Record.{noDigits, unitName, basinAndDigits}
 use Rattle.sheet.proofs.Within.{both-true}
 use Rattle.lookup.specs.Lookup.{standsBefore, risingFrom, isRising}
-use Rattle.lookup.specs.Exactly.{NeighboursRise, PairsRise}
+use Rattle.lookup.specs.Exactly.{entryAt, NeighboursRise, PairsRise}
 
-pub stands-transitive : (m k j : Label) → standsBefore m k ≡ true → standsBefore k j ≡ true → standsBefore m j ≡ true
+pub stands-transitive : (m k j : UnitName) → standsBefore m k ≡ true → standsBefore k j ≡ true → standsBefore m j ≡ true
 unfolding standsBefore
-stands-transitive m k j e f = before-transitive (digitsOf m) (digitsOf k) (digitsOf j) e f
+stands-transitive m k j e f = before-transitive (basinAndDigits m) (basinAndDigits k) (basinAndDigits j) e f
 
 -- ---- all pairs
 
-rising-first : (m : Label) (labels : List Label) → risingFrom m labels ≡ true → (j : ℕ) → j < length labels
-    → standsBefore m (getD labels j noDigits) ≡ true
+rising-first : (m : UnitName) (units : List UnitName) → risingFrom m units ≡ true → (j : ℕ) → j < length units
+    → standsBefore m (entryAt units j) ≡ true
 unfolding risingFrom
 rising-first m [] e j l = absurd (omega arith)
-rising-first m (k ∷ labels) e zero l = both-true (standsBefore m k) (risingFrom k labels) e .0
-rising-first m (k ∷ labels) e (suc j) l =
-    let b = both-true (standsBefore m k) (risingFrom k labels) e in
-    stands-transitive m k (getD labels j noDigits) (b .0) (rising-first k labels (b .1) j (omega arith))
+rising-first m (k ∷ units) e zero l = both-true (standsBefore m k) (risingFrom k units) e .0
+rising-first m (k ∷ units) e (suc j) l =
+    let b = both-true (standsBefore m k) (risingFrom k units) e in
+    stands-transitive m k (entryAt units j) (b .0) (rising-first k units (b .1) j (omega arith))
 
-pub rising-rest : (m : Label) (labels : List Label) → risingFrom m labels ≡ true → isRising labels ≡ true
+pub rising-rest : (m : UnitName) (units : List UnitName) → risingFrom m units ≡ true → isRising units ≡ true
 unfolding isRising
 rising-rest m [] e = refl
-rising-rest m (k ∷ labels) e = both-true (standsBefore m k) (risingFrom k labels) e .1
+rising-rest m (k ∷ units) e = both-true (standsBefore m k) (risingFrom k units) e .1
 
-pairs : (labels : List Label) → isRising labels ≡ true → (i j : ℕ) → i < j → j < length labels
-    → standsBefore (getD labels i noDigits) (getD labels j noDigits) ≡ true
+pairs : (units : List UnitName) → isRising units ≡ true → (i j : ℕ) → i < j → j < length units
+    → standsBefore (entryAt units i) (entryAt units j) ≡ true
 unfolding isRising
 pairs [] e i j l h = absurd (omega arith)
-pairs (m ∷ labels) e zero zero l h = absurd (omega arith)
-pairs (m ∷ labels) e zero (suc j) l h = rising-first m labels e j (omega arith)
-pairs (m ∷ labels) e (suc i) zero l h = absurd (omega arith)
-pairs (m ∷ labels) e (suc i) (suc j) l h = pairs labels (rising-rest m labels e) i j (omega arith) (omega arith)
+pairs (m ∷ units) e zero zero l h = absurd (omega arith)
+pairs (m ∷ units) e zero (suc j) l h = rising-first m units e j (omega arith)
+pairs (m ∷ units) e (suc i) zero l h = absurd (omega arith)
+pairs (m ∷ units) e (suc i) (suc j) l h = pairs units (rising-rest m units e) i j (omega arith) (omega arith)
 
-pub rising-pairs : (labels : List Label) → isRising labels ≡ true → PairsRise labels
+pub rising-pairs : (units : List UnitName) → isRising units ≡ true → PairsRise units
 unfolding standsBefore
-rising-pairs labels e = record { earlier = pairs labels e }
+rising-pairs units e = record { earlier = pairs units e }
 
 -- ---- neighbours alone
 
-from-neighbours : (m : Label) (labels : List Label) → ((i : ℕ) → suc i < suc (length labels)
-    → standsBefore (getD (m ∷ labels) i noDigits) (getD labels i noDigits) ≡ true) → risingFrom m labels ≡ true
+from-neighbours : (m : UnitName) (units : List UnitName) → ((i : ℕ) → suc i < suc (length units)
+    → standsBefore (entryAt (m ∷ units) i) (entryAt units i) ≡ true) → risingFrom m units ≡ true
 unfolding risingFrom
 from-neighbours m [] next = refl
-from-neighbours m (k ∷ labels) next =
-    rw (next 0 (omega arith)) (from-neighbours k labels (λ i l. next (suc i) (omega arith)))
+from-neighbours m (k ∷ units) next =
+    rw (next 0 (omega arith)) (from-neighbours k units (λ i l. next (suc i) (omega arith)))
 
-pub neighbours-rising : (labels : List Label) → NeighboursRise labels → isRising labels ≡ true
+pub neighbours-rising : (units : List UnitName) → NeighboursRise units → isRising units ≡ true
 unfolding isRising standsBefore
 neighbours-rising [] n = refl
-neighbours-rising (m ∷ labels) n = from-neighbours m labels (n .earlier)
+neighbours-rising (m ∷ units) n = from-neighbours m units (n .earlier)
 
-pub pairs-rising : (labels : List Label) → PairsRise labels → isRising labels ≡ true
-pairs-rising labels r =
-    neighbours-rising labels (record { earlier = λ i l. r .earlier i (suc i) (omega arith) l })
+pub pairs-rising : (units : List UnitName) → PairsRise units → isRising units ≡ true
+pairs-rising units r =
+    neighbours-rising units (record { earlier = λ i l. r .earlier i (suc i) (omega arith) l })
 
-pub rising-agrees : (labels : List Label) → (isRising labels ≡ true) ↔ PairsRise labels
-rising-agrees labels = (rising-pairs labels, pairs-rising labels)
+pub rising-agrees : (units : List UnitName) → (isRising units ≡ true) ↔ PairsRise units
+rising-agrees units = (rising-pairs units, pairs-rising units)
 
 -- ---- from place to place
 
-pub rising-start : (labels : List Label) → risingFrom (getD labels 0 noDigits) (drop 1 labels) ≡ isRising labels
+pub rising-start : (units : List UnitName) → risingFrom (entryAt units 0) (drop 1 units) ≡ isRising units
 unfolding isRising
 rising-start [] = refl
-rising-start (m ∷ labels) = refl
+rising-start (m ∷ units) = refl
 
-module _ (labels : List Label) (i : ℕ) where
-  pub rising-end : (m : Label) → length labels ≤ i → risingFrom m (drop i labels) ≡ true
+module _ (units : List UnitName) (i : ℕ) where
+  pub rising-end : (m : UnitName) → length units ≤ i → risingFrom m (drop i units) ≡ true
   unfolding risingFrom
   rising-end m h = rw drop-of-length-le
 
-  pub rising-no : (m : Label) → i < length labels → standsBefore m (getD labels i noDigits) ≡ false
-      → risingFrom m (drop i labels) ≡ false
+  pub rising-no : (m : UnitName) → i < length units → standsBefore m (entryAt units i) ≡ false
+      → risingFrom m (drop i units) ≡ false
   unfolding risingFrom
-  rising-no m h e = rw (drop-cons labels i noDigits, e)
+  rising-no m h e = rw (drop-cons units i (unitName 0 noDigits), e)
 
-  pub rising-turn : (m : Label) → i < length labels → standsBefore m (getD labels i noDigits) ≡ true
-      → risingFrom (getD labels (i + 1 - 1) noDigits) (drop (i + 1) labels) ≡ risingFrom m (drop i labels)
+  pub rising-turn : (m : UnitName) → i < length units → standsBefore m (entryAt units i) ≡ true
+      → risingFrom (entryAt units (i + 1 - 1)) (drop (i + 1) units) ≡ risingFrom m (drop i units)
   unfolding risingFrom
   rising-turn m h e =
       let back : i + 1 - 1 ≡ i = omega arith in
-      rw (back, add-one i, drop-cons labels i noDigits, e)
+      rw (back, add-one i, drop-cons units i (unitName 0 noDigits), e)

@@ -1,19 +1,21 @@
-// Looking up leading digits: the part of a slice of labels whose labels begin so.
+// Looking up leading digits in a basin: the part of a slice of labels that holds the basin's labels that begin so.
 use checks::label_at;
+use checks::unit_at;
 use digits::count_decimal_digits;
 use digits::is_label;
 use sheet::Label;
+use sheet::UnitName;
 ghost use mathlib.Core.Path.{_≡_};
 ghost use mathlib.Core.Bool.{true};
 ghost use Prim.Native.Nat.{_≤_, _^_, _/_};
 ghost use lib.Dec.{ltb};
 ghost use lib.ListN.{length};
 ghost use denote.Ref.{ptr};
-ghost use Rattle.sheet.specs.Record.{decimalDigits, numberDigits, labelsIn, numbersOf};
+ghost use Rattle.sheet.specs.Record.{decimalDigits, numberDigits, labelsIn, numbersOf, unitsIn};
 ghost use Rattle.sheet.specs.Flow.{every, isLabel};
-ghost use Rattle.lookup.specs.Lookup.{greatestDepth, isRising, partFound};
+ghost use Rattle.lookup.specs.Lookup.{greatestDepth, standsBefore, isRising, partFound};
 ghost use Rattle.lookup.specs.Lookup.{lookupAnswer, lookupValues, lookupPart, lookupPlace};
-ghost use Rattle.lookup.specs.Padded.{padded as paddedOf, paddedEnd, countBelow};
+ghost use Rattle.lookup.specs.Padded.{padded as paddedOf, paddedEnd, isBelow, countBelow};
 ghost use Rattle.lookup.specs.PaddedHalves.{numberWithZeros, paddedNumber, HalvesOf, joined};
 
 // The answer of find: where the part starts and how many labels it has, or the number of the refusal.
@@ -128,15 +130,37 @@ fn is_below(label: Label, limit: Halves) -> bool
     first < limit.first
 }
 
-// Each label stands before the next.
-fn is_rising(labels: &[u64]) -> bool
+// The unit stands before a limit in a basin: by basins, and where those are equal by padded labels.
+fn unit_is_below(unit: UnitName, basin: u32, limit: Halves) -> bool
+    requires { ⌜ isLabel greatestDepth (unit .label) ≡ true ⌝ }
+    requires { ⌜ limit .rest ≤ 10 ^ numberDigits ⌝ }
+    ensures { λ r. ⌜ r ≡ isBelow basin (joined limit) unit ⌝ }
+{
+    if unit.basin == basin {
+        return is_below(unit.label, limit);
+    }
+    unit.basin < basin
+}
+
+// The unit m stands before the unit k.
+fn stands_before(m: UnitName, k: UnitName) -> bool
+    requires { ⌜ isLabel greatestDepth (m .label) ≡ true ⌝ }
+    requires { ⌜ isLabel greatestDepth (k .label) ≡ true ⌝ }
+    ensures { λ r. ⌜ r ≡ standsBefore m k ⌝ }
+{
+    unit_is_below(m, k.basin, padded(k.label))
+}
+
+// Each unit stands before the next.
+fn is_rising(labels: &[u64], basins: &[u32]) -> bool
+    requires { ⌜ length (labelsIn (now labels)) ≤ length (now basins) ⌝ }
     requires { ⌜ every (isLabel greatestDepth) (labelsIn (now labels)) ≡ true ⌝ }
-    ensures { λ r. ⌜ r ≡ isRising (labelsIn (now (labels .entry))) ⌝ }
+    ensures { λ r. ⌜ r ≡ isRising (unitsIn (now (basins .entry)) (labelsIn (now (labels .entry)))) ⌝ }
 {
     let count = label_count(labels);
     let mut i = 1;
     while i < count {
-        if is_below(label_at(labels, i - 1), padded(label_at(labels, i))) {
+        if stands_before(unit_at(basins, labels, i - 1), unit_at(basins, labels, i)) {
             i += 1;
         } else {
             return false;
@@ -145,17 +169,19 @@ fn is_rising(labels: &[u64]) -> bool
     true
 }
 
-// How many labels stand before a limit, by their padded numbers.
-fn count_below(limit: Halves, labels: &[u64]) -> usize
+// How many units stand before a limit in a basin.
+fn count_below(basin: u32, limit: Halves, labels: &[u64], basins: &[u32]) -> usize
     requires { ⌜ limit .rest ≤ 10 ^ numberDigits ⌝ }
+    requires { ⌜ length (labelsIn (now labels)) ≤ length (now basins) ⌝ }
     requires { ⌜ every (isLabel greatestDepth) (labelsIn (now labels)) ≡ true ⌝ }
-    ensures { λ r. ⌜ r ≡ countBelow (joined limit) (labelsIn (now (labels .entry))) ⌝ }
+    ensures { λ r. ⌜ r ≡ countBelow basin (joined limit)
+        (unitsIn (now (basins .entry)) (labelsIn (now (labels .entry)))) ⌝ }
 {
     let entries = label_count(labels);
     let mut count = 0;
     let mut i = 0;
     while i < entries {
-        if is_below(label_at(labels, i), limit) {
+        if unit_is_below(unit_at(basins, labels, i), basin, limit) {
             count += 1;
         }
         i += 1;
@@ -163,27 +189,32 @@ fn count_below(limit: Halves, labels: &[u64]) -> usize
     count
 }
 
-// Where the labels that begin with the leading digits start, and how many there are.
-fn part_found(leading: Label, labels: &[u64]) -> LookupAnswer
-    requires { ⌜ isLabel greatestDepth leading ≡ true ⌝ }
+// Where the basin's labels that begin with the leading digits start, and how many there are.
+fn part_found(leading: UnitName, labels: &[u64], basins: &[u32]) -> LookupAnswer
+    requires { ⌜ isLabel greatestDepth (leading .label) ≡ true ⌝ }
+    requires { ⌜ length (labelsIn (now labels)) ≤ length (now basins) ⌝ }
     requires { ⌜ every (isLabel greatestDepth) (labelsIn (now labels)) ≡ true ⌝ }
-    ensures { λ r. ⌜ r ≡ partFound leading (labelsIn (now (labels .entry))) ⌝ }
+    ensures { λ r. ⌜ r ≡ partFound leading (unitsIn (now (basins .entry)) (labelsIn (now (labels .entry)))) ⌝ }
 {
-    let start = count_below(padded(leading), labels);
-    let end = count_below(padded_end(leading), labels);
+    let start = count_below(leading.basin, padded(leading.label), labels, basins);
+    let end = count_below(leading.basin, padded_end(leading.label), labels, basins);
     LookupAnswer::Part(start, end - start)
 }
 
-// Where the part starts and how many labels it has. Refused by 11 for the leading digits, 11 for the entries, 16, in
-// this order.
-pub fn find(leading: Label, labels: &[u64]) -> LookupAnswer
-    ensures answer { λ r. ⌜ r ≡ lookupAnswer leading (labelsIn (now (labels .entry))) ⌝ }
-    ensures values { λ r. ⌜ lookupValues r ≡ lookupValues (lookupAnswer leading (labelsIn (now (labels .entry)))) ⌝ }
+// Where the part starts and how many labels it has. Refused by 3 for fewer basins than labels, 11 for the leading
+// digits, 11 for the entries, 16, in this order.
+pub fn find(leading: UnitName, labels: &[u64], basins: &[u32]) -> LookupAnswer
+    ensures answer { λ r. ⌜ r ≡ lookupAnswer leading (labelsIn (now (labels .entry))) (now (basins .entry)) ⌝ }
+    ensures values { λ r. ⌜ lookupValues r
+        ≡ lookupValues (lookupAnswer leading (labelsIn (now (labels .entry))) (now (basins .entry))) ⌝ }
 {
-    if is_label(GREATEST_DEPTH, leading) {
+    if basins.len() < label_count(labels) {
+        return LookupAnswer::Refused(3);
+    }
+    if is_label(GREATEST_DEPTH, leading.label) {
         if all_labels(labels) {
-            if is_rising(labels) {
-                return part_found(leading, labels);
+            if is_rising(labels, basins) {
+                return part_found(leading, labels, basins);
             }
             return LookupAnswer::Refused(16);
         }
@@ -192,15 +223,22 @@ pub fn find(leading: Label, labels: &[u64]) -> LookupAnswer
     LookupAnswer::Refused(11)
 }
 
-// The part of the slice whose labels begin with the leading digits, empty at the place they would take if none does;
-// refused, the empty part at the slice's start. The refusal's number, or 0, goes to the lent number.
-pub fn lookup<'a>(leading: Label, labels: &'a [u64], refusal: &mut u8) -> &'a [u64]
-    ensures part { λ r. ⌜ now r ≡ numbersOf (lookupPart leading (labelsIn (now (labels .entry)))) ⌝ }
-    ensures place { λ r. ⌜ ptr r ≡ lookupPlace leading (labelsIn (now (labels .entry))) (ptr (labels .entry)) ⌝ }
+// The part of the slice that holds the basin's labels that begin with the leading digits, empty at the place they would
+// take if none does; refused, the empty part at the slice's start. The refusal's number, or 0, goes to the lent number.
+pub fn lookup<'a>(
+    leading: UnitName,
+    labels: &'a [u64],
+    basins: &[u32],
+    refusal: &mut u8,
+) -> &'a [u64]
+    ensures part { λ r. ⌜ now r
+        ≡ numbersOf (lookupPart leading (labelsIn (now (labels .entry))) (now (basins .entry))) ⌝ }
+    ensures place { λ r. ⌜ ptr r
+        ≡ lookupPlace leading (labelsIn (now (labels .entry))) (now (basins .entry)) (ptr (labels .entry)) ⌝ }
     ensures refusal { λ _. ⌜ now (refusal .exit)
-        ≡ lookupValues (lookupAnswer leading (labelsIn (now (labels .entry)))) .number ⌝ }
+        ≡ lookupValues (lookupAnswer leading (labelsIn (now (labels .entry))) (now (basins .entry))) .number ⌝ }
 {
-    match find(leading, labels) {
+    match find(leading, labels, basins) {
         LookupAnswer::Part(start, length) => {
             *refusal = 0;
             let from = 2 * start;

@@ -4,9 +4,10 @@ use mathlib.Core.Bool.{Bool, true, false}
 use mathlib.Core.List.{List, [], _∷_, List·Memᴰ, List·Memᴰ·head, List·Memᴰ·tail, List·Memᴰ·not-nil}
 use mathlib.Core.List.{List·Memᴰ·cases-cons}
 use mathlib.Core.Logic.{_⊎_, inl, inr}
-use Prim.Native.Nat.{ℕ, _+_, _≤_, _<_}
+use Prim.Native.Nat.{ℕ, zero, suc, _+_, _≤_, _<_}
 use native.Mathlib.Omega.{arith}
 use lib.Dec.{ltb}
+use lib.ListN.{length, getD}
 use borrow.Author.Tests.{ltb-true, ltb-false}
 use Rattle.claims.specs.Bounds.{sum}
 use Rattle.order.specs.Positions.{Consecutive, none, next}
@@ -66,3 +67,25 @@ module _ {size pos : ℕ → ℕ} where
       → ((u : ℕ) → List·Memᴰ u us → pos′ u ≡ pos u) → Consecutive size pos′ lo us
   moved none h = none
   moved (next {u = u} e w) h = next (h u (List·Memᴰ·head refl) ∙ e) (moved w (λ v m. h v (List·Memᴰ·tail m)))
+
+  -- ---- by places in the list
+
+  pub first-at : {lo : ℕ} {us : List ℕ} → Consecutive size pos lo us → 0 < length us → pos (getD us 0 0) ≡ lo
+  first-at none l = absurd (omega arith)
+  first-at (next e w) l = e
+
+  -- each begins where the one before it ends
+  pub next-at : {lo : ℕ} {us : List ℕ} → Consecutive size pos lo us → (t : ℕ) → suc t < length us
+      → pos (getD us (suc t) 0) ≡ pos (getD us t 0) + size (getD us t 0)
+  next-at none t l = absurd (omega arith)
+  next-at (next {u = u} e w) zero l = first-at w (omega arith) ∙ (rw e refl)
+  next-at (next e w) (suc t) l = next-at w t (omega arith)
+
+  -- the last ends where all of them do
+  pub last-at : {lo : ℕ} {us : List ℕ} → Consecutive size pos lo us → (t : ℕ) → suc t ≡ length us
+      → pos (getD us t 0) + size (getD us t 0) ≡ lo + sum size us
+  unfolding sum
+  last-at none t l = absurd (omega arith)
+  last-at (next {us = []} e w) zero l = omega arith
+  last-at (next {us = v ∷ us} e w) zero l = absurd (omega arith)
+  last-at (next e w) (suc t) l = omega (arith, last-at w t (omega arith))

@@ -1,13 +1,12 @@
 -- A preorder, with the cell and the size at each position, lays every river along its positions.
-use mathlib.Core.Path.{_≡_, refl, sym, _∙_, ap}
+use mathlib.Core.Path.{_≡_, refl}
 use mathlib.Core.List.{List, [], _∷_, List·Memᴰ, List·Memᴰ·head, List·Memᴰ·tail}
 use mathlib.Core.Logic.{_≢_}
-use Prim.Native.Nat.{ℕ, zero, suc, _+_, _≤_, _<_}
+use Prim.Native.Nat.{ℕ, zero, suc, _+_, _≤_}
 use native.Mathlib.Omega.{arith}
 use lib.ListN.{getD}
-use Rattle.sheet.specs.declared.Next.the-variants.{To}
 use Rattle.sheet.specs.River.{Network, donors, Run, stem, mouth, upstream, riverWithin, river}
-use Rattle.claims.specs.Basin.{Basin}
+use Rattle.claims.specs.Basin.{Forest}
 use Rattle.claims.specs.Bounds.{sum}
 use Rattle.claims.proofs.Basins.{lawful}
 use Rattle.rivers.specs.Layout.{Laid, laid-end, laid-stem, laid-mouth}
@@ -23,7 +22,7 @@ module _ {cell sizes : List ℕ} {end : ℕ} where
       → Laid cell sizes end (lo + s) hi R → Laid cell sizes end lo hi (mouth c ∷ R)
   mouth-at {lo} {hi} {c} {s} {R} e f g w = rw (← e) (laid-mouth {lo = lo} {hi = hi} {R = R} (rw f g) (rw f w))
 
-module _ {N : Network} {inside : ℕ → Type 0} {outlet : ℕ} (B : Basin N inside outlet) {size pos : ℕ → ℕ}
+module _ {N : Network} {inside : ℕ → Type 0} (F : Forest N inside) {size pos : ℕ → ℕ}
     (P : Preorder N inside size pos) {cell sizes : List ℕ}
     (cell-is : (c : ℕ) → inside c → getD cell (pos c) 0 ≡ c)
     (size-is : (c : ℕ) → inside c → getD sizes (pos c) 0 ≡ size c) where
@@ -36,24 +35,24 @@ module _ {N : Network} {inside : ℕ → Type 0} {outlet : ℕ} (B : Basin N ins
   upstream-laid f end lo (u ∷ []) (next p w) e i h = rw (← p) (h u (List·Memᴰ·head refl) (omega arith))
   upstream-laid f end lo (u ∷ v ∷ us) (next p w) e i h =
       let j = i u (List·Memᴰ·head refl) in
-      let l = some B P v (i v (List·Memᴰ·tail (List·Memᴰ·head refl))) in
+      let l = some F P v (i v (List·Memᴰ·tail (List·Memᴰ·head refl))) in
       mouth-at (rw (← p) (cell-is u j)) (rw (← p) (size-is u j)) (λ s. omega arith)
       (upstream-laid f end (lo + size u) (v ∷ us) w (omega arith) (λ x m. i x (List·Memᴰ·tail m))
       (λ x m. h x (List·Memᴰ·tail m)))
 
-  within-laid : (k c : ℕ) → N .cells ≤ k + lawful (B .forest) .dist c → inside c
+  within-laid : (k c : ℕ) → N .cells ≤ k + lawful F .dist c → inside c
       → Laid cell sizes (pos c + size c) (pos c) (pos c + size c) (riverWithin N k c)
   unfolding riverWithin
-  within-laid zero c l i = absurd (omega (arith, lawful (B .forest) .short c))
+  within-laid zero c l i = absurd (omega (arith, lawful F .short c))
   within-laid (suc k) c l i =
       stem-at (cell-is c i) (size-is c i) refl
       (upstream-laid (riverWithin N k) (pos c + size c) (pos c + 1) (donors N c) (P .follow c i)
       (omega (arith, P .adds c i))
-      (λ u m. B .forest .from-inside u c (lawful (B .forest) .donor-steps c u m))
+      (λ u m. F .from-inside u c (lawful F .donor-steps c u m))
       (λ u m e. rw (← e) (within-laid k u (omega (
         arith,
-        lawful (B .forest) .falls u c (lawful (B .forest) .donor-steps c u m),
-      )) (B .forest .from-inside u c (lawful (B .forest) .donor-steps c u m)))))
+        lawful F .falls u c (lawful F .donor-steps c u m),
+      )) (F .from-inside u c (lawful F .donor-steps c u m)))))
 
   pub river-laid : (c : ℕ) → inside c → Laid cell sizes (pos c + size c) (pos c) (pos c + size c) (river N c)
   unfolding river

@@ -11,5 +11,6 @@ pub mod Gathering
 pub mod Placing
 pub mod Entering
 pub mod Standing
+pub mod Outlets
 pub mod Queued
 pub mod Arranging

@@ -1,32 +1,34 @@
 -- The queued cells get their positions one after the other.
-use mathlib.Core.Path.{_≡_, refl, sym, _∙_, ap, subst}
+use mathlib.Core.Path.{_≡_, refl, sym, _∙_, ap}
 use mathlib.Core.Bool.{true}
 use mathlib.Core.List.{List, List·Memᴰ}
-use mathlib.Core.Logic.{_≢_}
 use Prim.Native.Nat.{ℕ, suc, _+_, _*_, _-_, _≤_, _<_}
 use native.Mathlib.Numerals.{add-one}
 use native.Mathlib.Omega.{arith}
-use lib.ListN.{length, getD, set}
-use lib.Seq.{getD-set-same, getD-set-other}
+use lib.ListN.{length, take}
 use Rattle.sheet.specs.declared.Next.{Next}
 use Rattle.sheet.specs.declared.Next.the-variants.{Outlet, To}
 use Rattle.sheet.specs.Sheet.{Grid, cells, inside, next}
 use Rattle.sheet.specs.River.{networkBy, donors}
-use Rattle.sheet.specs.Label.{outlet}
 use Rattle.sheet.proofs.Cells.{cells-most, inside-lt, next-goes, outlet-not-to}
-use Rattle.claims.specs.Basin.{Basin}
+use Rattle.claims.specs.Basin.{Forest}
 use Rattle.claims.specs.Bounds.{sum}
+use Rattle.claims.proofs.GridLaws.{sum-same}
 use Rattle.claims.proofs.Sheets.{outlet-is, is-outlet}
-use Rattle.upstream.specs.Work.{sizesPart, positionsPart, queuedAt, rankOf, receiverOf, numbered, sizeAt}
+use Rattle.upstream.specs.Work.{sizesPart, positionsPart, queuedAt, rankOf, numbered, sizeAt}
 use Rattle.upstream.proofs.Queues.{queued-most}
 use Rattle.upstream.specs.Search.{Upstream}
 use Rattle.drainage.specs.Total.{size}
 use Rattle.order.specs.Network.{areaIn, donorsIn, networkIn}
-use Rattle.order.specs.Positions.{Consecutive, Preorder}
-use Rattle.order.specs.Places.{positionAt, Surveyed, Standing, DonorsPlaced, Placed, Apart}
+use Rattle.order.specs.Positions.{Preorder}
+use Rattle.order.specs.Places.{positionAt, outletsIn, Surveyed, positioned, firstOutlets}
+use Rattle.order.specs.Places.{OutletsFit, Standing, DonorsPlaced, Placed, Apart}
 use Rattle.order.proofs.Intervals.{between, moved}
-use Rattle.order.proofs.Preorder.{some, same-cell}
-use Rattle.order.proofs.Sizes.{basin, size-adds, outlet-size}
+use Rattle.order.proofs.Preorder.{Outlets, some, same-cell}
+use Rattle.order.proofs.Sizes.{forest, size-adds}
+use Rattle.order.proofs.Placing.{positioned-kept, positioned-follow}
+use Rattle.order.proofs.Outlets.{outlets-once, first-outlets, outlet-listed, listed-outlet, drains-to}
+use Rattle.order.proofs.Outlets.{outlet-sizes}
 use Rattle.order.proofs.Gathering.{donor-goes, goes-donor}
 use Rattle.order.proofs.Entering.{step-cases}
 
@@ -34,19 +36,19 @@ module _ {G : Grid} {areas work : List ℕ} {queued : ℕ} (W : Surveyed G areas
   up : Upstream G work queued
   up = W .drained .searched .upstream
 
-  pub whole : (least split : ℕ) → Basin (networkIn G areas least split) (λ c. inside G c ≡ true) (outlet G)
-  whole = basin (W .drained) (W .single) (areaIn (cells G) areas)
+  pub queue-most : queued ≤ cells G
+  queue-most = queued-most (up .queue)
+
+  pub whole : (least split : ℕ) → Forest (networkIn G areas least split) (λ c. inside G c ≡ true)
+  whole = forest (W .drained) (omega (arith, W .some, queue-most)) (areaIn (cells G) areas)
 
   -- a cell's size is one more than those of its donors together
   adds : (c : ℕ) → inside G c ≡ true → size G c ≡ suc (sum (size G) (donorsIn G areas c))
   unfolding donors networkBy
-  adds c i = size-adds G (areaIn (cells G) areas) 0 0 (whole 0 0 .forest) c i
+  adds c i = size-adds G (areaIn (cells G) areas) 0 0 (whole 0 0) c i
 
   pub queue-inside : (i : ℕ) → i < queued → inside G (queuedAt work i) ≡ true
   queue-inside i l = up .is-inside i l
-
-  pub queue-most : queued ≤ cells G
-  queue-most = queued-most (up .queue)
 
   -- an inside cell's place in the queue
   pub place-of : (c : ℕ) → inside G c ≡ true → (i : ℕ) × (i < queued) × (queuedAt work i ≡ c)
@@ -65,16 +67,45 @@ module _ {G : Grid} {areas work : List ℕ} {queued : ℕ} (W : Surveyed G areas
       let b = up .queue .item i l .before (queuedAt work j) (up .receiver i l ∙ ap numbered e ∙ sym (add-one _)) in
       omega (arith, b .earlier, up .queue .item j h .rank)
 
-  pub placed-none : Placed G areas work (set work (positionsPart * cells G + outlet G) 0) queued 0
+  abbrev outlets : List ℕ
+  outlets = outletsIn G work
+
+  small : cells G ≤ 65536
+  small = cells-most (W .measured .sized .rows-most) (W .measured .sized .cols-most)
+
+  pub outlet-inside : (o : ℕ) → List·Memᴰ o outlets → inside G o ≡ true
+  outlet-inside o m = (outlet-is G o (listed-outlet (W .drained .searched) o m)) .0
+
+  -- they are the first cells of the queue that have no receiver
+  pub outlets-first : firstOutlets (cells G) work (take queued work) ≡ outlets
+  outlets-first = first-outlets (W .drained .searched) (omega (arith, queue-most, W .room))
+
+  pub outlets-fit : OutletsFit (cells G) queued work
+  outlets-fit = record {
+    most = queue-most;
+    on = λ i l. inside-lt G _ (queue-inside i l);
+    fit = rw outlets-first (record {
+      small = small;
+      room = W .room;
+      on = λ o m. inside-lt G o (outlet-inside o m);
+      fits =
+          omega (
+            arith,
+            sum-same (sizeAt (cells G) work) (size G) outlets
+                (λ o m. W .size-is o (inside-lt G o (outlet-inside o m))),
+            outlet-sizes (W .drained),
+            queue-most,
+            small,
+          );
+    });
+  }
+
+  pub placed-none : Placed G areas work (positioned (cells G) 0 outlets work) queued 0
   placed-none = record {
-    kept =
-        λ j d. getD-set-other work (positionsPart * cells G + outlet G) j 0 0 (d (outlet G) (whole 0 0 .outlet-inside));
+    kept = λ j d. positioned-kept (cells G) 0 outlets work j (λ o m. d o (outlet-inside o m));
     first =
-        getD-set-same work (positionsPart * cells G + outlet G) 0 0 (omega (
-          arith,
-          W .room,
-          inside-lt G (outlet G) (whole 0 0 .outlet-inside),
-        ));
+        positioned-follow (cells G) (size G) 0 outlets work (λ o m. inside-lt G o (outlet-inside o m))
+        (outlets-once (W .drained .searched)) (W .size-is) (W .room);
     follow = λ j l. absurd (omega arith);
     within = λ j l. absurd (omega arith);
   }
@@ -89,8 +120,8 @@ module _ {G : Grid} {areas work : List ℕ} {queued : ℕ} (W : Surveyed G areas
     -- no position of the cell lies past the last
     within-cell : (x : Next) → next G cell ≡ x → positionAt n now cell + size G cell ≤ queued
     within-cell Outlet e =
-        let s : cell ≡ outlet G = W .single .only cell (is-outlet G cell (queue-inside i l) e) in
-        rw s (omega (arith, P .first, outlet-size (W .drained) (W .single)))
+        let m = outlet-listed (W .drained .searched) cell (is-outlet G cell (queue-inside i l) e) in
+        omega (arith, between (P .first) cell m, outlet-sizes (W .drained))
     within-cell (To r) e =
         let q = place-of r (next-goes G cell e .to-inside) in
         let t : next G cell ≡ To (queuedAt work (q .0)) = rw (q .2) e in
@@ -108,12 +139,7 @@ module _ {G : Grid} {areas work : List ℕ} {queued : ℕ} (W : Surveyed G areas
       room = omega (arith, W .room);
       size-is = λ c h. P .kept (sizesPart * n + c) (λ u k e. omega arith) ∙ W .size-is c h;
       within =
-          omega (
-            arith,
-            within-cell (next G cell) refl,
-            queue-most,
-            cells-most (W .measured .sized .rows-most) (W .measured .sized .cols-most),
-          );
+          omega (arith, within-cell (next G cell) refl, queue-most, small);
       adds = adds cell (queue-inside i l);
     })
 
@@ -140,8 +166,9 @@ module _ {G : Grid} {areas work : List ℕ} {queued : ℕ} (W : Surveyed G areas
       placed-more = record {
         kept = λ j d. D .kept j (λ u m. d u (next-goes G u (donor-goes G areas cell u m) .from-inside)) ∙ P .kept j d;
         first =
-            stays (outlet G)
-            (λ e. outlet-not-to (sym ((outlet-is G (outlet G) (W .single .is-outlet)) .1) ∙ e)) ∙ P .first;
+            moved (P .first)
+            (λ o m. stays o
+            (λ e. outlet-not-to (sym ((outlet-is G o (listed-outlet (W .drained .searched) o m)) .1) ∙ e)));
         follow =
             step-cases i (λ j h. rw (queue-stays j (omega arith)) (moved (P .follow j h) (donor-stays j h)))
             (rw (queue-stays i (omega arith)) (D .follow));
@@ -162,13 +189,20 @@ module _ {G : Grid} {areas work now : List ℕ} {queued : ℕ} (W : Surveyed G a
     follow = λ c i. let q = place-of W c i in rw (q .2) at (P .follow (q .0) (q .1));
   }
 
+  pub outlets-stand : (least split : ℕ)
+      → Outlets (networkIn G areas least split) (λ c. inside G c ≡ true) (size G) (positionAt (cells G) now)
+      (outletsIn G work)
+  unfolding networkBy
+  outlets-stand least split =
+      record { follow = P .first; are-inside = outlet-inside W; drain = drains-to (W .drained) }
+
   -- the queue is as it was
   pub queue-kept : (i : ℕ) → i < queued → queuedAt now i ≡ queuedAt work i
   queue-kept i l = P .kept i (λ c h e. omega (arith, queue-most W))
 
   pub apart : Apart (cells G) now queued
   apart = record {
-    small = cells-most (W .measured .sized .rows-most) (W .measured .sized .cols-most);
+    small = small W;
     room = omega (arith, W .room);
     most = queue-most W;
     on = λ i l. rw (queue-kept i l) (inside-lt G _ (queue-inside W i l));
@@ -181,6 +215,6 @@ module _ {G : Grid} {areas work now : List ℕ} {queued : ℕ} (W : Surveyed G a
         ));
     apart = λ i j l h e.
         queue-once W i j l h
-        (same-cell (whole W 0 0) (preorder 0 0) (queuedAt work i) (queuedAt work j) (queue-inside W i l)
-        (queue-inside W j h) (rw (queue-kept i l, queue-kept j h) at e));
+        (same-cell (whole W 0 0) (preorder 0 0) (outlets-stand 0 0) (queuedAt work i) (queuedAt work j)
+        (queue-inside W i l) (queue-inside W j h) (rw (queue-kept i l, queue-kept j h) at e));
   }

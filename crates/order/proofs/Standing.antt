@@ -1,24 +1,22 @@
 -- The donors of a cell that has its position.
-use mathlib.Core.Path.{_≡_, refl, sym, _∙_, ap}
-use mathlib.Core.Bool.{true}
-use mathlib.Core.List.{List, [], _∷_, map, List·Memᴰ, List·Memᴰ·head, Memᴰ·map, Memᴰ·of-map}
-use mathlib.Core.Logic.{_≢_}
-use Prim.Native.Nat.{ℕ, suc, _+_, _*_, _≤_, _<_, _^_}
+use mathlib.Core.Path.{_≡_, refl, sym, _∙_, ap₂}
+use mathlib.Core.List.{List, [], _∷_, map, List·Memᴰ, List·Memᴰ·head, List·Memᴰ·tail}
+use Prim.Native.Nat.{ℕ, suc, _+_, _≤_, _<_}
 use native.Mathlib.Omega.{arith}
-use lib.ListN.{length, getD}
-use Rattle.sheet.specs.Sheet.{Grid, cells, inside}
+use Rattle.sheet.specs.Sheet.{Grid, cells}
 use Rattle.sheet.proofs.Cells.{cells-most, inside-lt, next-goes, next-from-lt}
 use Rattle.claims.specs.Bounds.{sum}
+use Rattle.claims.proofs.GridLaws.{sum-same}
 use Rattle.upstream.specs.Work.{sizeAt}
 use Rattle.drainage.specs.Total.{size}
 use Rattle.rivers.specs.Cut.{keyIn}
 use Rattle.order.specs.Network.{donorsIn}
 use Rattle.order.specs.Keys.{cellOf}
-use Rattle.order.specs.Positions.{Consecutive, none}
+use Rattle.order.specs.Positions.{none}
 use Rattle.order.specs.Places.{positionAt, positioned, Measured, PositionsFit, Standing, DonorsPlaced}
 use Rattle.order.proofs.Sizes.{size-some}
 use Rattle.order.proofs.Gathering.{key-cell, donor-goes, donors-ascending}
-use Rattle.order.proofs.Placing.{positioned-kept, positioned-follow, sum-keys}
+use Rattle.order.proofs.Placing.{ascending-once, once-map, positioned-kept, positioned-follow}
 
 module _ {G : Grid} {areas work : List ℕ} {cell : ℕ} (S : Standing G areas work cell) where
   -- a cell of size 1 has no donors
@@ -45,26 +43,33 @@ module _ {G : Grid} {areas work : List ℕ} {cell : ℕ} (M : Measured G areas) 
   on : (u : ℕ) → List·Memᴰ u us → u < cells G
   on u m = next-from-lt G u (donor-goes G areas cell u m)
 
-  key-on : (x : ℕ) → List·Memᴰ x (map (keyIn areas) us) → (u : ℕ) × List·Memᴰ u us × (cellOf x ≡ u)
-  key-on x m =
-      let d = Memᴰ·of-map (keyIn areas) us m in
-      (d .0, d .1, ap cellOf (sym (d .2)) ∙ key-cell areas (omega (arith, most, on (d .0) (d .1))))
+  -- the cells of the donors' keys
+  pub key-cells : map cellOf (map (keyIn areas) us) ≡ us
+  key-cells = cells-of us (λ u m. omega (arith, most, on u m))
+    where
+      cells-of : (vs : List ℕ) → ((u : ℕ) → List·Memᴰ u vs → u < 65536) → map cellOf (map (keyIn areas) vs) ≡ vs
+      cells-of [] h = refl
+      cells-of (v ∷ vs) h =
+          ap₂ _∷_ (key-cell areas (h v (List·Memᴰ·head refl))) (cells-of vs (λ u m. h u (List·Memᴰ·tail m)))
 
-  pub fitting : PositionsFit (cells G) (positionAt (cells G) work cell + 1) (map (keyIn areas) us) work
+  pub fitting : PositionsFit (cells G) (positionAt (cells G) work cell + 1) us work
   fitting = record {
     small = most;
     room = S .room;
-    on = λ x m. let k = key-on x m in omega (arith, k .2, on (k .0) (k .1));
-    fits = omega (arith, sum-keys (cells G) areas (size G) most us work on (S .size-is), S .adds, S .within);
+    on = on;
+    fits =
+        omega (
+          arith,
+          sum-same (sizeAt (cells G) work) (size G) us (λ u m. S .size-is u (on u m)),
+          S .adds,
+          S .within,
+        );
   }
 
-  pub donors-placed : DonorsPlaced G areas work
-      (positioned (cells G) (positionAt (cells G) work cell + 1) (map (keyIn areas) us) work) cell
+  pub donors-placed : DonorsPlaced G areas work (positioned (cells G) (positionAt (cells G) work cell + 1) us work) cell
   donors-placed = record {
     follow =
-        positioned-follow (cells G) areas (size G) most 0 (positionAt (cells G) work cell + 1) us work on
-        (donors-ascending M cell (S .is-inside)) (S .size-is) (S .room);
-    kept =
-        λ j h. positioned-kept (cells G) _ (map (keyIn areas) us) work j
-        (λ x m. let k = key-on x m in rw (k .2) (h (k .0) (k .1)));
+        positioned-follow (cells G) (size G) (positionAt (cells G) work cell + 1) us work on
+        (once-map (keyIn areas) us (ascending-once (donors-ascending M cell (S .is-inside)))) (S .size-is) (S .room);
+    kept = λ j h. positioned-kept (cells G) _ us work j h;
   }

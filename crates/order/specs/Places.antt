@@ -1,25 +1,29 @@
 -- The work places of an order: parts of n places after those of a search and the sizes.
 use mathlib.Core.Path.{_≡_}
-use mathlib.Core.Bool.{true}
+use mathlib.Core.Bool.{true, cond}
 use mathlib.Core.List.{List, [], _∷_, List·Memᴰ}
 use mathlib.Core.Logic.{_≢_}
 use Prim.Native.Nat.{ℕ, suc, _+_, _*_, _<_, _≤_, _^_}
+use lib.Dec.{eqb}
 use lib.ListN.{getD, length, set, take, drop}
-use Rattle.sheet.specs.Sheet.{Grid, cells, inside}
+use Rattle.sheet.specs.Sheet.{Grid, cells, inside, isOutlet}
+use Rattle.sheet.specs.Area.{count}
 use Rattle.directions.specs.Sizes.{mostCells, Sized}
-use Rattle.sheet.specs.Label.{outlet}
 use Rattle.claims.specs.Bounds.{sum}
-use Rattle.upstream.specs.Work.{positionsPart, cellsPart, orderedSizesPart, queuedAt, sizeAt}
-use Rattle.upstream.specs.Search.{Coded, Drained, SingleOutlet}
+use Rattle.upstream.specs.Work.{positionsPart, cellsPart, orderedSizesPart, queuedAt, receiverOf, sizeAt}
+use Rattle.upstream.specs.Search.{Coded, Drained, outletCount}
 use Rattle.drainage.specs.Total.{size}
 use Rattle.rivers.specs.Layout.{Layout, LayoutOf}
 use Rattle.order.specs.Network.{donorsIn, networkIn}
-use Rattle.order.specs.Keys.{cellOf}
 use Rattle.order.specs.Positions.{Consecutive}
 
 -- a queued cell's position
 abbrev pub positionAt : ℕ → List ℕ → ℕ → ℕ
 positionAt n work c = getD work (positionsPart * n + c) 0
+
+-- the outlets, which stand first in the queue, in reading order
+abbrev pub outletsIn : Grid → List ℕ → List ℕ
+outletsIn G work = take (outletCount G) work
 
 -- the cell at each position
 abbrev pub cellsIn : ℕ → List ℕ → ℕ → List ℕ
@@ -37,28 +41,44 @@ pub record Measured (G : Grid) (areas : List ℕ) : Type 0 where
   pub coded : Coded G
   pub room : cells G ≤ length areas
 
--- a search that reached every inside cell from one outlet, areas and sizes
+-- a search that reached every inside cell, of which there are some, areas and sizes
 pub record Surveyed (G : Grid) (areas work : List ℕ) (queued : ℕ) : Type 0 where
   pub measured : Measured G areas
   pub room : 8 * cells G ≤ length work
   pub drained : Drained G work queued
-  pub single : SingleOutlet G work
+  pub some : 0 < queued
   pub size-is : (c : ℕ) → c < cells G → sizeAt (cells G) work c ≡ size G c
 
--- ---- positions of donors
+-- ---- positions one after the other
 
--- the cells of keys get positions one after the other from `at` on
+-- cells get positions one after the other from `at` on, and each takes as many as its size
 unfoldable pub positioned : ℕ → ℕ → List ℕ → List ℕ → List ℕ
 positioned n at [] work = work
-positioned n at (x ∷ xs) work =
-    positioned n (at + sizeAt n work (cellOf x)) xs (set work (positionsPart * n + cellOf x) at)
+positioned n at (u ∷ us) work = positioned n (at + sizeAt n work u) us (set work (positionsPart * n + u) at)
 
--- the cells of keys have places, and their positions fit 32 bits
-pub record PositionsFit (n at : ℕ) (keys work : List ℕ) : Type 0 where
+-- cells have places, and their positions fit 32 bits
+pub record PositionsFit (n at : ℕ) (us work : List ℕ) : Type 0 where
   pub small : n ≤ mostCells
   pub room : 8 * n ≤ length work
-  pub on : (x : ℕ) → List·Memᴰ x keys → cellOf x < n
-  pub fits : at + sum (λ x. sizeAt n work (cellOf x)) keys < 2 ^ 32
+  pub on : (u : ℕ) → List·Memᴰ u us → u < n
+  pub fits : at + sum (sizeAt n work) us < 2 ^ 32
+
+-- ---- positions of outlets
+
+-- the first cells of a list, up to one that has a receiver
+unfoldable pub firstOutlets : ℕ → List ℕ → List ℕ → List ℕ
+firstOutlets n work [] = []
+firstOutlets n work (c ∷ cs) =
+    let rest = firstOutlets n work cs in
+    cond (eqb (receiverOf n work c) 0) (c ∷ rest) []
+
+-- the queued cells have places, and the positions of the outlets fit 32 bits
+pub record OutletsFit (n queued : ℕ) (work : List ℕ) : Type 0 where
+  pub most : queued ≤ n
+  pub on : (i : ℕ) → i < queued → queuedAt work i < n
+  pub fit : PositionsFit n 0 (firstOutlets n work (take queued work)) work
+
+-- ---- positions of donors
 
 -- an inside cell has its position
 pub record Standing (G : Grid) (areas work : List ℕ) (cell : ℕ) : Type 0 where
@@ -75,10 +95,11 @@ pub record DonorsPlaced (G : Grid) (areas work work′ : List ℕ) (cell : ℕ) 
   pub kept : (j : ℕ) → ((u : ℕ) → List·Memᴰ u (donorsIn G areas cell) → j ≢ positionsPart * cells G + u)
       → getD work′ j 0 ≡ getD work j 0
 
--- the donors of the first i cells of the queue have their positions, and so has the outlet; no other place is written
+-- the donors of the first i cells of the queue have their positions, and so have the outlets, which stand one after the
+-- other from position 0 on; no other place is written
 pub record Placed (G : Grid) (areas work work′ : List ℕ) (queued i : ℕ) : Type 0 where
   pub kept : (j : ℕ) → ((c : ℕ) → inside G c ≡ true → j ≢ positionsPart * cells G + c) → getD work′ j 0 ≡ getD work j 0
-  pub first : positionAt (cells G) work′ (outlet G) ≡ 0
+  pub first : Consecutive (size G) (positionAt (cells G) work′) 0 (outletsIn G work)
   pub follow : (j : ℕ) → j < i → Consecutive (size G) (positionAt (cells G) work′)
       (positionAt (cells G) work′ (queuedAt work j) + 1) (donorsIn G areas (queuedAt work j))
   pub within : (j : ℕ) → j < i → positionAt (cells G) work′ (queuedAt work j) + size G (queuedAt work j) ≤ queued
@@ -112,15 +133,25 @@ pub record Entered (n : ℕ) (work work′ : List ℕ) (i : ℕ) : Type 0 where
 
 -- ---- the order along rivers
 
--- every queued cell stands at its position, with its size
+-- basin number k begins at position j: the cell there is the k-th outlet in reading order
+pub record BasinAt (G : Grid) (cell : List ℕ) (j k : ℕ) : Type 0 where
+  pub is-outlet : isOutlet G (getD cell j 0) ≡ true
+  pub numbered : count (suc (getD cell j 0)) (isOutlet G) ≡ k
+
+-- every queued cell stands at its position, with its size, one basin after the other
 pub record Arranged (G : Grid) (areas work : List ℕ) (queued : ℕ) : Type 0 where
   pub some : 0 < queued
   pub long : length (cellsIn (cells G) work queued) ≡ queued
   pub layout : Layout (cellsIn (cells G) work queued) (sizesIn (cells G) work queued) (cells G)
   pub layout-of : (least split : ℕ) → LayoutOf (networkIn G areas least split) (cellsIn (cells G) work queued)
       (sizesIn (cells G) work queued) areas split least
-  pub outlet-first : getD (cellsIn (cells G) work queued) 0 0 ≡ outlet G
-  pub whole : getD (sizesIn (cells G) work queued) 0 0 ≡ queued
+  pub are-inside : (j : ℕ) → j < queued → inside G (getD (cellsIn (cells G) work queued) j 0) ≡ true
+  pub all-stand : (c : ℕ) → inside G c ≡ true
+      → (j : ℕ) × (j < queued) × (getD (cellsIn (cells G) work queued) j 0 ≡ c)
+  pub first : BasinAt G (cellsIn (cells G) work queued) 0 1
+  pub onward : (j k : ℕ) → BasinAt G (cellsIn (cells G) work queued) j k
+      → j + getD (sizesIn (cells G) work queued) j 0 < queued
+      → BasinAt G (cellsIn (cells G) work queued) (j + getD (sizesIn (cells G) work queued) j 0) (suc k)
 
 -- a place that is no inside cell's position, and none of the first `queued` among the cells and the sizes by position
 pub record Elsewhere (G : Grid) (queued j : ℕ) : Type 0 where

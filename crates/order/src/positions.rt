@@ -2,18 +2,20 @@
 use crate::donors::donors_of;
 use upstream::parts;
 ghost use mathlib.Core.Path.{_≡_};
-ghost use Prim.Native.Nat.{_+_, _*_, _<_, _≤_};
-ghost use lib.ListN.{length, set};
+ghost use mathlib.Core.List.{map};
+ghost use Prim.Native.Nat.{_*_, _<_, _≤_};
+ghost use lib.ListN.{length, take};
 ghost use Rattle.sheet.specs.Sheet.{grid};
 ghost use Rattle.directions.specs.Sizes.{mostCells};
-ghost use Rattle.upstream.specs.Work.{positionsPart, queuedAt};
+ghost use Rattle.order.specs.Keys.{cellOf};
 ghost use Rattle.order.specs.Places.{positionAt, Measured, Surveyed, positioned, PositionsFit, Standing};
+ghost use Rattle.order.specs.Places.{firstOutlets, OutletsFit};
 ghost use Rattle.order.specs.Places.{DonorsPlaced, Placed, entered, Apart, Entered, Arranged, OtherPlaces};
 
 // Gives the cells of keys positions one after the other from `first` on.
 fn place_donors(n: usize, first: u32, keys: &[u64], work: &mut [u32])
-    requires { ⌜ PositionsFit n first (now keys) (now work) ⌝ }
-    ensures { λ _. ⌜ now (work .exit) ≡ positioned n first (now (keys .entry)) (now (work .entry)) ⌝ }
+    requires { ⌜ PositionsFit n first (map cellOf (now keys)) (now work) ⌝ }
+    ensures { λ _. ⌜ now (work .exit) ≡ positioned n first (map cellOf (now (keys .entry))) (now (work .entry)) ⌝ }
 {
     let sizes = parts::SIZES * n;
     let positions = parts::POSITIONS * n;
@@ -50,14 +52,21 @@ fn place_upstream(
     place_donors(n, first, &keys[..count], work);
 }
 
-// Gives the outlet, which stands first in the queue, the first position.
-fn place_outlet(n: usize, work: &mut [u32])
-    requires { ⌜ (n ≤ mostCells) × (8 * n ≤ length (now work)) × (queuedAt (now work) 0 < n) ⌝ }
+// Gives the outlets, which stand first in the queue, positions one after the other from 0 on.
+fn place_outlets(n: usize, queued: usize, work: &mut [u32])
+    requires { ⌜ OutletsFit n queued (now work) ⌝ }
     ensures { λ _. ⌜ now (work .exit)
-        ≡ set (now (work .entry)) (positionsPart * n + queuedAt (now (work .entry)) 0) 0 ⌝ }
+        ≡ positioned n 0 (firstOutlets n (now (work .entry)) (take queued (now (work .entry)))) (now (work .entry)) ⌝ }
 {
-    let cell = work[0] as usize;
-    work[parts::POSITIONS * n + cell] = 0;
+    let mut at = 0;
+    for i in 0..queued {
+        let cell = work[i] as usize;
+        if work[parts::RECEIVERS * n + cell] > 0 {
+            return;
+        }
+        work[parts::POSITIONS * n + cell] = at;
+        at += work[parts::SIZES * n + cell];
+    }
 }
 
 // Gives every queued cell its position. A cell's receiver stands before it in the queue.
@@ -66,7 +75,7 @@ fn place_all(dirs: &[u8], rows: usize, cols: usize, areas: &[u32], queued: usize
     ensures { λ _. ⌜ Placed (grid rows cols (now (dirs .entry))) (now (areas .entry))
         (now (work .entry)) (now (work .exit)) queued queued ⌝ }
 {
-    place_outlet(rows * cols, work);
+    place_outlets(rows * cols, queued, work);
     for i in 0..queued {
         let cell = work[i] as usize;
         place_upstream(dirs, rows, cols, areas, cell, work);

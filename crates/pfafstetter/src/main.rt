@@ -28,10 +28,11 @@ fn print_report(
     weights: &[u16],
     areas: &mut [u32],
     labels: &mut [u64],
+    basins: &mut [u32],
     work: &mut [u32],
     out: &mut [u8],
 ) {
-    match write_report(read, dirs, weights, areas, labels, work, out) {
+    match write_report(read, dirs, weights, areas, labels, basins, work, out) {
         Listing::Bytes(n) => print_bytes(out, n),
         Listing::Refused(_) => complain(b"pfafstetter: the report does not fit its buffer\n"),
     }
@@ -42,6 +43,7 @@ fn main() {
     let mut weights = [0u16; ROWS];
     let mut areas = [0u32; CELLS];
     let mut labels = [0u64; LABEL_NUMBERS];
+    let mut basins = [0u32; CELLS];
     let mut work = [0u32; WORK_PLACES];
     let mut out = [0u8; REPORT_BYTES];
     match read_input(&mut dirs, &mut weights) {
@@ -52,6 +54,7 @@ fn main() {
                 &weights,
                 &mut areas,
                 &mut labels,
+                &mut basins,
                 &mut work,
                 &mut out,
             );

@@ -4,7 +4,8 @@ use lines::LINE_BYTES;
 use reading::Read;
 use reading::Reader;
 
-// The cells of the largest sheet that a program takes. A direction byte, an area and a label are lent for each.
+// The cells of the largest sheet that a program takes. A direction byte, an area, a label and a basin are lent for
+// each.
 pub const CELLS: usize = 2048;
 
 // The numbers of their labels, two each.
@@ -16,8 +17,8 @@ pub const ROWS: usize = 256;
 // 8 work places a cell.
 pub const WORK_PLACES: usize = 16384;
 
-// 54 bytes of text a cell, beside the heading.
-pub const REPORT_BYTES: usize = 110611;
+// 60 bytes of text a cell, beside the heading.
+pub const REPORT_BYTES: usize = 122905;
 
 // The number of the error of a call that a signal interrupted.
 const INTERRUPTED: i32 = 4;

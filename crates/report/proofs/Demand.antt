@@ -19,7 +19,7 @@ use Rattle.report.proofs.Numbers.{AllOf, one-of}
 use Rattle.report.proofs.Endings.{file-ending, listing-no-refusal}
 use Rattle.report.proofs.Files.{file-refused, file-listed}
 use Rattle.report.proofs.Lengths.{program-report}
-use Rattle.report.proofs.AsBefore.{file-as-before}
+use Rattle.report.proofs.AsBefore.{file-one-basin, file-as-before}
 
 -- ---- which numbers a refusal can have
 
@@ -36,7 +36,7 @@ ending-numbered (line-refused {number} {place} r) =
     (r .number-is)
 ending-numbered (end-refused {number} {place} r) = one-of InFile endNumbers (refl, tt) number (r .number-is)
 ending-numbered (sheet-refused {number} {place} r) =
-    one-of InFile sheetNumbers (refl, (refl, (refl, (refl, (refl, tt))))) number (r .number-is)
+    one-of InFile sheetNumbers (refl, (refl, (refl, (refl, tt)))) number (r .number-is)
 ending-numbered (labelled {z} r) = tt
 
 -- a file for each number, where a row of two cells is lent
@@ -44,7 +44,7 @@ abbrev sheet2 : LentSheet
 sheet2 = lentSheet (replicate 2 0) (replicate 1 0)
 
 abbrev lent2 : Lent
-lent2 = record { areas = replicate 2 0; labels = replicate 4 0; work = replicate 16 0 }
+lent2 = record { areas = replicate 2 0; labels = replicate 4 0; basins = replicate 2 0; work = replicate 16 0 }
 
 abbrev refusedWith : (number place : ℕ) (bytes : List ℕ) → fileVerdict sheet2 lent2 bytes ≡ Refused number place
     → RefusedWith number
@@ -65,19 +65,16 @@ refused-each = (
           (
             refusedWith 6 0 (ascii "rows,cols,depth\n1,2,1\nrow,col,dir\n0,0,1\n0,1,16\n") refl,
             (
-              refusedWith 7 1 (ascii "rows,cols,depth\n1,2,1\nrow,col,dir\n0,0,16\n0,1,1\n") refl,
+              refusedWith 8 1 (ascii "\n") refl,
               (
-                refusedWith 8 1 (ascii "\n") refl,
+                refusedWith 9 4 (ascii "rows,cols,depth\n1,1,1\nrow,col,dir\n1,0,1\n") refl,
                 (
-                  refusedWith 9 4 (ascii "rows,cols,depth\n1,1,1\nrow,col,dir\n1,0,1\n") refl,
+                  refusedWith 10 5 (ascii "rows,cols,depth\n1,1,1\nrow,col,dir\n0,0,1\n0,0,1\n") refl,
                   (
-                    refusedWith 10 5 (ascii "rows,cols,depth\n1,1,1\nrow,col,dir\n0,0,1\n0,0,1\n") refl,
+                    refusedWith 14 1 [] refl,
                     (
-                      refusedWith 14 1 [] refl,
-                      (
-                        refusedWith 17 4 (ascii "rows,cols,depth\n1,1,1\nweight\n0\n") refl,
-                        (refusedWith 19 2 (ascii "split,rows,cols,least,depth\n5,1,1,1,1\n") refl, tt),
-                      ),
+                      refusedWith 17 4 (ascii "rows,cols,depth\n1,1,1\nweight\n0\n") refl,
+                      (refusedWith 19 2 (ascii "split,rows,cols,least,depth\n5,1,1,1,1\n") refl, tt),
                     ),
                   ),
                 ),
@@ -105,6 +102,7 @@ demand-one = record {
   numbers = file-refusals;
   refused = file-refused;
   listed = file-listed;
+  one-basin = file-one-basin;
   as-before = file-as-before;
   apart = listing-no-refusal;
   in-pieces = λ pieces line buffer T L room few.

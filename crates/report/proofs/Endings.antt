@@ -141,9 +141,9 @@ module _ (T : LentSheet) (L : Lent) (bytes : List ℕ) where
   unfolding fileVerdict readFile
   file-ending = from-reading (readFrom newIntake 0 T (linesOf bytes)) (read-ending (linesOf bytes) newIntake 0 T)
 
--- a listing is no refusal: the second byte tells
-pub listing-no-refusal : (G : Grid) (areas labels : List ℕ) (number place : ℕ)
-    → listingText G areas labels ≡ refusalText number place → ⊥
+-- a listing is no refusal: the first byte tells
+pub listing-no-refusal : (G : Grid) (areas labels basins : List ℕ) (number place : ℕ)
+    → listingText G areas labels basins ≡ refusalText number place → ⊥
 unfolding listingText refusalText
-listing-no-refusal G areas labels number place e =
-    let second : _≡_ {A = ℕ} 111 101 = ap (λ (s : List ℕ). getD s 1 0) e in omega arith
+listing-no-refusal G areas labels basins number place e =
+    let first : _≡_ {A = ℕ} 98 114 = ap (λ (s : List ℕ). getD s 0 0) e in omega arith

@@ -3,27 +3,29 @@ use mathlib.Core.Path.{_≡_, refl, ap, _∙_}
 use mathlib.Core.Bool.{Bool, true, false}
 use mathlib.Core.List.{List, [], _∷_}
 use Prim.Native.Nat.{ℕ, suc, _+_, _*_, _^_, _<_, _≤_}
-use native.Mathlib.Nat.{mul-le-mul-right}
+use native.Mathlib.Nat.{mul-le-mul-right, zero-add}
 use native.Mathlib.Omega.{arith}
 use lib.Dec.{eqb}
-use lib.ListN.{length, length-append}
+use lib.ListN.{length, getD, length-append}
 use Rattle.sheet.specs.declared.Outcome.the-variants.{Accepted}
-use Rattle.sheet.specs.Sheet.{Sheet, cells, inside}
+use Rattle.sheet.specs.Sheet.{Sheet, cells, inside, isOutlet}
 use Rattle.sheet.specs.Area.{area}
 use Rattle.sheet.specs.Record.{digitsOf, labelAt}
-use Rattle.sheet.specs.Label.{areasOf, labelsOf}
+use Rattle.sheet.specs.Basins.{basinOf, basinArea, basinAreas, basinLabels, basinsOf}
 use Rattle.sheet.specs.Refusal.{Lent, outcome}
-use Rattle.sheet.proofs.Cells.{inside-lt}
+use Rattle.sheet.proofs.Cells.{inside-lt, cells-most}
 use Rattle.intake.specs.declared.Intake.{Intake}
 use Rattle.intake.specs.Intake.{LentSheet}
 use Rattle.intake.proofs.Laws.{line-long}
 use Rattle.claims.proofs.Theorems.{area-bounds}
 use Rattle.claims.proofs.Sheets.{accepted-passed}
+use Rattle.claims.proofs.Counts.{count-le}
+use Rattle.claims.proofs.BasinNumbers.{basin-most}
+use Rattle.claims.proofs.Alone.{area-alone}
 use Rattle.sheet.proofs.Lists.{list-at}
 use Rattle.claims.specs.Demand.{Inside}
-use Rattle.claims.proofs.Written.{at-most-depth, digits-written}
+use Rattle.claims.proofs.Written.{grid-checks, at-most-depth, digits-written}
 use Rattle.lines.specs.Fields.{longer}
-use Rattle.listing.specs.Listing.{listingText}
 use Rattle.listing.specs.Writing.{textInto, accepted}
 use Rattle.sheet.proofs.Within.{rows-cols-most, depth-most}
 use Rattle.listing.proofs.Answers.{text-into}
@@ -36,7 +38,7 @@ use Rattle.report.specs.Report.{fileVerdict, report}
 use Rattle.intake.specs.Takes.{Takes, takes-none, takes-line}
 use Rattle.report.specs.Conditions.{oneOf, lineNumbers, endNumbers, sheetNumbers}
 use Rattle.report.specs.Conditions.{Ending, line-refused, end-refused, sheet-refused, labelled}
-use Rattle.report.specs.Demand.{fileSheet, programCells, programBytes}
+use Rattle.report.specs.Demand.{fileSheet, sheetListing, programCells, programBytes}
 use Rattle.report.proofs.Numbers.{AllOf, one-of, file-number, file-fits}
 use Rattle.report.proofs.Endings.{file-ending}
 use Rattle.report.proofs.ReportLaws.{label-listed}
@@ -75,7 +77,7 @@ module _ (S : Sheet) (L : Lent) (accepted : outcome S L ≡ Accepted) where
       go true e = let b = area-bounds S L accepted in omega (arith, b .most c e, b .most-of-all)
       go false e = rw e (omega arith)
 
-  label-short : (c : ℕ) → Inside S c → length (digitsOf (labelAt (labelsOf S) c)) ≤ 36
+  label-short : (c : ℕ) → Inside S c → length (digitsOf (labelAt (basinLabels S) c)) ≤ 36
   label-short c i =
       rw (label-listed S L accepted c i, digits-written S L accepted c i)
       (omega (
@@ -84,13 +86,37 @@ module _ (S : Sheet) (L : Lent) (accepted : outcome S L ≡ Accepted) where
         depth-most (S .depth) (accepted-passed S L accepted .depth),
       ))
 
-  pub listed-most : length (listingText (S .grid) (areasOf S) (labelsOf S)) ≤ 19 + cells (S .grid) * 54
-  unfolding areasOf
+  area-listed : (c : ℕ) → Inside S c → getD (basinAreas S) c 0 < 10 ^ 8
+  unfolding basinAreas
+  area-listed c i =
+      rw (
+        list-at (basinArea S) 0 (cells (S .grid)) c (inside-lt (S .grid) c i),
+        area-alone S (grid-checks S L accepted) (0 + c),
+      )
+      (area-small (0 + c))
+
+  rows-and-cols : (S .grid .rows ≤ 256) × (S .grid .cols ≤ 256)
+  rows-and-cols = rows-cols-most (S .grid .rows) (S .grid .cols) (accepted-passed S L accepted .sizes)
+
+  -- there are at most as many basins as cells, so that a basin has at most 5 digits
+  basin-small : (c : ℕ) → Inside S c → basinOf (S .grid) c < 10 ^ 5
+  basin-small c i =
+      omega (
+        arith,
+        basin-most (S .grid) (grid-checks S L accepted) c i,
+        count-le (cells (S .grid)) (isOutlet (S .grid)),
+        cells-most (rows-and-cols .0) (rows-and-cols .1),
+      )
+
+  basin-listed : (c : ℕ) → Inside S c → getD (basinsOf (S .grid)) c 0 < 10 ^ 5
+  unfolding basinsOf
+  basin-listed c i =
+      rw (list-at (basinOf (S .grid)) 0 (cells (S .grid)) c (inside-lt (S .grid) c i), zero-add) (basin-small c i)
+
+  pub listed-most : length (sheetListing S) ≤ 25 + cells (S .grid) * 60
   listed-most =
-      let n = cells (S .grid) in
-      let most = rows-cols-most (S .grid .rows) (S .grid .cols) (accepted-passed S L accepted .sizes) in
-      listing-most-36-digits (S .grid) (areasOf S) (labelsOf S) (most .0) (most .1)
-      (λ c i. rw (list-at (area S) 0 n c (inside-lt (S .grid) c i)) (area-small (0 + c))) label-short
+      listing-most-36-digits (S .grid) (basinAreas S) (basinLabels S) (basinsOf (S .grid)) (rows-and-cols .0)
+      (rows-and-cols .1) area-listed label-short basin-listed
 
 -- ---- the report
 
@@ -121,13 +147,13 @@ module _ (T : LentSheet) (L : Lent) (bytes : List ℕ) (few : length bytes < lar
   ending-small (sheet-refused {number} {place} r) = (
     small sheetNumbers (
       omega arith,
-      (omega arith, (omega arith, (omega arith, (omega arith, tt)))),
+      (omega arith, (omega arith, (omega arith, tt))),
     ) number (r .number-is),
     omega (arith, file-number (r .file) L number place (r .refused) .1),
   )
   ending-small (labelled {z} r) = omega (arith, file-fits (r .file) .dirs-enough, takes-length (r .file .lines .takes))
 
-  module _ (most : ℕ) (refusal : 39 ≤ most) (listing : 19 + length (T .dirs) * 54 ≤ most) where
+  module _ (most : ℕ) (refusal : 39 ≤ most) (listing : 25 + length (T .dirs) * 60 ≤ most) where
     verdict-most : (v : Verdict) → fileVerdict T L bytes ≡ v → Small v → length (report T L bytes) ≤ most
     verdict-most (Refused number place) e s =
         rw (file-refused T L bytes number place e) (omega (
@@ -136,12 +162,12 @@ module _ (T : LentSheet) (L : Lent) (bytes : List ℕ) (few : length bytes < lar
         ))
     verdict-most (Labelled z) e s =
         rw (file-listed T L bytes z e)
-        (omega (arith, listed-most (fileSheet T bytes z) L (file-accepted T L bytes z e), mul-le-mul-right 54 s))
+        (omega (arith, listed-most (fileSheet T bytes z) L (file-accepted T L bytes z e), mul-le-mul-right 60 s))
 
     pub report-most : length (report T L bytes) ≤ most
     report-most = verdict-most (fileVerdict T L bytes) refl (ending-small (file-ending T L bytes))
 
--- the program lends 2,048 direction bytes and a buffer of 19 + 2,048 × 54 bytes: no report is longer
+-- the program lends 2,048 direction bytes and a buffer of 25 + 2,048 × 60 bytes: no report is longer
 pub program-report : (T : LentSheet) (L : Lent) (bytes buffer : List ℕ) → length bytes < largestCount
     → length (T .dirs) ≡ programCells → length buffer ≡ programBytes
     → textInto (report T L bytes) buffer ≡ accepted (report T L bytes) buffer

@@ -12,7 +12,7 @@ use Rattle.sheet.specs.declared.Found.the-variants.{At, Nothing}
 use Rattle.sheet.specs.declared.Outcome.{Outcome as LabelOutcome}
 use Rattle.sheet.specs.declared.Outcome.the-variants.{Accepted as Labelled, Refused as NotLabelled}
 use Rattle.sheet.specs.Sheet.{Grid, Sheet, cells, inside, first}
-use Rattle.sheet.specs.Refusal.{Lent, badCode, undrained, outletFrom, firstAfter, secondOutlet, refusedAt}
+use Rattle.sheet.specs.Refusal.{Lent, badCode, undrained, refusedAt}
 use Rattle.sheet.specs.Refusal.{refusedIfNone, sizesFit, depthFits, leastAndSplitFit, slicesFit, weightsFit, outcomeOn}
 use Rattle.sheet.specs.Refusal.{sheetFault, outcomeFrom17, outcomeFrom3, outcome}
 use Rattle.sheet.proofs.Within.{within-yes}
@@ -263,11 +263,6 @@ first-below test n = go (first test n) refl
     go (At c) e = at-first test n c e .below
     go Nothing e = tt
 
-after-below : (test : ℕ → ℕ → Bool) (n : ℕ) (f : Found) → Below n (firstAfter test n f)
-unfolding firstAfter
-after-below test n (At c) = first-below (test (suc c)) n
-after-below test n Nothing = tt
-
 refused-at : (number n : ℕ) (f : Found) (rest : LabelOutcome) → oneOf sheetNumbers number ≡ true → Below n f
     → SheetFine n rest → SheetFine n (refusedAt number f rest)
 unfolding refusedAt
@@ -281,13 +276,11 @@ refused-if-none number n (At c) rest h s = s
 refused-if-none number n Nothing rest h s = (h, omega arith)
 
 outcome-on-fine : (G : Grid) → SheetFine (cells G) (outcomeOn G)
-unfolding outcomeOn secondOutlet
+unfolding outcomeOn
 outcome-on-fine G =
     refused-at 4 (cells G) (first (badCode G) (cells G)) _ refl (first-below (badCode G) (cells G))
     (refused-if-none 5 (cells G) (first (inside G) (cells G)) _ refl
-    (refused-at 6 (cells G) (first (undrained G) (cells G)) _ refl (first-below (undrained G) (cells G))
-    (refused-at 7 (cells G) (secondOutlet G) Labelled refl
-    (after-below (outletFrom G) (cells G) (first (outletFrom G 0) (cells G))) tt)))
+    (refused-at 6 (cells G) (first (undrained G) (cells G)) Labelled refl (first-below (undrained G) (cells G)) tt))
 
 sheet-widened : (n m : ℕ) (o : LabelOutcome) → n ≤ m → SheetFine n o → SheetFine m o
 sheet-widened n m Labelled h s = tt

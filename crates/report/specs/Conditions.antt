@@ -33,11 +33,11 @@ abbrev pub endNumbers : List ℕ
 endNumbers = 14 ∷ []
 
 abbrev pub sheetNumbers : List ℕ
-sheetNumbers = 3 ∷ 4 ∷ 5 ∷ 6 ∷ 7 ∷ []
+sheetNumbers = 3 ∷ 4 ∷ 5 ∷ 6 ∷ []
 
--- those that a file can get: all but 11, 12, 13, 15, 16 and 18
+-- those that a file can get: all but 11, 12, 13, 15, 16 and 18; 7 is unused
 abbrev pub fileNumbers : List ℕ
-fileNumbers = 1 ∷ 2 ∷ 3 ∷ 4 ∷ 5 ∷ 6 ∷ 7 ∷ 8 ∷ 9 ∷ 10 ∷ 14 ∷ 17 ∷ 19 ∷ []
+fileNumbers = 1 ∷ 2 ∷ 3 ∷ 4 ∷ 5 ∷ 6 ∷ 8 ∷ 9 ∷ 10 ∷ 14 ∷ 17 ∷ 19 ∷ []
 
 -- ---- the ways in which a file can end
 

@@ -8,13 +8,15 @@ use lib.ListN.{length}
 use Rattle.lines.specs.Fields.{lineBytes}
 use Rattle.sheet.specs.Sheet.{Grid, Sheet}
 use Rattle.sheet.specs.Label.{areasOf, labelsOf}
+use Rattle.sheet.specs.Basins.{basinAreas, basinLabels, basinsOf}
 use Rattle.sheet.specs.Refusal.{Lent}
 use Rattle.faults.specs.declared.Sizes.{Sizes}
 use Rattle.intake.specs.Intake.{LentSheet}
+use Rattle.claims.specs.Alone.{basinCount}
 use Rattle.claims.specs.AsBefore.{numberLabels}
 use Rattle.labelling.specs.FromIntake.{sheetOf}
 use Rattle.listing.specs.Listing.{listingText, refusalText}
-use Rattle.listing.specs.AsBefore.{listingOfNumbers}
+use Rattle.listing.specs.AsBefore.{labelTexts, listingBefore, listingOfNumbers, withBasin1}
 use Rattle.listing.specs.Writing.{textInto, accepted}
 use Rattle.reading.specs.Lines.{readFile}
 use Rattle.reading.specs.Feed.{largestCount}
@@ -37,24 +39,28 @@ pub record FileRefusals : Type 0 where
       → fileVerdict T L bytes ≡ Refused number place → oneOf fileNumbers number ≡ true
   pub each : (number : ℕ) → oneOf fileNumbers number ≡ true → RefusedWith number
 
--- the sheet that a file's lines leave, and its listing with the areas and labels of the definition
+-- the sheet that a file's lines leave, and its listing with the areas, labels and basins of the definition
 abbrev pub fileSheet : LentSheet → List ℕ → Sizes → Sheet
 fileSheet T bytes z = sheetOf z (readFile T bytes .lent)
 
 abbrev pub sheetListing : Sheet → List ℕ
-sheetListing S = listingText (S .grid) (areasOf S) (labelsOf S)
+sheetListing S = listingText (S .grid) (basinAreas S) (basinLabels S) (basinsOf (S .grid))
 
--- its listing as document 01 has it, with a label as one decimal number
+-- its listing before basins; and as document 01 has it, with a label as one decimal number
+abbrev pub sheetListingBefore : Sheet → List ℕ
+sheetListingBefore S = listingBefore (S .grid) (areasOf S) (labelTexts (labelsOf S))
+
 abbrev pub numberListing : Sheet → List ℕ
 numberListing S = listingOfNumbers (S .grid) (areasOf S) (numberLabels S)
 
 -- what the program lends: 2,048 direction bytes (and 256 weights, on which the length of a report does not depend), and
--- a buffer for a heading and 54 bytes a cell, which is enough for areas of up to 8 digits and labels of up to 36
+-- a buffer for a heading and 60 bytes a cell, which is enough for basins of up to 5 digits, areas of up to 8 and labels
+-- of up to 36
 abbrev pub programCells : ℕ
 programCells = 2048
 
 abbrev pub programBytes : ℕ
-programBytes = 110611
+programBytes = 122905
 
 pub record DemandOne : Type 0 where
   -- a file is labelled or refused, by document 01's conditions and in its order
@@ -66,12 +72,16 @@ pub record DemandOne : Type 0 where
   -- the report of a labelled one is its full listing
   pub listed : (T : LentSheet) (L : Lent) (bytes : List ℕ) (z : Sizes)
       → fileVerdict T L bytes ≡ Labelled z → report T L bytes ≡ sheetListing (fileSheet T bytes z)
-  -- "a sheet of depth 18 or less lists the same bytes" as before
-  pub as-before : (T : LentSheet) (L : Lent) (bytes : List ℕ) (z : Sizes)
-      → fileVerdict T L bytes ≡ Labelled z → z .depth ≤ 18 → report T L bytes ≡ numberListing (fileSheet T bytes z)
+  -- a sheet of one basin lists the same bytes as before, with its first column in front
+  pub one-basin : (T : LentSheet) (L : Lent) (bytes : List ℕ) (z : Sizes) → fileVerdict T L bytes ≡ Labelled z
+      → let S = fileSheet T bytes z in basinCount (S .grid) ≡ 1 → report T L bytes ≡ withBasin1 (sheetListingBefore S)
+  -- and those of document 01 where "a sheet of depth 18 or less lists the same bytes"
+  pub as-before : (T : LentSheet) (L : Lent) (bytes : List ℕ) (z : Sizes) → fileVerdict T L bytes ≡ Labelled z
+      → let S = fileSheet T bytes z in basinCount (S .grid) ≡ 1
+      → z .depth ≤ 18 → report T L bytes ≡ withBasin1 (numberListing S)
   -- no text is both
-  pub apart : (G : Grid) (areas labels : List ℕ) (number place : ℕ)
-      → listingText G areas labels ≡ refusalText number place → ⊥
+  pub apart : (G : Grid) (areas labels basins : List ℕ) (number place : ℕ)
+      → listingText G areas labels basins ≡ refusalText number place → ⊥
   -- the calls that read a file in chunks and write its report give that report, however the file is cut
   pub in-pieces : (pieces : List (List ℕ)) (line buffer : List ℕ) (T : LentSheet) (L : Lent)
       → length line ≡ lineBytes → length (joined pieces) < largestCount

@@ -69,7 +69,7 @@ unfolding sizesVerdict endedSizes
 verdictOf (NotRead number place) T L = Refused number place
 verdictOf (Ended i) T L = sizesVerdict (endedSizes (i .stage)) T L
 
--- what is lent to labelling, afterwards: with the areas and labels of a labelled sheet
+-- what is lent to labelling, afterwards: with the areas, labels and basins of a labelled sheet
 unfoldable pub readLent : Read → LentSheet → Lent → Lent
 readLent (NotRead number place) T L = L
 readLent (Ended i) T L = intakeLent i T L
@@ -79,12 +79,13 @@ readLent (Ended i) T L = intakeLent i T L
 -- the listing of a labelled sheet, or the two lines after a refusal
 unfoldable pub reportText : Verdict → List ℕ → Lent → List ℕ
 reportText (Refused number place) dirs L = refusalText number place
-reportText (Labelled z) dirs L = listingText (grid (z .rows) (z .cols) dirs) (L .areas) (L .labels)
+reportText (Labelled z) dirs L = listingText (grid (z .rows) (z .cols) dirs) (L .areas) (L .labels) (L .basins)
 
 -- the text of any verdict in a lent buffer
-unfoldable pub verdictInto : Verdict → List ℕ → List ℕ → List ℕ → List ℕ → Listed
-verdictInto (Refused number place) dirs areas labels buffer = refusalInto number place buffer
-verdictInto (Labelled z) dirs areas labels buffer = listingInto (grid (z .rows) (z .cols) dirs) areas labels buffer
+unfoldable pub verdictInto : Verdict → List ℕ → List ℕ → List ℕ → List ℕ → List ℕ → Listed
+verdictInto (Refused number place) dirs areas labels basins buffer = refusalInto number place buffer
+verdictInto (Labelled z) dirs areas labels basins buffer =
+    listingInto (grid (z .rows) (z .cols) dirs) areas labels basins buffer
 
 -- ---- a file
 

@@ -16,8 +16,8 @@ use listing::write_refusal;
 use reading::Read;
 use sheet::Outcome;
 
-// Refused, with document 01's number and place, or labelled: a sheet of these sizes, with its areas and labels in what
-// was lent.
+// Refused, with document 01's number and place, or labelled: a sheet of these sizes, with its areas, labels and basins
+// in what was lent.
 pub enum Verdict {
     Refused(u8, usize),
     Labelled(Sizes),
@@ -30,13 +30,14 @@ fn sheet_verdict(
     weights: &[u16],
     areas: &mut [u32],
     labels: &mut [u64],
+    basins: &mut [u32],
     work: &mut [u32],
 ) -> Verdict
     ensures verdict { λ r. ⌜ r ≡ sizesVerdict (some sizes) (lentSheet (now (dirs .entry)) (now (weights .entry)))
-        (lent (now (areas .entry)) (now (labels .entry)) (now (work .entry))) ⌝ }
-    ensures lent { λ _. ⌜ lent (now (areas .exit)) (now (labels .exit)) (now (work .exit))
+        (lent (now (areas .entry)) (now (labels .entry)) (now (basins .entry)) (now (work .entry))) ⌝ }
+    ensures lent { λ _. ⌜ lent (now (areas .exit)) (now (labels .exit)) (now (basins .exit)) (now (work .exit))
         ≡ lentWith (some sizes) (lentSheet (now (dirs .entry)) (now (weights .entry)))
-        (lent (now (areas .entry)) (now (labels .entry)) (now (work .entry))) ⌝ }
+        (lent (now (areas .entry)) (now (labels .entry)) (now (basins .entry)) (now (work .entry))) ⌝ }
 {
     let outcome = label(
         sizes.rows,
@@ -48,6 +49,7 @@ fn sheet_verdict(
         weights,
         areas,
         labels,
+        basins,
         work,
     );
     match outcome {
@@ -63,13 +65,14 @@ fn stage_verdict(
     weights: &[u16],
     areas: &mut [u32],
     labels: &mut [u64],
+    basins: &mut [u32],
     work: &mut [u32],
 ) -> Verdict
     ensures verdict { λ r. ⌜ r ≡ sizesVerdict (endedSizes stage) (lentSheet (now (dirs .entry)) (now (weights .entry)))
-        (lent (now (areas .entry)) (now (labels .entry)) (now (work .entry))) ⌝ }
-    ensures lent { λ _. ⌜ lent (now (areas .exit)) (now (labels .exit)) (now (work .exit))
+        (lent (now (areas .entry)) (now (labels .entry)) (now (basins .entry)) (now (work .entry))) ⌝ }
+    ensures lent { λ _. ⌜ lent (now (areas .exit)) (now (labels .exit)) (now (basins .exit)) (now (work .exit))
         ≡ lentWith (endedSizes stage) (lentSheet (now (dirs .entry)) (now (weights .entry)))
-        (lent (now (areas .entry)) (now (labels .entry)) (now (work .entry))) ⌝ }
+        (lent (now (areas .entry)) (now (labels .entry)) (now (basins .entry)) (now (work .entry))) ⌝ }
 {
     match stage {
         Stage::WaitingForSizeNames => Verdict::Refused(15, 0),
@@ -78,7 +81,7 @@ fn stage_verdict(
         Stage::WaitingForWeight(_, _) => Verdict::Refused(15, 0),
         Stage::WaitingForCellNames(_) => Verdict::Refused(15, 0),
         Stage::TakingCells(_, _) => Verdict::Refused(15, 0),
-        Stage::Ended(sizes) => sheet_verdict(sizes, dirs, weights, areas, labels, work),
+        Stage::Ended(sizes) => sheet_verdict(sizes, dirs, weights, areas, labels, basins, work),
     }
 }
 
@@ -89,22 +92,23 @@ pub fn verdict_of(
     weights: &[u16],
     areas: &mut [u32],
     labels: &mut [u64],
+    basins: &mut [u32],
     work: &mut [u32],
 ) -> Verdict
     ensures verdict { λ r. ⌜ r ≡ verdictOf read (lentSheet (now (dirs .entry)) (now (weights .entry)))
-        (lent (now (areas .entry)) (now (labels .entry)) (now (work .entry))) ⌝ }
+        (lent (now (areas .entry)) (now (labels .entry)) (now (basins .entry)) (now (work .entry))) ⌝ }
     ensures values { λ r. ⌜ verdictValues r
         ≡ verdictValues (verdictOf read (lentSheet (now (dirs .entry)) (now (weights .entry)))
-        (lent (now (areas .entry)) (now (labels .entry)) (now (work .entry)))) ⌝ }
-    ensures lent { λ _. ⌜ lent (now (areas .exit)) (now (labels .exit)) (now (work .exit))
+        (lent (now (areas .entry)) (now (labels .entry)) (now (basins .entry)) (now (work .entry)))) ⌝ }
+    ensures lent { λ _. ⌜ lent (now (areas .exit)) (now (labels .exit)) (now (basins .exit)) (now (work .exit))
         ≡ readLent read (lentSheet (now (dirs .entry)) (now (weights .entry)))
-        (lent (now (areas .entry)) (now (labels .entry)) (now (work .entry))) ⌝ }
+        (lent (now (areas .entry)) (now (labels .entry)) (now (basins .entry)) (now (work .entry))) ⌝ }
 {
     match read {
         Read::Refused(number, place) => Verdict::Refused(number, place),
         Read::Ended(intake) => {
             let stage = intake.stage;
-            stage_verdict(stage, dirs, weights, areas, labels, work)
+            stage_verdict(stage, dirs, weights, areas, labels, basins, work)
         }
     }
 }
@@ -115,14 +119,24 @@ fn write_verdict(
     dirs: &[u8],
     areas: &[u32],
     labels: &[u64],
+    basins: &[u32],
     out: &mut [u8],
 ) -> Listing
     ensures { λ r. ⌜ record { answer = r; buffer = now (out .exit) }
-        ≡ verdictInto verdict (now (dirs .entry)) (now (areas .entry)) (now (labels .entry)) (now (out .entry)) ⌝ }
+        ≡ verdictInto verdict (now (dirs .entry)) (now (areas .entry)) (now (labels .entry))
+        (now (basins .entry)) (now (out .entry)) ⌝ }
 {
     match verdict {
         Verdict::Refused(number, place) => write_refusal(number, place, out),
-        Verdict::Labelled(sizes) => write_listing(sizes.rows, sizes.cols, dirs, areas, labels, out),
+        Verdict::Labelled(sizes) => write_listing(
+            sizes.rows,
+            sizes.cols,
+            dirs,
+            areas,
+            labels,
+            basins,
+            out,
+        ),
     }
 }
 
@@ -133,6 +147,7 @@ pub fn write_report(
     weights: &[u16],
     areas: &mut [u32],
     labels: &mut [u64],
+    basins: &mut [u32],
     work: &mut [u32],
     out: &mut [u8],
 ) -> Listing
@@ -140,14 +155,16 @@ pub fn write_report(
       answer = r;
       buffer = now (out .exit);
       lent = lent (now (areas .exit))
-          (now (labels .exit)) (now (work .exit));
+          (now (labels .exit)) (now (basins .exit)) (now (work .exit));
     }
         ≡ reportInto read (lentSheet (now (dirs .entry)) (now (weights .entry)))
-        (lent (now (areas .entry)) (now (labels .entry)) (now (work .entry))) (now (out .entry)) ⌝ }
+        (lent (now (areas .entry)) (now (labels .entry)) (now (basins .entry)) (now (work .entry)))
+        (now (out .entry)) ⌝ }
     ensures values { λ r. ⌜ listingValues r
         ≡ listingValues (reportInto read (lentSheet (now (dirs .entry)) (now (weights .entry)))
-        (lent (now (areas .entry)) (now (labels .entry)) (now (work .entry))) (now (out .entry)) .answer) ⌝ }
+        (lent (now (areas .entry)) (now (labels .entry)) (now (basins .entry)) (now (work .entry)))
+        (now (out .entry)) .answer) ⌝ }
 {
-    let verdict = verdict_of(read, dirs, weights, areas, labels, work);
-    write_verdict(verdict, dirs, areas, labels, out)
+    let verdict = verdict_of(read, dirs, weights, areas, labels, basins, work);
+    write_verdict(verdict, dirs, areas, labels, basins, out)
 }

@@ -1,12 +1,13 @@
 -- A run at positions of a layout: how it goes on from a position, where its mouths stand, and that the cells at its
 -- positions are those that it holds.
 use mathlib.Core.Path.{_≡_, refl, sym, _∙_}
-use mathlib.Core.Bool.{Bool, true, cond}
+use mathlib.Core.Bool.{Bool, true, false, cond}
 use mathlib.Core.List.{List, [], _∷_, _++_}
 use mathlib.Core.Logic.{_≢_}
 use Prim.Native.Nat.{ℕ, zero, suc, _+_, _-_, _≤_, _<_}
 use native.Mathlib.Omega.{arith}
 use native.Mathlib.Decide.{decLt, ℕ-discrete}
+use native.Mathlib.Nat.{zero-add, suc-add, add-zero, add-suc}
 use lib.Dec.{eqb}
 use lib.ListN.{length, getD}
 use borrow.Author.Tests.{eqb-true, eq-eqb}
@@ -117,7 +118,7 @@ module _ {cell size : List ℕ} {count end hi : ℕ} (Y : Layout cell size count
         go h (yes q) f = rw (← s .is) (at-head (is-under (L .passing (s .at) lo (s .from) q (omega arith))))
         go h (no q) f = in-tail (f (omega arith))
 
-stands-test : (cell : List ℕ) (n lo c : ℕ) → Test (stands cell lo n c) (Stands cell lo (lo + n) c)
+pub stands-test : (cell : List ℕ) (n lo c : ℕ) → Test (stands cell lo n c) (Stands cell lo (lo + n) c)
 unfolding stands
 stands-test cell zero lo c = unmet refl (λ s. omega (arith, s .from, s .to))
 stands-test cell (suc n) lo c =
@@ -135,6 +136,18 @@ stands-test cell (suc n) lo c =
         past : (s : Stands cell lo (lo + suc n) c) → Dec (s .at ≡ lo) → ⊥
         past s (yes q) = h (rw q at (s .is))
         past s (no q) = k (record { at = s .at; from = omega (arith, s .from); to = omega (arith, s .to); is = s .is })
+
+-- positions cut in two
+pub stands-add : (cell : List ℕ) (m n lo c : ℕ)
+    → stands cell lo (m + n) c ≡ cond (stands cell lo m c) true (stands cell (lo + m) n c)
+unfolding stands
+stands-add cell zero n lo c = rw (zero-add n, add-zero lo)
+stands-add cell (suc m) n lo c =
+    rw (suc-add m n, stands-add cell m n (suc lo) c, suc-add lo m, add-suc lo m) (go (eqb (getD cell lo 0) c) _ _)
+  where
+    go : (a b d : Bool) → cond a true (cond b true d) ≡ cond (cond a true b) true d
+    go true b d = refl
+    go false b d = refl
 
 pub same-test : {a b : Bool} {A B : Type 0} → Test a A → Test b B → (A → B) → (B → A) → a ≡ b
 same-test (met x p) (met y q) f g = x ∙ sym y

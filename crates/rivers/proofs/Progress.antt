@@ -9,6 +9,7 @@ use lib.ListN.{length, getD}
 use borrow.Author.Tests.{le-leb, lt-leb}
 use Rattle.sheet.specs.River.{Network, heavier, Run, Entry, stem, mouth, river}
 use Rattle.sheet.specs.Unit.{Parts, last, part, parts, taken, finished, prepend, cutAt}
+use Rattle.sheet.specs.Label.{holds}
 use Rattle.claims.specs.Runs.{MouthOf, mouth-here, mouth-there, Headed}
 use Rattle.claims.proofs.Order.{Ordered, ordered-right}
 use Rattle.claims.proofs.Rivers.{headed-ordered, river-headed}
@@ -17,8 +18,8 @@ use Rattle.claims.proofs.Mouths.{chosen, cuts-cut, taken-few}
 use Rattle.rivers.specs.Layout.{Laid, laid-end, laid-stem, laid-mouth, Layout}
 use Rattle.rivers.specs.UnitAt.{NetworkOf, UnitAt}
 use Rattle.rivers.specs.Cut.{keyAt, CutOf}
-use Rattle.rivers.specs.Labelled.{unitLabelled}
-use Rattle.rivers.proofs.Positions.{laid-le, laid-append, goes-stem, goes-mouth, goes-end}
+use Rattle.rivers.specs.Labelled.{unitLabelled, stands}
+use Rattle.rivers.proofs.Positions.{laid-le, laid-append, goes-stem, goes-mouth, goes-end, unit-stands}
 use Rattle.rivers.proofs.Largest.{key-is}
 use Rattle.rivers.proofs.Labelling.{partsLabelled, unit-parts, parts-last, parts-part}
 
@@ -35,6 +36,15 @@ river-unit {cell} Y n j h =
       before-end = omega arith;
       end-within = Y .within j h;
     }
+
+-- the cells at its positions are those that it holds
+pub river-stands : {cell size area : List ℕ} {count split least : ℕ} (Y : Layout cell size count)
+    (n : NetworkOf cell size area split least) (j : ℕ) → j < length cell → (c : ℕ)
+    → holds (n .network) (river (n .network) (getD cell j 0)) c ≡ stands cell j (getD size j 0) c
+unfolding river-unit
+river-stands {size = size} Y n j h c =
+    let e : j + getD size j 0 - j ≡ getD size j 0 = omega arith in
+    sym (rw e at (unit-stands Y (river-unit Y n j h) c))
 
 -- the parts with a run more at the start of the first
 pub prepends : Run → Parts → Parts

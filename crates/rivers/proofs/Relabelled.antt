@@ -205,3 +205,49 @@ module _ (cell : List ℕ) (p : Label) (hi j : ℕ) (l : List ℕ) where
       ≡ cellsLabelled (stands cell j (hi - j)) (λ c. p) l
   unfolding stands
   filled-more h a = rw (less-suc hi j h) (rw (add-one j) (labelled-set p (getD cell j 0) l a _))
+
+-- ---- slices of numbers
+
+module _ (x at : ℕ) (l : List ℕ) (room : at < length l) where
+  relabelled-set : (t : ℕ → Bool)
+      → relabelled t (λ c. x) (set l at x) ≡ relabelled (λ c. cond (eqb at c) true (t c)) (λ c. x) l
+  relabelled-set t =
+      relabelled-is _ _ l (relabelled t (λ c. x) (set l at x))
+      (relabelled-length _ _ (set l at x) ∙ length-set l at x)
+      (λ i h. relabelled-at _ _ (set l at x) i (rw (length-set l at x) h) ∙ go i (eqb at i) refl (t i))
+    where
+      go : (i : ℕ) (b : Bool) → eqb at i ≡ b → (y : Bool)
+          → cond y x (getD (set l at x) i 0) ≡ cond (cond b true y) x (getD l i 0)
+      go i true q true = refl
+      go i true q false = rw (← eqb-true at i q) (getD-set-same l at x 0 room)
+      go i false q true = refl
+      go i false q false = getD-set-other l at i x 0 (λ e. eqb-false at i q (sym e))
+
+module _ (cell : List ℕ) (x hi j : ℕ) (l : List ℕ) where
+  pub numbered-none : hi ≤ j → relabelled (stands cell j (hi - j)) (λ c. x) l ≡ l
+  unfolding stands
+  numbered-none h = relabelled-none _ _ l (λ i. rw (less-none hi j h))
+
+  pub numbered-more : j < hi → getD cell j 0 < length l
+      → relabelled (stands cell (j + 1) (hi - (j + 1))) (λ c. x) (set l (getD cell j 0) x)
+      ≡ relabelled (stands cell j (hi - j)) (λ c. x) l
+  unfolding stands
+  numbered-more h a = rw (less-suc hi j h) (rw (add-one j) (relabelled-set x (getD cell j 0) l a _))
+
+-- ---- twice one after another
+
+pub relabelled-twice : (t t₁ t₂ : ℕ → Bool) (f f₁ f₂ : ℕ → ℕ)
+    → ((c x : ℕ) → cond (t₂ c) (f₂ c) (cond (t₁ c) (f₁ c) x) ≡ cond (t c) (f c) x) → (l : List ℕ)
+    → relabelled t₂ f₂ (relabelled t₁ f₁ l) ≡ relabelled t f l
+relabelled-twice t t₁ t₂ f f₁ f₂ e l =
+    ap (λ (m : List ℕ). relabelled t₂ f₂ (relabelled t₁ f₁ m)) (sym (relabelled-none (λ c. false) f l (λ c. refl)))
+    ∙ relabelled-thrice t (λ c. false) t₁ t₂ f f f₁ f₂ e l
+
+pub labelled-twice : (t t₁ t₂ : ℕ → Bool) (f f₁ f₂ : ℕ → Label)
+    → ((c : ℕ) (x : Label) → cond (t₂ c) (f₂ c) (cond (t₁ c) (f₁ c) x) ≡ cond (t c) (f c) x) → (l : List ℕ)
+    → cellsLabelled t₂ f₂ (cellsLabelled t₁ f₁ l) ≡ cellsLabelled t f l
+unfolding cellsLabelled
+labelled-twice t t₁ t₂ f f₁ f₂ e l =
+    ap (λ (m : List ℕ). cellsLabelled t₂ f₂ (cellsLabelled t₁ f₁ m))
+    (sym (relabelled-none (λ c. false) (numberIn f) l (λ c. refl)))
+    ∙ labelled-thrice t (λ c. false) t₁ t₂ f f f₁ f₂ e l

@@ -4,8 +4,8 @@ ghost use mathlib.Core.Path.{_≡_};
 ghost use lib.ListN.{length, getD};
 ghost use Rattle.sheet.specs.River.{river};
 ghost use Rattle.sheet.specs.Record.{recordOf, labelPlaces};
-ghost use Rattle.sheet.specs.Label.{holds, label};
-ghost use Rattle.rivers.specs.Labelled.{cellsLabelled, unitLabelled, stands};
+ghost use Rattle.sheet.specs.Label.{label};
+ghost use Rattle.rivers.specs.Labelled.{relabelled, cellsLabelled, unitLabelled, stands};
 ghost use Rattle.rivers.specs.Prefix.{Prefix};
 ghost use Rattle.rivers.specs.UnitAt.{NetworkOf, UnitAt, Places};
 use crate::heaviest::Rule;
@@ -117,27 +117,45 @@ pub fn label_river(
     label_run(span, digits, prefix, rule, cell, size, area, labels);
 }
 
-// Labels the cells of the river whose mouth stands first in the layout, to the depth given.
+// Gives the cells at positions lo to hi the number of their basin.
+fn number_cells(lo: usize, hi: usize, number: u32, cell: &[u32], basins: &mut [u32])
+    requires { ⌜ hi ≤ length (now cell) ⌝ }
+    requires { ⌜ ((j : ℕ) → j < length (now cell) → getD (now cell) j 0 < length (now basins)) ⌝ }
+    ensures { λ _. ⌜ now (basins .exit)
+        ≡ relabelled (stands (now (cell .entry)) lo (hi - lo)) (λ c. number) (now (basins .entry)) ⌝ }
+{
+    for j in lo..hi {
+        basins[cell[j] as usize] = number;
+    }
+}
+
+// Labels the cells of the basin whose outlet stands at position j, to the depth given, and gives them its number.
 pub fn label_basin(
+    j: usize,
+    number: u32,
     depth: usize,
-    split: usize,
-    least: u32,
+    rule: Rule,
     cell: &[u32],
     size: &[u32],
     area: &[u32],
     labels: &mut [u64],
+    basins: &mut [u32],
 )
     requires { ⌜ depth ≤ 36 ⌝ }
-    requires { ⌜ 0 < length (now cell) ⌝ }
-    requires { ⌜ NetworkOf (now cell) (now size) (now area) split least ⌝ }
-    requires { ⌜ Places (now cell) (now size) (length (now area)) (labelPlaces (length (now labels))) split ⌝ }
-    ensures { λ _. ⌜ ((n : NetworkOf (now (cell .entry)) (now (size .entry)) (now (area .entry)) split least)
-        → now (labels .exit)
-        ≡ cellsLabelled (holds (n .network) (river (n .network) (getD (now (cell .entry)) 0 0)))
-        (λ c. recordOf (label (n .network) depth (river (n .network) (getD (now (cell .entry)) 0 0)) c))
+    requires { ⌜ j < length (now cell) ⌝ }
+    requires { ⌜ NetworkOf (now cell) (now size) (now area) (rule .split) (rule .least) ⌝ }
+    requires { ⌜ Places (now cell) (now size) (length (now area)) (labelPlaces (length (now labels))) (rule .split) ⌝ }
+    requires { ⌜ ((i : ℕ) → i < length (now cell) → getD (now cell) i 0 < length (now basins)) ⌝ }
+    ensures labels { λ _. ⌜ ((n : NetworkOf (now (cell .entry)) (now (size .entry)) (now (area .entry)) (rule .split)
+        (rule .least)) → now (labels .exit)
+        ≡ cellsLabelled (stands (now (cell .entry)) j (getD (now (size .entry)) j 0))
+        (λ c. recordOf (label (n .network) depth (river (n .network) (getD (now (cell .entry)) j 0)) c))
         (now (labels .entry))) ⌝ }
+    ensures basins { λ _. ⌜ now (basins .exit)
+        ≡ relabelled (stands (now (cell .entry)) j (getD (now (size .entry)) j 0)) (λ c. number)
+        (now (basins .entry)) ⌝ }
 {
-    let rule = Rule { split, least };
     let none = Label { first: 0, rest: 0 };
-    label_river(0, depth, none, rule, cell, size, area, labels);
+    label_river(j, depth, none, rule, cell, size, area, labels);
+    number_cells(j, j + size[j] as usize, number, cell, basins);
 }

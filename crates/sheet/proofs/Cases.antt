@@ -3,6 +3,7 @@ use mathlib.Core.Path.{_≡_, refl}
 use Rattle.sheet.specs.Cases.{cases, listing, refusals, orders, traps, outletFlows, weighted, words}
 use Rattle.sheet.specs.Cases.{ditch, splits, nineteens, leastFlows}
 use Rattle.sheet.specs.Cases.{nineteenth, records, elevens, slices, longFlows}
+use Rattle.sheet.specs.Cases.{basinNumbers, basins, otherBasins, unitNames}
 use Rattle.sheet.specs.Cases.{allComputed, allStated}
 
 -- cases that are small enough for a refused edit to show what it computes instead
@@ -13,6 +14,10 @@ small-ditch = refl
 pub small-nineteenth : allComputed nineteenth ≡ allStated nineteenth
 unfolding nineteenth
 small-nineteenth = refl
+
+pub small-basins : allComputed basinNumbers ≡ allStated basinNumbers
+unfolding basinNumbers
+small-basins = refl
 
 pub all-records : allComputed records ≡ allStated records
 unfolding records
@@ -29,6 +34,18 @@ all-slices = refl
 pub all-long-flows : allComputed longFlows ≡ allStated longFlows
 unfolding longFlows
 all-long-flows = refl
+
+pub all-basins : allComputed basins ≡ allStated basins
+unfolding basins
+all-basins = refl
+
+pub all-other-basins : allComputed otherBasins ≡ allStated otherBasins
+unfolding otherBasins
+all-other-basins = refl
+
+pub all-unit-names : allComputed unitNames ≡ allStated unitNames
+unfolding unitNames
+all-unit-names = refl
 
 -- all cases marked * in document 01
 pub all-cases : allComputed cases ≡ allStated cases

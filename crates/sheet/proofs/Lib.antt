@@ -6,6 +6,7 @@ pub mod Digits
 pub mod Within
 pub mod Records
 pub mod Slices
+pub mod Units
 pub mod Weights
 pub mod Words
 pub mod Questions

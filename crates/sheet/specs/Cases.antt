@@ -1,5 +1,5 @@
 -- Worked cases: what the definitions compute beside what documents 01 and 02 state. Those that document 01 marks *
--- stand in one list, in its order.
+-- stand in one list, in its order, but for refusal 7, which document 02 ends.
 use mathlib.Core.Bool.{cond}
 use mathlib.Core.List.{List, [], _∷_, _++_, map}
 use Prim.Native.Nat.{ℕ, _*_}
@@ -10,7 +10,10 @@ use Rattle.sheet.specs.Word.{bytesOf, numberAt, firstBadOf}
 use Rattle.sheet.specs.Area.{drainsInto, area}
 use Rattle.sheet.specs.River.{network, stem, mouth, Run, river}
 use Rattle.sheet.specs.declared.Label.{Label}
+use Rattle.sheet.specs.declared.UnitName.{UnitName}
 use Rattle.sheet.specs.Record.{labelOfNumbers, recordOf, digitsOf, labelsIn, numbersOf, labelPlaces}
+use Rattle.sheet.specs.Record.{unitName, basinAndDigits, unitsIn}
+use Rattle.sheet.specs.Basins.{basinOf, basinGrid, basinArea, basinLabel, basinsOf}
 use Rattle.sheet.specs.Label.{labelOf, outlet, listFrom}
 use Rattle.sheet.specs.Refusal.{Lent, outcome, OutcomeValues, outcomeValues, lentAfter}
 use Rattle.sheet.specs.Flow.{isLabel, outletFlow, flow, answerNumber, outletAnswerNumber}
@@ -56,11 +59,19 @@ mouthsAt c (mouth v ∷ R) = mouthsAt c R
 
 -- what is lent for n cells, each number 7
 abbrev lentFor : ℕ → Lent
-lentFor n = record { areas = replicate n 7; labels = replicate (2 * n) 7; work = replicate (8 * n) 7 }
+lentFor n = record {
+  areas = replicate n 7;
+  labels = replicate (2 * n) 7;
+  basins = replicate n 7;
+  work = replicate (8 * n) 7;
+}
 
--- a label of at most 18 digits, and the numbers of several
+-- a label of at most 18 digits, and the numbers of several; the unit of a basin that has it
 abbrev short : ℕ → Label
 short m = labelOfNumbers m 0
+
+abbrev shortIn : ℕ → ℕ → UnitName
+shortIn basin m = unitName basin (short m)
 
 abbrev shorts : List ℕ → List ℕ
 shorts [] = []
@@ -73,12 +84,13 @@ labelsAt S cs = numbersOf (map (labelOf S) cs)
 abbrev labelsBelow : Sheet → ℕ → List ℕ
 labelsBelow S n = numbersOf (listFrom (labelOf S) 0 n)
 
--- the numbers of the answers to the flow question and to the outlet question about labels of at most 18 digits
+-- the numbers of the answers to the flow question and to the outlet question about labels of at most 18 digits in one
+-- basin
 abbrev asked : ℕ → ℕ → ℕ → ℕ → ℕ
-asked depth least p q = answerNumber (flow depth least (short p) (short q))
+asked depth least p q = answerNumber (flow depth least (shortIn 1 p) (shortIn 1 q))
 
 abbrev outletAsked : ℕ → ℕ → ℕ → ℕ
-outletAsked depth p q = outletAnswerNumber (outletFlow depth (short p) (short q))
+outletAsked depth p q = outletAnswerNumber (outletFlow depth (shortIn 1 p) (shortIn 1 q))
 
 -- number and place of the outcome; both are 0 where it is accepted
 abbrev outcomeIs : Sheet → Lent → List ℕ
@@ -95,7 +107,6 @@ cases =
     ∷ case (area (sheet (grid 1 1 (1 ∷ [])) 1) 0 ∷ labelsAt (sheet (grid 1 1 (1 ∷ [])) 1) (0 ∷ []))
     (1 ∷ shorts (0 ∷ []))
     ∷ case (outcomeIs (sheet (grid 1 2 (1 ∷ 16 ∷ [])) 1) (lentFor 2)) (6 ∷ 0 ∷ [])
-    ∷ case (outcomeIs (sheet (grid 1 2 (16 ∷ 1 ∷ [])) 1) (lentFor 2)) (7 ∷ 1 ∷ [])
     ∷ case (asked 3 1 91 92 ∷ asked 3 1 92 91 ∷ asked 3 1 21 3 ∷ [])
     (1 ∷ 0 ∷ 0 ∷ [])
     ∷ case (asked 3 1 131 14 ∷ []) (3 ∷ [])
@@ -103,7 +114,8 @@ cases =
     ∷ []
 
 -- sample A whole: it is accepted, and of slices for 13 cells the first 12 areas and labels are those that document 01
--- prints, the first 96 work places are 0, and the others keep their values
+-- prints, the first 12 basins are 1 inside and 0 outside, the first 96 work places are 0, and the others keep their
+-- values
 unfoldable pub listing : List Case
 unfolding outcome lentAfter
 listing =
@@ -111,20 +123,22 @@ listing =
     case (outcomeIs (sheet sampleA 2) (lentFor 13)) (0 ∷ 0 ∷ [])
     ∷ case (after .areas) (0 ∷ 2 ∷ 1 ∷ 1 ∷ 11 ∷ 9 ∷ 4 ∷ 2 ∷ 1 ∷ 1 ∷ 1 ∷ 1 ∷ 7 ∷ [])
     ∷ case (after .labels) (shorts (0 ∷ 8 ∷ 8 ∷ 92 ∷ 1 ∷ 3 ∷ 91 ∷ 93 ∷ 2 ∷ 4 ∷ 6 ∷ 93 ∷ []) ++ replicate 2 7)
+    ∷ case (after .basins) (0 ∷ replicate 11 1 ++ replicate 1 7)
     ∷ case (after .work) (replicate 96 0 ++ replicate 8 7)
     ∷ []
 
--- refused by 6 and by 3: no area or label is written, and the work places are cleared once check 3 is passed
+-- refused by 6 and by 3: no area, label or basin is written, and the work places are cleared once check 3 is passed
 unfoldable pub refusals : List Case
 unfolding lentAfter
 refusals =
     let circle : Lent = lentAfter (sheet (grid 1 2 (1 ∷ 16 ∷ [])) 1) (lentFor 2) in
     let few : Lent = lentAfter (sheet (grid 1 2 (1 ∷ 16 ∷ [])) 1) (lentFor 1) in
-    case (circle .areas ++ circle .labels ++ circle .work) (replicate 6 7 ++ replicate 16 0)
-    ∷ case (few .areas ++ few .labels ++ few .work) (replicate 11 7)
+    case (circle .areas ++ circle .labels ++ circle .basins ++ circle .work) (replicate 8 7 ++ replicate 16 0)
+    ∷ case (few .areas ++ few .labels ++ few .basins ++ few .work) (replicate 12 7)
     ∷ []
 
--- sheets that fail two checks get the earlier number: 1 before 2, 2 before 3, 3 before 4, 4 before 6, 6 before 7
+-- sheets that fail two checks get the earlier number: 1 before 2, 2 before 3, 3 before 4, 4 before 6; a circle beside
+-- two good basins is refused by 6
 unfoldable pub orders : List Case
 unfolding outcome
 orders =
@@ -204,7 +218,7 @@ weighted =
     ∷ case (outcomeIs (weightedSheet confluence 1 (0 ∷ 0 ∷ [])) (lentFor 3)) (3 ∷ 0 ∷ [])
     ∷ case (outcomeIs (weightedSheet confluence 1 (0 ∷ 0 ∷ 0 ∷ [])) (lentFor 2)) (3 ∷ 0 ∷ [])
     ∷ case (outcomeIs (weightedSheet (grid 1 1 (3 ∷ [])) 1 (0 ∷ [])) (lentFor 1)) (17 ∷ 0 ∷ [])
-    ∷ case (refused .areas ++ refused .labels ++ refused .work) (replicate 9 7 ++ replicate 24 0)
+    ∷ case (refused .areas ++ refused .labels ++ refused .basins ++ refused .work) (replicate 12 7 ++ replicate 24 0)
     ∷ []
 
 -- a river along the first row, where cells weigh 2, with the mouth 3, of area 1, at its outlet, and the mouth 2, of area
@@ -257,7 +271,7 @@ nineteens =
     ∷ case (outcomeIs (splitSheet (grid 1 1 (1 ∷ [])) 1 1 5) (lentFor 1)) (19 ∷ 0 ∷ [])
     ∷ case (outcomeIs (splitSheet (grid 1 1 (1 ∷ [])) 37 0 5) (lentFor 1)) (2 ∷ 0 ∷ [])
     ∷ case (outcomeIs (splitSheet (grid 1 1 (1 ∷ [])) 36 0 4) (lentFor 0)) (19 ∷ 0 ∷ [])
-    ∷ case (refused .areas ++ refused .labels ++ refused .work) (replicate 11 7)
+    ∷ case (refused .areas ++ refused .labels ++ refused .basins ++ refused .work) (replicate 12 7)
     ∷ []
 
 -- The flow question told least: on sample A at least 2, water from cell 6, label 3, does not pass cell 8, label 1,
@@ -315,7 +329,8 @@ elevens =
 unfoldable pub slices : List Case
 unfolding labelsIn numbersOf labelPlaces outcome lentAfter
 slices =
-    let lend : List ℕ → Lent = λ labels. record { areas = 7 ∷ []; labels = labels; work = replicate 8 7 } in
+    let lend : List ℕ → Lent =
+    λ labels. record { areas = 7 ∷ []; labels = labels; basins = 7 ∷ []; work = replicate 8 7 } in
     let one : Sheet = sheet (grid 1 1 (1 ∷ [])) 36 in
     case (numbersOf (labelsIn (1 ∷ 2 ∷ 3 ∷ []))) (1 ∷ 2 ∷ [])
     ∷ case (labelPlaces 0 ∷ labelPlaces 1 ∷ labelPlaces 2 ∷ labelPlaces 3 ∷ []) (0 ∷ 0 ∷ 1 ∷ 1 ∷ [])
@@ -326,7 +341,8 @@ slices =
 -- the numbers of the answers about labels of 18 ones and one more digit each
 abbrev askedOn : ℕ → ℕ → ℕ → ℕ
 askedOn depth p q =
-    answerNumber (flow depth 1 (labelOfNumbers 111111111111111111 p) (labelOfNumbers 111111111111111111 q))
+    answerNumber (flow depth 1 (unitName 1 (labelOfNumbers 111111111111111111 p))
+    (unitName 1 (labelOfNumbers 111111111111111111 q)))
 
 -- the flow question about labels that part at their 19th digit: Yes, Undecided at depth 19, No, Same; 12 where one has
 -- 18 digits and begins the other; 11 at depth 18
@@ -336,6 +352,77 @@ longFlows =
     case (askedOn 36 1 3 ∷ askedOn 19 1 3 ∷ askedOn 36 3 1 ∷ askedOn 36 2 3 ∷ []) (1 ∷ 3 ∷ 0 ∷ 0 ∷ [])
     ∷ case (askedOn 36 3 3 ∷ askedOn 36 0 3 ∷ askedOn 36 3 0 ∷ askedOn 18 1 3 ∷ []) (2 ∷ 140 ∷ 140 ∷ 139 ∷ [])
     ∷ []
+
+-- two basins side by side, each of two cells that flow into the one between them
+abbrev pub neighbours : Grid
+neighbours = grid 3 2 (4 ∷ 4 ∷ 16 ∷ 1 ∷ 64 ∷ 64 ∷ [])
+
+-- three basins, of outlets 0, 2 and 5, the second of a single cell, beside an outside cell
+abbrev pub threeBasins : Grid
+threeBasins = grid 2 3 (16 ∷ 16 ∷ 1 ∷ 0 ∷ 64 ∷ 4 ∷ [])
+
+-- the numbers of basins alone
+unfoldable pub basinNumbers : List Case
+unfolding basinsOf
+basinNumbers = case (basinsOf threeBasins) (1 ∷ 1 ∷ 2 ∷ 0 ∷ 1 ∷ 3 ∷ []) ∷ []
+
+-- areas, then labels, then basins, after labelling with just the places that are needed
+abbrev labelledAs : Sheet → ℕ → List ℕ
+labelledAs S n = let after : Lent = lentAfter S (lentFor n) in after .areas ++ after .labels ++ after .basins
+
+-- Basins. The 1 by 2 sheet of codes 16 and 1: two basins of area 1, label 0. Two basins side by side: the labels of
+-- each begin afresh. Three basins. The second of two basins alone. A basin slice that is short by one place is refused
+-- by 3.
+unfoldable pub basins : List Case
+unfolding outcome lentAfter basinOf basinGrid basinArea basinLabel basinsOf
+basins =
+    let two : Sheet = sheet (grid 1 2 (16 ∷ 1 ∷ [])) 1 in
+    let short : Lent = record {
+      areas = 7 ∷ 7 ∷ [];
+      labels = replicate 4 7;
+      basins = 7 ∷ [];
+      work = replicate 16 7;
+    } in
+    case (outcomeIs two (lentFor 2)) (0 ∷ 0 ∷ [])
+    ∷ case (labelledAs two 2) (1 ∷ 1 ∷ shorts (0 ∷ 0 ∷ []) ++ (1 ∷ 2 ∷ []))
+    ∷ case (labelledAs (sheet neighbours 1) 6)
+    (1 ∷ 1 ∷ 3 ∷ 3 ∷ 1 ∷ 1 ∷ shorts (2 ∷ 2 ∷ 1 ∷ 1 ∷ 3 ∷ 3 ∷ []) ++ (1 ∷ 2 ∷ 1 ∷ 2 ∷ 1 ∷ 2 ∷ []))
+    ∷ case (labelledAs (sheet threeBasins 1) 6)
+    (3 ∷ 2 ∷ 1 ∷ 0 ∷ 1 ∷ 1 ∷ replicate 12 0 ++ (1 ∷ 1 ∷ 2 ∷ 0 ∷ 1 ∷ 3 ∷ []))
+    ∷ case (basinGrid neighbours 2 .dirs) (0 ∷ 4 ∷ 0 ∷ 1 ∷ 0 ∷ 64 ∷ [])
+    ∷ case (outcomeIs two short) (3 ∷ 0 ∷ [])
+    ∷ []
+
+-- the numbers of the answers to both questions about labels in two basins
+abbrev askedAcross : ℕ → ℕ → List ℕ
+askedAcross p q =
+    answerNumber (flow 3 1 (shortIn 1 p) (shortIn 2 q))
+    ∷ outletAnswerNumber (outletFlow 3 (shortIn 1 p) (shortIn 2 q)) ∷ []
+
+-- different basins: No, where one basin would give Yes, Same and 12; 11 before it
+unfoldable pub otherBasins : List Case
+unfolding outletFlow flow
+otherBasins =
+    case (askedAcross 1 3) (0 ∷ 0 ∷ [])
+    ∷ case (askedAcross 5 5) (0 ∷ 0 ∷ [])
+    ∷ case (askedAcross 9 91) (0 ∷ 0 ∷ [])
+    ∷ case (askedAcross 105 3 ++ askedAcross 3 105) (139 ∷ 139 ∷ 139 ∷ 139 ∷ [])
+    ∷ []
+
+-- a unit's basin stands before the digits of its label; units of a list of basins and one of labels, the longer cut
+unfoldable pub unitNames : List Case
+unfolding basinAndDigits unitsIn numbersOf
+unitNames =
+    case (basinAndDigits (shortIn 7 91)) (7 ∷ 9 ∷ 1 ∷ [])
+    ∷ case (allBasins (unitsIn (3 ∷ 4 ∷ 5 ∷ []) (short 1 ∷ short 2 ∷ []))) (3 ∷ 4 ∷ [])
+    ∷ case (numbersOf (allLabels (unitsIn (3 ∷ []) (short 1 ∷ short 2 ∷ [])))) (shorts (1 ∷ []))
+    ∷ []
+  where
+    allBasins : List UnitName → List ℕ
+    allBasins us = map (λ (u : UnitName). u .basin) us
+
+    allLabels : List UnitName → List Label
+    allLabels us = map (λ (u : UnitName). u .label) us
 
 -- The word test: words of codes alone, with all nine among them; a bad byte at either end and in the middle; the first
 -- of several; a byte with two bits above bytes of 0, of 128 and of 1. Then the bytes of a number, and a number made of

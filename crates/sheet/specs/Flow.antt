@@ -13,6 +13,7 @@ use Rattle.sheet.specs.declared.OutletFlow.{OutletFlow}
 use Rattle.sheet.specs.declared.OutletFlow.the-variants.{Same as OutletSame, Yes as OutletYes, No as OutletNo}
 use Rattle.sheet.specs.declared.OutletFlow.the-variants.{Refused as OutletRefused}
 use Rattle.sheet.specs.declared.Label.{Label}
+use Rattle.sheet.specs.declared.UnitName.{UnitName}
 use Rattle.sheet.specs.Record.{digitsOf, isRecord, sameLabel}
 use Rattle.sheet.specs.Refusal.{both, within, depthFits, leastFits}
 
@@ -61,14 +62,16 @@ unfoldable pub answerUnequal : Label → Label → OutletFlow
 unfolding answerAt partAt digitsOf
 answerUnequal p q = answerAt (digitsOf p) (digitsOf q) (partAt (digitsOf p) (digitsOf q))
 
--- the outlet question, does water from the label q pass the outlet of the unit that the label p names? 2, 11, Same, in
--- this order, then the answer for unequal labels
-unfoldable pub outletFlow : ℕ → Label → Label → OutletFlow
+-- the outlet question, does water from the unit q pass the outlet of the unit p? 2, 11, No for different basins, Same,
+-- in this order, then the answer for unequal labels
+unfoldable pub outletFlow : ℕ → UnitName → UnitName → OutletFlow
 unfolding depthFits isLabel answerUnequal sameLabel
 outletFlow depth p q =
-    let unequal : OutletFlow = answerUnequal p q in
+    let unequal : OutletFlow = answerUnequal (p .label) (q .label) in
+    let within : OutletFlow = cond (sameLabel (p .label) (q .label)) OutletSame unequal in
+    let known : OutletFlow = cond (eqb (p .basin) (q .basin)) within OutletNo in
     let judged : OutletFlow =
-    cond (both (isLabel depth p) (isLabel depth q)) (cond (sameLabel p q) OutletSame unequal) (OutletRefused 11) in
+    cond (both (isLabel depth (p .label)) (isLabel depth (q .label))) known (OutletRefused 11) in
     cond (depthFits depth) judged (OutletRefused 2)
 
 -- the unit of a label with so many digits is known to be stem cells alone: every mouth is counted, and the label has
@@ -84,12 +87,13 @@ cellAnswer alone OutletYes = cond alone Yes Undecided
 cellAnswer alone OutletNo = No
 cellAnswer alone (OutletRefused number) = Refused number
 
--- the flow question, does water from the label q pass the label p? 2, 19 of `least`, in this order; the other steps are
+-- the flow question, does water from the unit q pass the unit p? 2, 19 of `least`, in this order; the other steps are
 -- those of the outlet question, and then one more
-unfoldable pub flow : ℕ → ℕ → Label → Label → Flow
+unfoldable pub flow : ℕ → ℕ → UnitName → UnitName → Flow
 unfolding depthFits leastFits outletFlow stemAlone digitsOf
 flow depth least p q =
-    let answer : Flow = cellAnswer (stemAlone depth least (length (digitsOf p))) (outletFlow depth p q) in
+    let alone : Bool = stemAlone depth least (length (digitsOf (p .label))) in
+    let answer : Flow = cellAnswer alone (outletFlow depth p q) in
     cond (depthFits depth) (cond (leastFits least) answer (Refused 19)) (Refused 2)
 
 -- the number of an answer to the flow question: 0 No, 1 Yes, 2 Same, 3 Undecided, 128 + the refusal's number

@@ -87,7 +87,9 @@ unfoldable pub listFrom : {A : Type 0} → (ℕ → A) → ℕ → ℕ → List 
 listFrom f i zero = []
 listFrom f i (suc m) = f i ∷ listFrom f (suc i) m
 
--- the areas and the labels of all cells, in reading order; of the labels, the numbers that a slice holds
+-- the areas and the labels of all cells worked out on the whole sheet, in reading order; of the labels, the numbers
+-- that a slice holds. Basins.antt has those that labelling writes, each basin by itself; they are the same
+-- (claims/proofs/Alone.antt)
 unfoldable pub areasOf : Sheet → List ℕ
 unfolding listFrom area
 areasOf S = listFrom (area S) 0 (cells (S .grid))

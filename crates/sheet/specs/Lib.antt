@@ -7,6 +7,7 @@ pub mod River
 pub mod Unit
 pub mod Record
 pub mod Label
+pub mod Basins
 pub mod Refusal
 pub mod Flow
 pub mod Cases

@@ -6,6 +6,7 @@ use Prim.Native.Nat.{ℕ, zero, suc, _+_, _*_, _/_, _%_, _≤_}
 use lib.Dec.{eqb, leb}
 use lib.ListN.{length, getD, take, drop}
 use Rattle.sheet.specs.declared.Label.{Label}
+use Rattle.sheet.specs.declared.UnitName.{UnitName}
 
 -- all digits lie from 1 to top
 pub data Digits (top : ℕ) : List ℕ → Type 0 where
@@ -91,7 +92,39 @@ labelPlaces numbers = numbers / 2
 abbrev pub labelAt : List ℕ → ℕ → Label
 labelAt numbers c = getD (labelsIn numbers) c noDigits
 
--- what labelling's steps need of slices: the place to which the number at i belongs
+-- ---- units: a label within its basin
+
+abbrev pub unitName : ℕ → Label → UnitName
+unitName basin label = record { basin = basin; label = label }
+
+-- two units are the same
+unfoldable pub sameUnit : UnitName → UnitName → Bool
+unfolding sameLabel
+sameUnit p q = cond (eqb (p .basin) (q .basin)) (sameLabel (p .label) (q .label)) false
+
+-- the unit at a place of a slice of basins and a slice of labels
+abbrev pub unitAt : List ℕ → List ℕ → ℕ → UnitName
+unitAt basins numbers c = unitName (getD basins c 0) (labelAt numbers c)
+
+-- a unit's basin and then the digits of its label: in the dictionary order of these, units stand "by basin and then
+-- label"
+unfoldable pub basinAndDigits : UnitName → List ℕ
+unfolding digitsOf
+basinAndDigits u = u .basin ∷ digitsOf (u .label)
+
+-- those of the unit at a place of a slice of basins and a slice of labels
+abbrev pub unitDigitsAt : List ℕ → List ℕ → ℕ → List ℕ
+unitDigitsAt basins numbers c = basinAndDigits (unitAt basins numbers c)
+
+-- the units that a list of basins and a list of labels name, place by place
+unfoldable pub unitsIn : List ℕ → List Label → List UnitName
+unitsIn [] labels = []
+unitsIn (basin ∷ basins) [] = []
+unitsIn (basin ∷ basins) (label ∷ labels) = unitName basin label ∷ unitsIn basins labels
+
+-- ---- what labelling's steps need of slices
+
+-- the place to which the number at i belongs
 unfoldable pub placeAt : ℕ → ℕ
 placeAt i = i / 2
 

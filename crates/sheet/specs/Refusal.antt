@@ -1,5 +1,6 @@
--- The outcome of labelling: document 01's refusals 1 to 7 in order, with their places, with document 02's 19 straight
--- after 2 and 17 straight after 3, and what each lent slice holds afterwards.
+-- The outcome of labelling: document 01's refusals 1 to 6 in order, with their places, with document 02's 19 straight
+-- after 2 and 17 straight after 3, and what each lent slice holds afterwards. Document 02 ends refusal 7; its number
+-- stays unused.
 use mathlib.Core.Bool.{Bool, true, false, cond, not}
 use mathlib.Core.List.{List, _++_}
 use Prim.Native.Nat.{ℕ, zero, suc, _*_}
@@ -10,16 +11,17 @@ use Rattle.sheet.specs.declared.Found.the-variants.{At, Nothing}
 use Rattle.sheet.specs.declared.Outcome.{Outcome}
 use Rattle.sheet.specs.declared.Outcome.the-variants.{Accepted, Refused}
 use Rattle.sheet.specs.Direction.{isCode}
-use Rattle.sheet.specs.Sheet.{Grid, Sheet, cells, dirAt, inside, next, isOutlet, first}
+use Rattle.sheet.specs.Sheet.{Grid, Sheet, cells, dirAt, inside, next, first}
 use Rattle.sheet.specs.Water.{reachesOutlet}
 use Rattle.sheet.specs.Record.{labelPlaces}
-use Rattle.sheet.specs.Label.{areasOf, labelsOf}
+use Rattle.sheet.specs.Basins.{basinAreas, basinLabels, basinsOf}
 
--- what is lent to labelling beside the directions and weights: areas (32-bit), labels (64-bit, two
--- numbers each), work places (32-bit)
+-- what is lent to labelling beside the directions and weights: areas (32-bit), labels (64-bit, two numbers each),
+-- basins (32-bit), work places (32-bit)
 pub record Lent : Type 0 where
   pub areas : List ℕ
   pub labels : List ℕ
+  pub basins : List ℕ
   pub work : List ℕ
 
 abbrev pub both : Bool → Bool → Bool
@@ -51,7 +53,7 @@ unfoldable pub leastAndSplitFit : ℕ → ℕ → Bool
 unfolding leastFits splitFits
 leastAndSplitFit least split = both (leastFits least) (splitFits split)
 
--- with n = rows × columns: n directions, one weight a row, n areas, n labels, 8n work places
+-- with n = rows × columns: n directions, one weight a row, n areas, n labels, n basins, 8n work places
 unfoldable pub slicesFit : Sheet → Lent → Bool
 unfolding labelPlaces
 slicesFit S L =
@@ -59,7 +61,8 @@ slicesFit S L =
     both (leb n (length (S .grid .dirs)))
     (both (leb (S .grid .rows) (length (S .weights)))
     (both (leb n (length (L .areas)))
-    (both (leb n (labelPlaces (length (L .labels)))) (leb (8 * n) (length (L .work))))))
+    (both (leb n (labelPlaces (length (L .labels))))
+    (both (leb n (length (L .basins))) (leb (8 * n) (length (L .work)))))))
 
 -- 17: a weight outside 1 to 1000
 unfoldable pub weightFits : ℕ → Bool
@@ -72,7 +75,7 @@ unfolding weightFits
 weightsFit zero weights = true
 weightsFit (suc row) weights = let rest = weightsFit row weights in both rest (weightFits (getD weights row 0))
 
--- the cells for which 4, 5, 6 and 7 look
+-- the cells for which 4, 5 and 6 look
 unfoldable pub badCode : Grid → ℕ → Bool
 unfolding isCode
 badCode G c = not (isCode (dirAt G c))
@@ -80,20 +83,6 @@ badCode G c = not (isCode (dirAt G c))
 unfoldable pub undrained : Grid → ℕ → Bool
 unfolding inside next reachesOutlet
 undrained G c = both (inside G c) (not (reachesOutlet (next G) (cells G) c))
-
-unfoldable pub outletFrom : Grid → ℕ → ℕ → Bool
-unfolding isOutlet
-outletFrom G from c = both (leb from c) (isOutlet G c)
-
-unfoldable pub firstAfter : (ℕ → ℕ → Bool) → ℕ → Found → Found
-unfolding first
-firstAfter test n Nothing = Nothing
-firstAfter test n (At c) = first (test (suc c)) n
-
--- the second outlet in reading order
-unfoldable pub secondOutlet : Grid → Found
-unfolding firstAfter outletFrom first
-secondOutlet G = firstAfter (outletFrom G) (cells G) (first (outletFrom G 0) (cells G))
 
 -- refused where a cell was found, by its number; else what follows
 unfoldable pub refusedAt : ℕ → Found → Outcome → Outcome
@@ -104,16 +93,14 @@ unfoldable pub refusedIfNone : ℕ → Found → Outcome → Outcome
 refusedIfNone number (At c) rest = rest
 refusedIfNone number Nothing rest = Refused number 0
 
--- 4, 5, 6 and 7, in this order: a bad direction, no cell inside, a cell that never reaches an outlet, a second outlet
+-- 4, 5 and 6, in this order: a bad direction, no cell inside, a cell that never reaches an outlet
 unfoldable pub outcomeOn : Grid → Outcome
-unfolding refusedAt refusedIfNone first badCode inside undrained secondOutlet
+unfolding refusedAt refusedIfNone first badCode inside undrained
 outcomeOn G =
     refusedAt 4 (first (badCode G) (cells G))
-    (refusedIfNone 5 (first (inside G) (cells G))
-    (refusedAt 6 (first (undrained G) (cells G))
-    (refusedAt 7 (secondOutlet G) Accepted)))
+    (refusedIfNone 5 (first (inside G) (cells G)) (refusedAt 6 (first (undrained G) (cells G)) Accepted))
 
--- 17, with place 0, then 4 to 7
+-- 17, with place 0, then 4 to 6
 unfoldable pub outcomeFrom17 : Sheet → Outcome
 unfolding weightsFit outcomeOn
 outcomeFrom17 S =
@@ -158,13 +145,14 @@ abbrev pub ifAccepted : Outcome → List ℕ → List ℕ → List ℕ
 ifAccepted Accepted new old = written new old
 ifAccepted (Refused number place) new old = old
 
--- what the lent slices hold after labelling: areas and labels are written where it is accepted, and the first 8n work
--- places are 0 once check 3 is passed
+-- what the lent slices hold after labelling: areas, labels and basins are written where it is accepted, and the first
+-- 8n work places are 0 once check 3 is passed
 unfoldable pub lentAfter : Sheet → Lent → Lent
-unfolding outcome sheetFault slicesFit areasOf labelsOf
+unfolding outcome sheetFault slicesFit basinAreas basinLabels basinsOf
 lentAfter S L = record {
-  areas = ifAccepted (outcome S L) (areasOf S) (L .areas);
-  labels = ifAccepted (outcome S L) (labelsOf S) (L .labels);
+  areas = ifAccepted (outcome S L) (basinAreas S) (L .areas);
+  labels = ifAccepted (outcome S L) (basinLabels S) (L .labels);
+  basins = ifAccepted (outcome S L) (basinsOf (S .grid)) (L .basins);
   work =
       cond (both (eqb (faultOf S) 0) (slicesFit S L))
       (written (replicate (8 * cells (S .grid)) 0) (L .work)) (L .work);

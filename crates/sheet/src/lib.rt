@@ -32,6 +32,12 @@ pub struct Label {
     pub rest: u64,
 }
 
+// What names a unit of a sheet: the number of its basin and its label.
+pub struct UnitName {
+    pub basin: u32,
+    pub label: Label,
+}
+
 // The answer of labelling: accepted, or refused with document 01's number and place.
 pub enum Outcome {
     Accepted,

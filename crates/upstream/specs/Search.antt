@@ -8,7 +8,6 @@ use Rattle.sheet.specs.Direction.{isCode}
 use Rattle.sheet.specs.Sheet.{Grid, cells, dirAt, inside, isOutlet, next}
 use Rattle.sheet.specs.Water.{reachesOutlet}
 use Rattle.sheet.specs.Area.{count}
-use Rattle.sheet.specs.Label.{outlet}
 use Rattle.sheet.specs.Refusal.{both}
 use Rattle.upstream.specs.Work.{sizesPart, queuedAt, rankOf, receiverOf, isReached, numbered}
 
@@ -73,9 +72,3 @@ pub record Drained (G : Grid) (work : List ℕ) (queued : ℕ) : Type 0 where
   pub coded : Coded G
   pub searched : Searched G work queued
   pub all : (c : ℕ) → inside G c ≡ true → 0 < rankOf (cells G) work c
-
--- there is one outlet, and it stands first
-pub record SingleOutlet (G : Grid) (work : List ℕ) : Type 0 where
-  pub is-outlet : isOutlet G (outlet G) ≡ true
-  pub only : (c : ℕ) → isOutlet G c ≡ true → c ≡ outlet G
-  pub first : queuedAt work 0 ≡ outlet G

@@ -1,21 +1,21 @@
 -- `is_target` meets its contract.
-use mathlib.Core.Path.{sym, _∙_}
+use mathlib.Core.Path.{sym}
 use Prim.Native.Nat.{_+_, _*_}
 use native.Mathlib.Omega.{arith}
 use borrow.Author.Needs.{needs}
 use Rattle.directions.proofs.Sizes.{on-lt, on-fits}
-use Rattle.checks.proofs.Targets.{is-inside, unreached-outside, unreached-inside, outlet-before, outlet-from}
+use Rattle.checks.proofs.Targets.{is-inside, unreached-outside, unreached-inside}
 use Rattle.checks.proofs.is_target.Statement.{statement}
 use Rattle.checks.proofs.is_target.Tie as tie
 
 mul-cell : tie.Need-mul-cell
-mul-cell c = omega (arith, on-fits (c .before .before .pre .1))
+mul-cell c = omega (arith, on-fits (c .pre .1))
 
 add-cell : tie.Need-add-cell
-add-cell c = omega (arith, on-fits (c .before .before .pre .1))
+add-cell c = omega (arith, on-fits (c .pre .1))
 
 shared-slice-read-code : tie.Need-shared-slice-read-code
-shared-slice-read-code c = let p = c .before .before .before .pre in omega (arith, on-lt (p .1), p .0 .long)
+shared-slice-read-code c = let p = c .before .pre in omega (arith, on-lt (p .1), p .0 .long)
 
 enum-told : tie.Need-enum-told
 enum-told c = search needs
@@ -27,34 +27,19 @@ returns : tie.Need-returns
 returns c = rw (c .before .enum-told2 .given .1) (sym (unreached-outside _ _ _ (c .if1 .taken)))
 
 mul-result : tie.Need-mul-result
-mul-result c = omega (arith, on-fits (c .before .before .before .before .before .before .pre .1))
+mul-result c = omega (arith, on-fits (c .before .before .before .before .pre .1))
 
 shared-slice-read-result : tie.Need-shared-slice-read-result
 shared-slice-read-result c =
-    let p = c .before .before .before .before .before .before .before .pre in omega (arith, on-lt (p .1), p .2)
-
-enum-known-target : tie.Need-enum-known-target
-enum-known-target c = search needs
+    let p = c .before .before .before .before .before .pre in omega (arith, on-lt (p .1), p .2)
 
 returns-2 : tie.Need-returns-2
-returns-2 c = rw (c .before .before .target .given .1) (sym (outlet-before _ _ _ (c .if2 .taken)))
-
-is-outlet-requires : tie.Need-is-outlet-requires
-is-outlet-requires c κs = search needs
+returns-2 c = rw (c .enum-told .given .1) (sym (is-inside _ _ _ (on-lt (c .before .before .before .pre .1))))
 
 returns-3 : tie.Need-returns-3
 returns-3 c =
-    rw (c .enum-told .given .1) (sym (is-inside _ _ _ (on-lt (c .before .before .before .before .before .pre .1))))
-
-returns-4 : tie.Need-returns-4
-returns-4 c =
-    let p = c .before .before .before .before .before .before .before .pre in
+    let p = c .before .before .before .before .before .pre in
     rw (c .before .before .enum-told2 .given .1) (sym (unreached-inside _ _ _ (on-lt (p .1)) (c .before .if1 .left)))
-
-returns-5 : tie.Need-returns-5
-returns-5 c =
-    rw (c .before .before .before .target .given .1)
-    (c .is-outlet .ensures ∙ sym (outlet-from _ _ _ (c .before .if2 .left)))
 
 pub is-target-spec : {M : Type 1} → statement M
 is-target-spec =
@@ -68,9 +53,5 @@ is-target-spec =
     returns
     mul-result
     shared-slice-read-result
-    enum-known-target
     returns-2
-    is-outlet-requires
-    returns-3
-    returns-4
-    returns-5)
+    returns-3)

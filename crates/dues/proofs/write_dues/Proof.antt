@@ -1,125 +1,123 @@
 -- `write_dues` meets its contract. The loop's invariant: the dues of the units before `at` are written, whose cells are
--- those before `first`. The measure is what is left of the units.
-use Prim.Native.Nat.{_+_, _-_, _≤_}
+-- those before `first`. The measure is what is left of the cells.
+use Prim.Native.Nat.{_+_, _-_}
 use native.Mathlib.Omega.{arith}
-use lib.ListN.{length, getD}
-use Rattle.labelling.proofs.Steps.{part-is}
-use Rattle.dues.proofs.Sharing.{Sharing, sharing-starts, part-within, weight-most, product-fits, together-more}
-use Rattle.dues.proofs.Sharing.{part-weighed, sharing-goes-on, sharing-ends}
+use lib.ListN.{length}
+use Rattle.index.specs.Steps.{Group}
+use Rattle.dues.proofs.Sharing.{Sharing, sharing-starts, weight-most, product-fits, together-more, place-left}
+use Rattle.dues.proofs.Sharing.{place-few, part-weighed, sharing-goes-on, sharing-ends}
 use Rattle.dues.proofs.write_dues.Statement.{statement}
 use Rattle.dues.proofs.write_dues.Tie as tie
 use Rattle.dues.proofs.write_dues.Reads as reads
 use Rattle.dues.proofs.write_dues.Lts as lts
 use Rattle.dues.proofs.weight_of.Reads as weight-of-reads
+use Rattle.index.proofs.units.last_of_group.Reads as last-of-group-reads
 
 abbrev Inv-loop : tie.InvT-loop
-Inv-loop total whole cols weights cells counts dues₀ first₀ weight₀ owed₀ at₀ at-end dues first weight owed at =
-    Sharing total whole cols weights cells counts dues₀ dues at first weight owed
+Inv-loop total whole cols weights cells labels basins dues₀ at₀ first₀ weight₀ owed₀ dues at first weight owed =
+    Sharing total whole cols weights cells labels basins dues₀ dues at first weight owed
 
 abbrev μ-loop : tie.MeasureT-loop
-μ-loop total whole cols weights cells counts dues₀ first₀ weight₀ owed₀ at₀ at-end dues first weight owed at =
-    length counts - at
+μ-loop total whole cols weights cells labels basins dues₀ at₀ first₀ weight₀ owed₀ dues at first weight owed =
+    length cells - first
 
 loop-holds : tie.Need-loop-holds Inv-loop μ-loop
-loop-holds c = sharing-starts _ _ _ _ _ _ _ (c .before .before .before .before .pre)
+loop-holds c = sharing-starts _ _ _ _ _ _ _ _ (c .before .before .before .before .before .pre)
 
-mul-end : tie.Need-mul-end Inv-loop μ-loop
-mul-end c = omega arith
-
-shared-slice-read-end : tie.Need-shared-slice-read-end Inv-loop μ-loop
-shared-slice-read-end c = c .before .loop-test .taken
-
-cast-end : tie.Need-cast-end Inv-loop μ-loop
-cast-end c = omega (arith, c .shared-slice-known4 .given (c .before .before .loop .at))
+last-of-group-requires : tie.Need-last-of-group-requires Inv-loop μ-loop
+last-of-group-requires c κs =
+    (c .before .before .before .before .before .before .before .pre .labelled, c .loop-test .taken)
 
 -- Points of the function, each from a later one.
-abbrev start : tie.After-shared-slice-known4 Inv-loop μ-loop → tie.Start Inv-loop μ-loop
-start c = c .before .before .before .before .before .before .before
+abbrev start : tie.After-last-of-group Inv-loop μ-loop → tie.Start Inv-loop μ-loop
+start c = c .before .before .before .before .before .before .before .before
 
-abbrev after-shared-slice-known4 : tie.After-weight-of Inv-loop μ-loop → tie.After-shared-slice-known4 Inv-loop μ-loop
-after-shared-slice-known4 c = c .before .before
+abbrev after-last-of-group : tie.After-weight-of Inv-loop μ-loop → tie.After-last-of-group Inv-loop μ-loop
+after-last-of-group c = c .before .before
 
-within : (c : tie.After-shared-slice-known4 Inv-loop μ-loop)
-    → c .before .before .loop .first + getD ((start c) .args .counts .now) (c .before .before .loop .at) 0
-    ≤ length ((start c) .args .cells .now)
-within c = part-within _ _ _ _ _ _ _ ((start c) .pre) (c .before .before .loop .inv) (c .before .loop-test .taken)
+-- the group that begins at `first`
+group : (c : tie.After-last-of-group Inv-loop μ-loop)
+    → let a = (start c) .args in
+    Group (a .cells .now) (a .labels .now) (a .basins .now) (c .before .before .loop .first) (c .last-of-group .result)
+group c = c .last-of-group .ensures
 
 add-end : tie.Need-add-end Inv-loop μ-loop
-add-end c = omega (arith, within c)
+add-end c = omega (arith, group c .to)
 
 mul-weight-of : tie.Need-mul-weight-of Inv-loop μ-loop
-mul-weight-of c = omega (arith, within c)
+mul-weight-of c = omega (arith, group c .to)
 
 sub-weight-of : tie.Need-sub-weight-of Inv-loop μ-loop
-sub-weight-of c = omega arith
+sub-weight-of c = omega (arith, group c .from)
 
 part-weight-of-start : tie.Need-part-weight-of-start Inv-loop μ-loop
-part-weight-of-start c = omega arith
+part-weight-of-start c = omega (arith, group c .from)
 
 part-weight-of-end : tie.Need-part-weight-of-end Inv-loop μ-loop
-part-weight-of-end c = within c
+part-weight-of-end c = omega (arith, group c .to)
 
 weight-of-requires : tie.Need-weight-of-requires Inv-loop μ-loop
 weight-of-requires c κs =
     let d = c .before in
+    let g = group d in
     let k = d .before .before .loop .first in
-    let m = getD ((start d) .args .counts .now) (d .before .before .loop .at) 0 in
-    rw (part-is k m) (part-weighed k m ((start d) .pre .weighed) (within d))
+    part-weighed k (d .last-of-group .result + 1 - k) ((start d) .pre .weighed) (omega (arith, g .from, g .to))
 
 add-weight : tie.Need-add-weight Inv-loop μ-loop
 add-weight c =
-    let d = after-shared-slice-known4 c in
-    let e = rw (part-is _ _) at (c .weight-of .ensures) in
-    let m = weight-most _ _ _ _ _ _ _ ((start d) .pre) (d .before .before .loop .inv) (d .before .loop-test .taken) in
-    omega (arith, e, m)
+    let d = after-last-of-group c in
+    let m = weight-most _ _ _ _ _ _ _ _ ((start d) .pre) (d .before .before .loop .inv) (group d) in
+    omega (arith, c .weight-of .ensures, m)
 
 mul-together : tie.Need-mul-together Inv-loop μ-loop
 mul-together c =
-    let d = after-shared-slice-known4 c in
-    let e = rw (part-is _ _) at (c .weight-of .ensures) in
-    let m = product-fits _ _ _ _ _ _ _ ((start d) .pre) (d .before .before .loop .inv) (d .before .loop-test .taken) in
-    rw e (omega (arith, m))
+    let d = after-last-of-group c in
+    let m = product-fits _ _ _ _ _ _ _ _ ((start d) .pre) (d .before .before .loop .inv) (group d) in
+    rw (c .weight-of .ensures) (omega (arith, m))
 
 div-together : tie.Need-div-together Inv-loop μ-loop
-div-together c = omega (arith, (start (after-shared-slice-known4 c)) .pre .whole-some)
+div-together c = omega (arith, (start (after-last-of-group c)) .pre .whole-some)
 
 sub-dues : tie.Need-sub-dues Inv-loop μ-loop
 sub-dues c =
-    let d = after-shared-slice-known4 c in
-    let e = rw (part-is _ _) at (c .weight-of .ensures) in
-    rw e (together-more _ _ _ _ _ _ _ ((start d) .pre) (d .before .before .loop .inv) (d .before .loop-test .taken))
+    let d = after-last-of-group c in
+    rw (c .weight-of .ensures)
+    (together-more _ _ _ _ _ _ _ _ ((start d) .pre) (d .before .before .loop .inv) (group d))
 
 mul-dues : tie.Need-mul-dues Inv-loop μ-loop
 mul-dues c =
-    let d = after-shared-slice-known4 c in
-    omega (arith, d .before .loop-test .taken, (start d) .pre .room, d .before .before .loop .inv .same-length)
+    let d = after-last-of-group c in
+    let m = place-few _ _ _ _ _ _ _ _ ((start d) .pre) (d .before .before .loop .inv) (group d) in
+    omega (arith, m, (start d) .pre .labelled .few)
 
 slice-write-dues : tie.Need-slice-write-dues Inv-loop μ-loop
 slice-write-dues c =
-    let d = after-shared-slice-known4 c in
-    omega (arith, d .before .loop-test .taken, (start d) .pre .room, d .before .before .loop .inv .same-length)
+    let d = after-last-of-group c in
+    omega (arith, place-left _ _ _ _ _ _ _ _ ((start d) .pre) (d .before .before .loop .inv) (group d))
 
 add-at : tie.Need-add-at Inv-loop μ-loop
-add-at c = omega arith
+add-at c =
+    let d = after-last-of-group c in
+    let m = place-few _ _ _ _ _ _ _ _ ((start d) .pre) (d .before .before .loop .inv) (group d) in
+    omega (arith, m, (start d) .pre .labelled .few)
 
 loop-less : tie.Need-loop-less Inv-loop μ-loop
-loop-less c = omega arith
+loop-less c =
+    let g = group (after-last-of-group c) in omega (arith, g .from, g .to)
 
 loop-again : tie.Need-loop-again Inv-loop μ-loop
 loop-again c =
-    let d = after-shared-slice-known4 c in
-    let k = d .before .before .loop .first in
-    let m = getD ((start d) .args .counts .now) (d .before .before .loop .at) 0 in
-    let e = rw (part-is k m) at (c .weight-of .ensures) in
-    rw e (sharing-goes-on _ _ _ _ _ _ _ ((start d) .pre) (d .before .before .loop .inv) (d .before .loop-test .taken))
+    let d = after-last-of-group c in
+    rw (c .weight-of .ensures)
+    (sharing-goes-on _ _ _ _ _ _ _ _ ((start d) .pre) (d .before .before .loop .inv) (group d))
 
 same-length : tie.Need-same-length Inv-loop μ-loop
 same-length c = c .before .loop .inv .same-length
 
 returns : tie.Need-returns Inv-loop μ-loop
 returns c =
-    sharing-ends _ _ _ _ _ _ _ (c .before .before .before .before .before .before .pre) (c .before .loop .inv)
-    (c .loop-test .left)
+    sharing-ends _ _ _ _ _ _ _ _ (c .before .before .before .before .before .before .before .pre)
+    (c .before .loop .inv) (c .loop-test .left)
 
 pub write-dues-spec : {M : Type 1} → statement M
 write-dues-spec =
@@ -128,9 +126,7 @@ write-dues-spec =
     Inv-loop
     μ-loop
     loop-holds
-    mul-end
-    shared-slice-read-end
-    cast-end
+    last-of-group-requires
     add-end
     mul-weight-of
     sub-weight-of

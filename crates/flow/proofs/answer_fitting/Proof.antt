@@ -2,10 +2,11 @@
 use native.Mathlib.Omega.{arith}
 use mathlib.Core.Path.{_≡_, sym, _∙_}
 use mathlib.Core.List.{List}
-use Prim.Native.Nat.{ℕ, _≤_}
-use lib.ListN.{replicate}
+use Prim.Native.Nat.{ℕ, _-_, _≤_}
+use lib.ListN.{replicate, take, drop}
 use borrow.Author.Needs.{needs}
 use Rattle.sheet.specs.declared.Found.the-variants.{At}
+use Rattle.sheet.specs.Record.{digitsOf}
 use Rattle.digits.specs.LastPlaces.{labelStart}
 use Rattle.digits.proofs.LabelPlaces.{found-label, found-within, found-digits, found-none}
 use Rattle.flow.proofs.Judged.{p-refused}
@@ -28,11 +29,19 @@ abbrev startAt : tie.After-known-told → ℕ
 startAt c = c .before .start .given .0 .0
 
 found : (c : tie.After-known-told)
-    → labelStart ((start (after-put-label c)) .args .depth) ((start (after-put-label c)) .args .p) 36 ≡ At (startAt c)
+    → let a = (start (after-put-label c)) .args in labelStart (a .depth) (a .p .label) 36 ≡ At (startAt c)
 found c = sym ((after-put-label c) .put-label .ensures .0) ∙ c .before .start .given .1
 
 within : (c : tie.After-known-told) → startAt c ≤ 36
 within c = found-within _ _ _ _ (found c)
+
+-- what stands in the places from there on
+p-digits : (c : tie.After-known-told)
+    → take (36 - startAt c) (drop (startAt c) ((after-put-label c) .put-label .last .1 .1 .0))
+    ≡ digitsOf ((start (after-put-label c)) .args .p .label)
+p-digits c =
+    found-digits _ _ places _ _ (omega arith) (omega arith) (omega arith) (found c)
+    ((after-put-label c) .put-label .ensures .1)
 
 slice-aggregate-put-label : tie.Need-slice-aggregate-put-label
 slice-aggregate-put-label c = search needs
@@ -58,13 +67,7 @@ part-answer-by-digits-end c = search needs
 answer-by-digits-requires : tie.Need-answer-by-digits-requires
 answer-by-digits-requires c κs =
     let told = c .before .before in
-    let put = (after-put-label told) .put-label .ensures .1 in (
-      (start (after-put-label told)) .pre,
-      (
-        found-label _ _ _ _ (found told),
-        found-digits _ _ places _ _ (omega arith) (omega arith) (omega arith) (found told) put,
-      ),
-    )
+    ((start (after-put-label told)) .pre, (found-label _ _ _ _ (found told), p-digits told))
 
 returns : tie.Need-returns
 returns c =

@@ -20,35 +20,39 @@ use Rattle.index.proofs.index_fitting.Reads as index-fitting-reads
 use Rattle.labelling.proofs.first_checks.Reads as first-checks-reads
 
 -- Points of the function, each from a later one.
-abbrev start : tie.After-slice-known3 → tie.Start
-start c = c .before .before .before .before .before
+abbrev start : tie.After-slice-known4 → tie.Start
+start c = c .before .before .before .before .before .before
 
-abbrev after-slice-known3 : tie.After-first-checks → tie.After-slice-known3
-after-slice-known3 c = c .before .before .before .before
+abbrev after-slice-known4 : tie.After-first-checks → tie.After-slice-known4
+after-slice-known4 c = c .before .before .before .before .before
 
 abbrev after-first-checks : tie.After-enum-told → tie.After-first-checks
 after-first-checks c = c .before .before
 
-abbrev after-enum-told : tie.After-index-fitting-arg6 → tie.After-enum-told
-after-enum-told c = c .before .before .before .before .before .before
+abbrev after-enum-told : tie.After-index-fitting-arg8 → tie.After-enum-told
+after-enum-told c = c .before .before .before .before .before .before .before .before
 
 abbrev after-index-fitting : tie.After-work → tie.After-index-fitting
-after-index-fitting c = c .before .before .before .before .before
+after-index-fitting c = c .before .before .before .before .before .before .before
 
-abbrev after-work : tie.After-slice-known12 → tie.After-work
-after-work c = c .before .before .before .before .before .before .before
+abbrev after-work : tie.After-slice-known16 → tie.After-work
+after-work c = c .before .before .before .before .before .before .before .before .before
 
 -- the sheet and what is lent
 abbrev S : tie.After-first-checks → Sheet
 S c =
-    let a = (start (after-slice-known3 c)) .args in
+    let a = (start (after-slice-known4 c)) .args in
     sheet (a .rows) (a .cols) (a .depth) (a .least) (a .split) (a .dirs .now) (a .weights .now)
 
 abbrev L : tie.After-first-checks → Lent
-L c = let a = (start (after-slice-known3 c)) .args in lent (a .areas .now) (a .labels .now) (a .work .now)
+L c =
+    let a = (start (after-slice-known4 c)) .args in
+    lent (a .areas .now) (a .labels .now) (a .basins .now) (a .work .now)
 
 abbrev I : tie.After-first-checks → LentIndex
-I c = let a = (start (after-slice-known3 c)) .args in lentIndex (a .units .now) (a .outlets .now) (a .counts .now)
+I c =
+    let a = (start (after-slice-known4 c)) .args in
+    lentIndex (a .units .now) (a .outlets .now) (a .counts .now) (a .unit-basins .now)
 
 passed : (c : tie.After-enum-told) → firstChecks (S (after-first-checks c)) (L (after-first-checks c)) ≡ Accepted
 passed c = sym ((after-first-checks c) .first-checks .ensures) ∙ c .enum-told .given .1
@@ -73,11 +77,11 @@ mul-places-2 : tie.Need-mul-places-2
 mul-places-2 c = omega (arith, few c)
 
 slice-relend-prefix-index-fitting : tie.Need-slice-relend-prefix-index-fitting
-slice-relend-prefix-index-fitting c = enough (c .before .before)
+slice-relend-prefix-index-fitting c = enough (c .before .before .before)
 
 slice-aggregate-index-fitting : tie.Need-slice-aggregate-index-fitting
 slice-aggregate-index-fitting c =
-    let e = c .before .before .before in
+    let e = c .before .before .before .before in
     let d = after-first-checks e in
     sym (length-take-le (8 * cells (S d .grid)) (L d .work) (enough e))
 
@@ -106,6 +110,12 @@ same-length-5 c = search needs
 
 same-length-6 : tie.Need-same-length-6
 same-length-6 c = search needs
+
+same-length-7 : tie.Need-same-length-7
+same-length-7 c = search needs
+
+same-length-8 : tie.Need-same-length-8
+same-length-8 c = search needs
 
 returns : tie.Need-returns
 returns c =
@@ -137,5 +147,7 @@ index-spec =
     same-length-4
     same-length-5
     same-length-6
+    same-length-7
+    same-length-8
     returns
     returns-2)

@@ -16,37 +16,41 @@ use Rattle.labelling.proofs.clear_places.Reads as clear-places-reads
 use Rattle.labelling.proofs.label_in_order.Reads as label-in-order-reads
 
 -- Points of the function, each from a later one.
-abbrev start : tie.After-slice-known3 → tie.Start
-start c = c .before .before .before .before .before
+abbrev start : tie.After-slice-known4 → tie.Start
+start c = c .before .before .before .before .before .before
 
-abbrev after-slice-known3 : tie.After-label-in-order → tie.After-slice-known3
-after-slice-known3 c = c .before .before .before .before .before .before .before
+abbrev after-slice-known4 : tie.After-label-in-order → tie.After-slice-known4
+after-slice-known4 c = c .before .before .before .before .before .before .before .before .before
 
-abbrev after-label-in-order : tie.After-slice-known9 → tie.After-label-in-order
-after-label-in-order c = c .before .before .before .before .before .before
+abbrev after-label-in-order : tie.After-slice-known12 → tie.After-label-in-order
+after-label-in-order c = c .before .before .before .before .before .before .before .before
 
-abbrev after-slice-known9 : tie.After-index-in-order → tie.After-slice-known9
-after-slice-known9 c = c .before .before .before .before .before .before
+abbrev after-slice-known12 : tie.After-index-in-order → tie.After-slice-known12
+after-slice-known12 c = c .before .before .before .before .before .before .before .before
 
 abbrev after-index-in-order : tie.After-clear-places-arg → tie.After-index-in-order
-after-index-in-order c = c .before .before .before .before .before .before .before
+after-index-in-order c = c .before .before .before .before .before .before .before .before .before
 
-abbrev after-clear-places : tie.After-slice-known13 → tie.After-clear-places
+abbrev after-clear-places : tie.After-slice-known17 → tie.After-clear-places
 after-clear-places c = c .before .before
 
 label-in-order-requires : tie.Need-label-in-order-requires
-label-in-order-requires c κs = (start (c .before .before .before .before .before .before)) .pre .0
+label-in-order-requires c κs = (start (c .before .before .before .before .before .before .before .before)) .pre .0
 
 mul-index-in-order : tie.Need-mul-index-in-order
-mul-index-in-order c = search needs
+mul-index-in-order c =
+    let p = (start (after-slice-known4 (after-label-in-order c))) .pre .0 in
+    omega (arith, cells-most (p .sized .rows-most) (p .sized .cols-most))
 
 index-in-order-requires : tie.Need-index-in-order-requires
 index-in-order-requires c κs =
-    let l = after-label-in-order (c .before .before .before .before .before) in
+    let l = after-label-in-order (c .before .before .before .before .before .before .before) in
     let f = l .label-in-order in
-    let p = (start (after-slice-known3 l)) .pre .0 in λ e.
-    in-order (cells-most (p .sized .rows-most) (p .sized .cols-most)) (f .kept .1 .1 .1 .1 .1 .1 .1 .1 .1 .0 ∙ p .work)
-    (omega (arith, ap labelPlaces (f .kept .1 .1 .1 .1 .1 .1 .1 .1 .0), p .labels)) (f .ensures .order e)
+    let p = (start (after-slice-known4 l)) .pre .0 in λ e.
+    in-order (cells-most (p .sized .rows-most) (p .sized .cols-most))
+    (f .kept .1 .1 .1 .1 .1 .1 .1 .1 .1 .1 .0 ∙ p .work)
+    (omega (arith, ap labelPlaces (f .kept .1 .1 .1 .1 .1 .1 .1 .1 .0), p .labels))
+    (omega (arith, f .kept .1 .1 .1 .1 .1 .1 .1 .1 .1 .0, p .basins)) (f .ensures .order e)
 
 clear-places-requires : tie.Need-clear-places-requires
 clear-places-requires c κs = search needs
@@ -69,15 +73,21 @@ same-length-5 c = search needs
 same-length-6 : tie.Need-same-length-6
 same-length-6 c = search needs
 
+same-length-7 : tie.Need-same-length-7
+same-length-7 c = search needs
+
+same-length-8 : tie.Need-same-length-8
+same-length-8 c = search needs
+
 returns : tie.Need-returns
 returns c =
     let i = after-index-in-order ((after-clear-places c) .before) in
-    let l = after-label-in-order (after-slice-known9 i) in
+    let l = after-label-in-order (after-slice-known12 i) in
     let f = l .label-in-order in
-    let p = (start (after-slice-known3 l)) .pre in
+    let p = (start (after-slice-known4 l)) .pre in
     indexed-fitting _ _ (p .1) (f .ensures) _ (i .index-in-order .ensures .0) (i .index-in-order .ensures .1)
     ((after-clear-places c) .clear-places .ensures ∙
-    ap (λ (k : ℕ). replicate k 0) (f .kept .1 .1 .1 .1 .1 .1 .1 .1 .1 .0 ∙ p .0 .work))
+    ap (λ (k : ℕ). replicate k 0) (f .kept .1 .1 .1 .1 .1 .1 .1 .1 .1 .1 .0 ∙ p .0 .work))
 
 pub index-fitting-spec : {M : Type 1} → statement M
 index-fitting-spec =
@@ -93,4 +103,6 @@ index-fitting-spec =
     same-length-4
     same-length-5
     same-length-6
+    same-length-7
+    same-length-8
     returns)

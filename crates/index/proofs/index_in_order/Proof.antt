@@ -15,17 +15,17 @@ use Rattle.index.proofs.units.write_units.Reads as write-units-reads
 
 -- Points of the function, each from a later one.
 abbrev start : tie.After-enum-told → tie.Start
-start c = c .before .before .before .before .before .before .before
+start c = c .before .before .before .before .before .before .before .before .before
 
-abbrev after-enum-told : tie.After-write-units-arg4 → tie.After-enum-told
-after-enum-told c = c .before .before .before .before
+abbrev after-enum-told : tie.After-write-units-arg5 → tie.After-enum-told
+after-enum-told c = c .before .before .before .before .before
 
-abbrev after-write-units : tie.After-slice-known6 → tie.After-write-units
-after-write-units c = c .before .before .before .before .before .before
+abbrev after-write-units : tie.After-slice-known8 → tie.After-write-units
+after-write-units c = c .before .before .before .before .before .before .before .before
 
 -- what stands in the work places of an accepted sheet
 stands : (c : tie.After-enum-told) → InOrder ((start c) .args .n) ((start c) .args .work .now)
-    ((start c) .args .labels .now) ((start c) .args .found .queued)
+    ((start c) .args .labels .now) ((start c) .args .basins .now) ((start c) .args .found .queued)
 stands c = (start c) .pre (c .enum-told .given .1)
 
 enum-told : tie.Need-enum-told
@@ -66,6 +66,9 @@ same-length-2 c = search needs
 same-length-3 : tie.Need-same-length-3
 same-length-3 c = search needs
 
+same-length-4 : tie.Need-same-length-4
+same-length-4 c = search needs
+
 returns : tie.Need-returns
 unfolding indexedOn
 returns c =
@@ -94,5 +97,6 @@ index-in-order-spec =
     same-length
     same-length-2
     same-length-3
+    same-length-4
     returns
     returns-2)

@@ -20,13 +20,13 @@ use Rattle.labelling.proofs.label_fitting.Reads as label-fitting-reads
 
 -- Points of the function, each from a later one.
 abbrev start : tie.After-first-checks → tie.Start
-start c = c .before .before .before .before .before .before
+start c = c .before .before .before .before .before .before .before
 
 abbrev after-first-checks : tie.After-enum-told → tie.After-first-checks
 after-first-checks c = c .before .before
 
-abbrev after-enum-told : tie.After-label-fitting-arg3 → tie.After-enum-told
-after-enum-told c = c .before .before .before
+abbrev after-enum-told : tie.After-label-fitting-arg4 → tie.After-enum-told
+after-enum-told c = c .before .before .before .before
 
 -- the sheet and what is lent
 abbrev S : tie.After-first-checks → Sheet
@@ -34,7 +34,7 @@ S c = let a = (start c) .args in sheet (a .rows) (a .cols) (a .depth) (a .least)
     (a .weights .now)
 
 abbrev L : tie.After-first-checks → Lent
-L c = let a = (start c) .args in lent (a .areas .now) (a .labels .now) (a .work .now)
+L c = let a = (start c) .args in lent (a .areas .now) (a .labels .now) (a .basins .now) (a .work .now)
 
 passed : (c : tie.After-enum-told) → firstChecks (S (after-first-checks c)) (L (after-first-checks c)) ≡ Accepted
 passed c = sym ((after-first-checks c) .first-checks .ensures) ∙ c .enum-told .given .1
@@ -59,7 +59,7 @@ mul-places-2 : tie.Need-mul-places-2
 mul-places-2 c = omega (arith, few c)
 
 slice-relend-prefix-label-fitting : tie.Need-slice-relend-prefix-label-fitting
-slice-relend-prefix-label-fitting c = enough (c .before .before)
+slice-relend-prefix-label-fitting c = enough (c .before .before .before)
 
 slice-aggregate-label-fitting : tie.Need-slice-aggregate-label-fitting
 slice-aggregate-label-fitting c =
@@ -82,13 +82,16 @@ same-length-2 c = search needs
 same-length-3 : tie.Need-same-length-3
 same-length-3 c = search needs
 
+same-length-4 : tie.Need-same-length-4
+same-length-4 c = search needs
+
 returns : tie.Need-returns
 returns c =
-    let e = after-enum-told (c .before .before .before .before .before .before .before) in
+    let e = after-enum-told (c .before .before .before .before .before .before .before .before .before) in
     let d = after-first-checks e in
-    let f = c .before .before .before .before .before .before .label-fitting .ensures in
-    labelled (S d) (L d) (passed e) (f .0) (f .1 .0) (f .1 .1 .0)
-    (ap (λ (w : List ℕ). w ++ drop (8 * cells (S d .grid)) (L d .work)) (f .1 .1 .1))
+    let f = c .before .before .before .before .before .before .before .before .label-fitting .ensures in
+    labelled (S d) (L d) (passed e) (f .0) (f .1 .0) (f .1 .1 .0) (f .1 .1 .1 .0)
+    (ap (λ (w : List ℕ). w ++ drop (8 * cells (S d .grid)) (L d .work)) (f .1 .1 .1 .1))
 
 returns-2 : tie.Need-returns-2
 returns-2 c =
@@ -110,5 +113,6 @@ label-spec =
     same-length
     same-length-2
     same-length-3
+    same-length-4
     returns
     returns-2)

@@ -13,13 +13,13 @@ use Rattle.labelling.proofs.write_if_accepted.Reads as write-if-accepte
 
 -- Points of the function, each from a later one.
 abbrev start : tie.After-clear-places → tie.Start
-start c = c .before .before .before .before .before .before .before
+start c = c .before .before .before .before .before .before .before .before
 
 abbrev after-clear-places : tie.After-inspect-sheet → tie.After-clear-places
 after-clear-places c = c .before .before .before .before
 
 abbrev after-inspect-sheet : tie.After-write-if-accepted → tie.After-inspect-sheet
-after-inspect-sheet c = c .before .before .before .before .before .before
+after-inspect-sheet c = c .before .before .before .before .before .before .before
 
 mul-n : tie.Need-mul-n
 mul-n c = search needs
@@ -56,7 +56,7 @@ inspect-sheet-requires c κs =
 
 write-if-accepted-requires : tie.Need-write-if-accepted-requires
 write-if-accepted-requires c κs =
-    let i = c .before .before .before .before .before in
+    let i = c .before .before .before .before .before .before in
     let a = after-clear-places i in
     let s = start a in (
       other-work (s .pre)
@@ -75,16 +75,20 @@ same-length-2 c = search needs
 same-length-3 : tie.Need-same-length-3
 same-length-3 c = search needs
 
+same-length-4 : tie.Need-same-length-4
+same-length-4 c = search needs
+
 returns : tie.Need-returns
 returns c =
-    let w = c .before .before .before .before .before .before .write-if-accepted .ensures in
+    let b = c .before .before .before .before .before .before .before .before in
+    let w = b .write-if-accepted .ensures in
     record {
       outcome =
-          (after-inspect-sheet (c .before .before .before .before .before .before)) .inspect-sheet .ensures _ _ _
-          .outcome;
+          (after-inspect-sheet b) .inspect-sheet .ensures _ _ _ .outcome;
       areas = w .0;
       labels = w .1 .0;
-      order = w .1 .1;
+      basins = w .1 .1 .0;
+      order = w .1 .1 .1;
     }
 
 pub label-in-order-spec : {M : Type 1} → statement M
@@ -104,4 +108,5 @@ label-in-order-spec =
     same-length
     same-length-2
     same-length-3
+    same-length-4
     returns)

@@ -27,19 +27,32 @@ returns-4 c =
           (labelPlaces (c .before .before .before .before .args .labels)) (omega (arith, c .if4 .taken)),
     )
 
-mul-result : tie.Need-mul-result
-mul-result c = search needs
-
 returns-5 : tie.Need-returns-5
 unfolding labelPlaces
 returns-5 c =
     simp (
-      le-leb _ _ (c .before .before .before .if1 .left),
-      le-leb _ _ (c .before .before .if2 .left),
-      le-leb _ _ (c .before .if3 .left),
-      le-leb (c .before .before .before .before .args .n)
-          (labelPlaces (c .before .before .before .before .args .labels)) (omega (arith, c .if4 .left)),
+      le-leb _ _ (c .before .before .before .before .if1 .left),
+      le-leb _ _ (c .before .before .before .if2 .left),
+      le-leb _ _ (c .before .before .if3 .left),
+      le-leb (c .before .before .before .before .before .args .n)
+          (labelPlaces (c .before .before .before .before .before .args .labels)) (omega (arith, c .before .if4 .left)),
+      lt-leb _ _ (c .if5 .taken),
+    )
+
+mul-result : tie.Need-mul-result
+mul-result c = search needs
+
+returns-6 : tie.Need-returns-6
+unfolding labelPlaces
+returns-6 c =
+    simp (
+      le-leb _ _ (c .before .before .before .before .if1 .left),
+      le-leb _ _ (c .before .before .before .if2 .left),
+      le-leb _ _ (c .before .before .if3 .left),
+      le-leb (c .before .before .before .before .before .args .n)
+          (labelPlaces (c .before .before .before .before .before .args .labels)) (omega (arith, c .before .if4 .left)),
+      le-leb _ _ (c .if5 .left),
     )
 
 pub slices-fit-spec : {M : Type 1} → statement M
-slices-fit-spec = tie.close (tie.spec returns returns-2 returns-3 returns-4 mul-result returns-5)
+slices-fit-spec = tie.close (tie.spec returns returns-2 returns-3 returns-4 returns-5 mul-result returns-6)

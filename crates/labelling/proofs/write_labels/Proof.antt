@@ -8,8 +8,8 @@ use Rattle.sheet.proofs.Cells.{cells-most}
 use Rattle.sheet.proofs.Slices.{places-enough}
 use Rattle.upstream.specs.Work.{cellsPart, orderedSizesPart}
 use Rattle.labelling.specs.Labelling.{sheet}
-use Rattle.labelling.proofs.Steps.{queued-most, surveyed, part-is, network-in, network-of, places, some-cell}
-use Rattle.labelling.proofs.Steps.{labels-written, weighted, rest-accepted}
+use Rattle.labelling.proofs.Steps.{queued-most, surveyed, part-is, network-in, basins-of, places, layout-in}
+use Rattle.labelling.proofs.Steps.{labels-written, basins-written, weighted, rest-accepted}
 use Rattle.labelling.proofs.write_labels.Statement.{statement}
 use Rattle.labelling.proofs.write_labels.Tie as tie
 use Rattle.labelling.proofs.write_labels.Reads as reads
@@ -17,39 +17,47 @@ use Rattle.labelling.proofs.write_labels.Lts as lts
 use Rattle.drainage.proofs.measure.measure.Reads as measure-reads
 use Rattle.labelling.proofs.clear_labels.Reads as clear-labels-reads
 use Rattle.order.proofs.positions.arrange.Reads as arrange-reads
-use Rattle.rivers.proofs.units.label_basin.Reads as label-basin-reads
+use Rattle.labelling.proofs.clear_basins.Reads as clear-basins-reads
+use Rattle.labelling.proofs.basins.label_basins.Reads as label-basins-reads
 
 -- Points of the function, each from a later one.
 abbrev start : tie.After-clear-labels → tie.Start
-start c = c .before .before .before .before .before .before .before
+start c = c .before .before .before .before .before .before .before .before
 
-abbrev after-clear-labels : tie.After-measure → tie.After-clear-labels
-after-clear-labels c = c .before .before .before .before .before
+abbrev after-clear-labels : tie.After-clear-basins → tie.After-clear-labels
+after-clear-labels c = c .before .before .before .before
+
+abbrev after-clear-basins : tie.After-measure → tie.After-clear-basins
+after-clear-basins c = c .before .before .before .before .before
 
 abbrev after-measure : tie.After-arrange → tie.After-measure
 after-measure c = c .before .before .before .before .before .before .before
 
 abbrev first : tie.After-arrange → tie.Start
-first c = start (after-clear-labels (after-measure c))
+first c = start (after-clear-labels (after-clear-basins (after-measure c)))
 
-abbrev after-arrange : tie.After-label-basin → tie.After-arrange
-after-arrange c = c .before .before .before .before .before .before .before .before
+abbrev after-arrange : tie.After-label-basins → tie.After-arrange
+after-arrange c = c .before .before .before .before .before .before .before .before .before
 
 mul-n : tie.Need-mul-n
 mul-n c = search needs
 
 mul-clear-labels : tie.Need-mul-clear-labels
 mul-clear-labels c =
-    let p = c .before .before .before .before .before .before .pre in
+    let p = c .before .before .before .before .before .before .before .pre in
     omega (arith, cells-most (p .0 .sized .rows-most) (p .0 .sized .cols-most))
 
 clear-labels-requires : tie.Need-clear-labels-requires
 clear-labels-requires c κs =
-    let p = c .before .before .before .before .before .before .pre in omega (arith, places-enough _ _ (p .0 .labels))
+    let p = c .before .before .before .before .before .before .before .pre in
+    omega (arith, places-enough _ _ (p .0 .labels))
+
+clear-basins-requires : tie.Need-clear-basins-requires
+clear-basins-requires c κs = (start (c .before .before .before)) .pre .0 .basins
 
 measure-requires : tie.Need-measure-requires
 measure-requires c κs =
-    let s = start (c .before .before .before .before) in
+    let s = start (after-clear-labels (c .before .before .before .before)) in
     let p = s .pre in
     let a = s .args in
     let S = sheet (a .rows) (a .cols) (a .depth) (a .least) (a .split) (a .dirs .now) (a .weights .now) in
@@ -58,12 +66,12 @@ measure-requires c κs =
 arrange-requires : tie.Need-arrange-requires
 arrange-requires c κs =
     let m = c .before .before .before .before .before .before in
-    let p = (start (after-clear-labels m)) .pre in
+    let p = (start (after-clear-labels (after-clear-basins m))) .pre in
     surveyed (p .0) (p .1) (m .measure .ensures .0) (m .measure .ensures .1 _ refl refl)
     (m .measure .kept .1 .1 .1 .1 .0)
 
 -- so few cells that multiples of their number fit
-few : (c : tie.After-slice-known7) → let a = (first (c .before .before)) .args in a .rows * a .cols ≤ 65536
+few : (c : tie.After-slice-known9) → let a = (first (c .before .before)) .args in a .rows * a .cols ≤ 65536
 few c =
     let p = (first (c .before .before)) .pre in cells-most (p .0 .sized .rows-most) (p .0 .sized .cols-most)
 
@@ -84,20 +92,20 @@ add-sizes-end c =
     omega (arith, queued-most (p .1 .drained), cells-most (p .0 .sized .rows-most) (p .0 .sized .cols-most))
 
 -- least fits 32 bits
-cast-label-basin : tie.Need-cast-label-basin
-cast-label-basin c = let p = (first (c .before .before)) .pre in omega (arith, p .0 .least-most)
+cast-label-basins : tie.Need-cast-label-basins
+cast-label-basins c = let p = (first (c .before .before)) .pre in omega (arith, p .0 .least-most)
 
-mul-label-basin : tie.Need-mul-label-basin
-mul-label-basin c = omega (arith, few c)
+mul-label-basins : tie.Need-mul-label-basins
+mul-label-basins c = omega (arith, few c)
 
-sub-label-basin : tie.Need-sub-label-basin
-sub-label-basin c = search needs
+sub-label-basins : tie.Need-sub-label-basins
+sub-label-basins c = search needs
 
-part-label-basin-start : tie.Need-part-label-basin-start
-part-label-basin-start c = search needs
+part-label-basins-start : tie.Need-part-label-basins-start
+part-label-basins-start c = search needs
 
-part-label-basin-end : tie.Need-part-label-basin-end
-part-label-basin-end c =
+part-label-basins-end : tie.Need-part-label-basins-end
+part-label-basins-end c =
     let o = c .before .before .before in
     let p = (first o) .pre in
     omega (
@@ -108,19 +116,19 @@ part-label-basin-end c =
       o .arrange .kept .1 .1 .1 .1 .1 .0,
     )
 
-mul-label-basin-2 : tie.Need-mul-label-basin-2
-mul-label-basin-2 c =
+mul-label-basins-2 : tie.Need-mul-label-basins-2
+mul-label-basins-2 c =
     let p = (first (c .before .before .before .before)) .pre in
     omega (arith, cells-most (p .0 .sized .rows-most) (p .0 .sized .cols-most))
 
-sub-label-basin-2 : tie.Need-sub-label-basin-2
-sub-label-basin-2 c = search needs
+sub-label-basins-2 : tie.Need-sub-label-basins-2
+sub-label-basins-2 c = search needs
 
-part-label-basin-start-2 : tie.Need-part-label-basin-start-2
-part-label-basin-start-2 c = search needs
+part-label-basins-start-2 : tie.Need-part-label-basins-start-2
+part-label-basins-start-2 c = search needs
 
-part-label-basin-end-2 : tie.Need-part-label-basin-end-2
-part-label-basin-end-2 c =
+part-label-basins-end-2 : tie.Need-part-label-basins-end-2
+part-label-basins-end-2 c =
     let o = c .before .before .before .before in
     let p = (first o) .pre in
     omega (
@@ -131,11 +139,18 @@ part-label-basin-end-2 c =
       o .arrange .kept .1 .1 .1 .1 .1 .0,
     )
 
-label-basin-requires : tie.Need-label-basin-requires
-label-basin-requires c κs =
-    let o = c .before .before .before .before .before .before .before in
+-- the sheet, and that at most 65,536 cells are queued
+most : (c : tie.After-arrange) → (first c) .args .queued ≤ 65536
+most c =
+    let p = (first c) .pre in
+    omega (arith, queued-most (p .1 .drained), cells-most (p .0 .sized .rows-most) (p .0 .sized .cols-most))
+
+label-basins-requires : tie.Need-label-basins-requires
+label-basins-requires c κs =
+    let o = c .before .before .before .before .before .before .before .before in
     let m = after-measure o in
-    let l = after-clear-labels m in
+    let k = after-clear-basins m in
+    let l = after-clear-labels k in
     let p = (start l) .pre in
     let a = (start l) .args in
     let n = a .rows * a .cols in
@@ -144,16 +159,13 @@ label-basin-requires c κs =
     let e = network-in S (a .areas .now) (m .measure .ensures .1 S refl refl) in
     let r = o .arrange .ensures .0 in
     rw (part-is (cellsPart * n) (a .queued), part-is (orderedSizesPart * n) (a .queued)) (
-      p .0 .depth-most,
+      basins-of S accepted e r (p .0 .depth-most) (most o),
       (
-        some-cell S accepted e r,
-        (
-          network-of S accepted e r,
-          places S accepted e r _ _
-              (omega (arith, p .0 .areas, m .measure .kept .1 .1 .1 .1 .1 .1 .0))
-              (omega (arith, p .0 .labels, ap labelPlaces (l .clear-labels .kept .0)))
-              (p .0 .split-some) (p .0 .split-most),
-        ),
+        places S accepted e r _ _
+            (omega (arith, p .0 .areas, m .measure .kept .1 .1 .1 .1 .1 .1 .0))
+            (omega (arith, p .0 .labels, ap labelPlaces (l .clear-labels .kept .0)))
+            (p .0 .split-some) (p .0 .split-most),
+        layout-in S accepted e r _ (omega (arith, p .0 .basins, k .clear-basins .kept .0)),
       ),
     )
 
@@ -166,11 +178,15 @@ same-length-2 c = search needs
 same-length-3 : tie.Need-same-length-3
 same-length-3 c = search needs
 
+same-length-4 : tie.Need-same-length-4
+same-length-4 c = search needs
+
 returns : tie.Need-returns
 returns c =
-    let o = after-arrange (c .before .before) in
+    let o = after-arrange (c .before .before .before .before) in
     let m = after-measure o in
-    let l = after-clear-labels m in
+    let k = after-clear-basins m in
+    let l = after-clear-labels k in
     let p = (start l) .pre in
     let a = (start l) .args in
     let n = a .rows * a .cols in
@@ -178,15 +194,20 @@ returns c =
     let S = sheet (a .rows) (a .cols) (a .depth) (a .least) (a .split) (a .dirs .now) (a .weights .now) in
     let accepted = rest-accepted S (p .1) in
     let areas = m .measure .ensures .1 S refl refl in
+    let same = network-in S (a .areas .now) areas in
     let e = rw (
       part-is (cellsPart * n) (a .queued),
       part-is (orderedSizesPart * n) (a .queued),
-    ) at (c .before .before .label-basin .ensures) in (
+    ) at (c .before .before .before .before .label-basins .ensures) in (
       areas,
       (
-        labels-written S accepted (network-in S (a .areas .now) areas) r (a .labels .now) (p .0 .labels)
-            (l .clear-labels .ensures) e,
-        r,
+        labels-written S accepted same r (p .0 .depth-most) (most o) (a .labels .now) (p .0 .labels)
+            (l .clear-labels .ensures) (e .0),
+        (
+          basins-written S accepted same r (p .0 .depth-most) (most o) (a .basins .now) (p .0 .basins)
+              (k .clear-basins .ensures) (e .1),
+          r,
+        ),
       ),
     )
 
@@ -197,23 +218,25 @@ write-labels-spec =
     mul-n
     mul-clear-labels
     clear-labels-requires
+    clear-basins-requires
     measure-requires
     arrange-requires
     mul-cells
     add-cells-end
     mul-sizes
     add-sizes-end
-    cast-label-basin
-    mul-label-basin
-    sub-label-basin
-    part-label-basin-start
-    part-label-basin-end
-    mul-label-basin-2
-    sub-label-basin-2
-    part-label-basin-start-2
-    part-label-basin-end-2
-    label-basin-requires
+    cast-label-basins
+    mul-label-basins
+    sub-label-basins
+    part-label-basins-start
+    part-label-basins-end
+    mul-label-basins-2
+    sub-label-basins-2
+    part-label-basins-start-2
+    part-label-basins-end-2
+    label-basins-requires
     same-length
     same-length-2
     same-length-3
+    same-length-4
     returns)

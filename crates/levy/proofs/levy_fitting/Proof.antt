@@ -1,66 +1,68 @@
 -- `levy_fitting` meets its contract: each step hands the next what it asks.
-use mathlib.Core.Path.{refl, ap, _∙_}
+use mathlib.Core.Path.{ap, _∙_}
 use Prim.Native.Nat.{ℕ}
 use native.Mathlib.Omega.{arith}
 use lib.ListN.{replicate}
+use Rattle.sheet.specs.Sheet.{Sheet}
 use Rattle.sheet.specs.Record.{labelPlaces}
+use Rattle.sheet.specs.Refusal.{Lent}
 use Rattle.sheet.proofs.Cells.{cells-most}
-use Rattle.index.proofs.Steps.{in-order, indexed-fitting}
-use Rattle.levy.proofs.Steps.{in-order-dues, dues-written}
+use Rattle.labelling.specs.Labelling.{sheet, lent}
+use Rattle.levy.proofs.Steps.{Lengths, in-order-levy, levied-fitting}
 use borrow.Author.Needs.{needs}
 use Rattle.levy.proofs.levy_fitting.Statement.{statement}
 use Rattle.levy.proofs.levy_fitting.Tie as tie
 use Rattle.levy.proofs.levy_fitting.Reads as reads
 use Rattle.levy.proofs.levy_fitting.Lts as lts
-use Rattle.index.proofs.index_in_order.Reads as index-in-order-reads
 use Rattle.labelling.proofs.clear_places.Reads as clear-places-reads
 use Rattle.labelling.proofs.label_in_order.Reads as label-in-order-reads
-use Rattle.dues.proofs.dues_in_order.Reads as dues-in-order-reads
+use Rattle.levy.proofs.levy_in_order.Reads as levy-in-order-reads
 
 -- Points of the function, each from a later one.
 abbrev start : tie.After-label-in-order → tie.Start
-start c = c .before .before .before .before .before .before .before .before .before .before .before .before .before
+start c =
+    c .before .before .before .before .before .before .before .before .before .before .before .before .before .before
+    .before .before
 
-abbrev after-label-in-order : tie.After-index-in-order → tie.After-label-in-order
-after-label-in-order c =
-    c .before .before .before .before .before .before .before .before .before .before .before .before
+abbrev after-label-in-order : tie.After-slice-known13 → tie.After-label-in-order
+after-label-in-order c = c .before .before .before .before .before .before .before .before
 
-abbrev after-index-in-order : tie.After-dues-in-order → tie.After-index-in-order
-after-index-in-order c = c .before .before .before .before .before .before .before .before .before .before .before
+abbrev S : tie.After-label-in-order → Sheet
+S c =
+    let a = (start c) .args in sheet (a .rows) (a .cols) (a .depth) (a .least) (a .split) (a .dirs .now)
+    (a .weights .now)
 
-abbrev after-dues-in-order : tie.After-clear-places → tie.After-dues-in-order
-after-dues-in-order c = c .before .before .before .before
+-- what the slices hold after labelling
+abbrev L′ : tie.After-label-in-order → Lent
+L′ c =
+    let h = c .label-in-order .last in
+    lent (h .1 .1 .1 .1 .1 .1 .1 .0) (h .1 .1 .1 .1 .1 .1 .1 .1 .0) (h .1 .1 .1 .1 .1 .1 .1 .1 .1 .0)
+    (h .1 .1 .1 .1 .1 .1 .1 .1 .1 .1 .0)
+
+long : (c : tie.After-label-in-order) → Lengths (S c) (L′ c)
+long c =
+    let k = c .label-in-order .kept in
+    let p = (start c) .pre .0 in
+    record {
+      areas = omega (arith, k .1 .1 .1 .1 .1 .1 .1 .0, p .areas);
+      labels = omega (arith, ap labelPlaces (k .1 .1 .1 .1 .1 .1 .1 .1 .0), p .labels);
+      basins = omega (arith, k .1 .1 .1 .1 .1 .1 .1 .1 .1 .0, p .basins);
+      work = k .1 .1 .1 .1 .1 .1 .1 .1 .1 .1 .0 ∙ p .work;
+    }
 
 label-in-order-requires : tie.Need-label-in-order-requires
-label-in-order-requires c κs =
-    c .before .before .before .before .before .before .before .before .before .before .before .before .pre .0
+label-in-order-requires c κs = search needs
 
-mul-n : tie.Need-mul-n
-mul-n c = search needs
+mul-levy-in-order : tie.Need-mul-levy-in-order
+mul-levy-in-order c =
+    let p = (start (after-label-in-order c)) .pre .0 in
+    omega (arith, cells-most (p .sized .rows-most) (p .sized .cols-most))
 
-index-in-order-requires : tie.Need-index-in-order-requires
-index-in-order-requires c κs =
-    let l = c .before .before .before .before .before .before .before .before .before .before .before in
-    let f = l .label-in-order in
-    let p = (start l) .pre .0 in λ e.
-    in-order (cells-most (p .sized .rows-most) (p .sized .cols-most)) (f .kept .1 .1 .1 .1 .1 .1 .1 .1 .1 .0 ∙ p .work)
-    (omega (arith, ap labelPlaces (f .kept .1 .1 .1 .1 .1 .1 .1 .1 .0), p .labels)) (f .ensures .order e)
-
-dues-in-order-requires : tie.Need-dues-in-order-requires
-dues-in-order-requires c κs =
-    let i = c .before .before .before .before .before .before .before .before .before .before in
-    let l = after-label-in-order i in
-    let f = l .label-in-order in
-    let p = (start l) .pre in
-    let x = indexed-fitting _ _ (p .1 .0) (f .ensures) _ (i .index-in-order .ensures .0) (i .index-in-order .ensures .1)
-    refl in λ units e.
-    in-order-dues _ _ (p .1 .0) (p .0) (f .ensures) x e (p .1 .1 .0) (record {
-      areas = omega (arith, f .kept .1 .1 .1 .1 .1 .1 .1 .0, p .0 .areas);
-      labels = omega (arith, ap labelPlaces (f .kept .1 .1 .1 .1 .1 .1 .1 .1 .0), p .0 .labels);
-      work = f .kept .1 .1 .1 .1 .1 .1 .1 .1 .1 .0 ∙ p .0 .work;
-      counts = i .index-in-order .kept .1 .1 .1 .1 .1 .1 .0;
-      dues-room = p .1 .1 .1;
-    })
+levy-in-order-requires : tie.Need-levy-in-order-requires
+levy-in-order-requires c κs =
+    let l = after-label-in-order (c .before .before .before .before .before .before .before .before .before) in
+    let p = (start l) .pre in λ e.
+    in-order-levy _ _ (p .1 .0) (p .0) (l .label-in-order .ensures) (long l) _ _ e (p .1 .1) _
 
 clear-places-requires : tie.Need-clear-places-requires
 clear-places-requires c κs = search needs
@@ -86,29 +88,28 @@ same-length-6 c = search needs
 same-length-7 : tie.Need-same-length-7
 same-length-7 c = search needs
 
+same-length-8 : tie.Need-same-length-8
+same-length-8 c = search needs
+
+same-length-9 : tie.Need-same-length-9
+same-length-9 c = search needs
+
 returns : tie.Need-returns
 returns c =
-    let d = after-dues-in-order (c .before .before) in
-    let i = after-index-in-order d in
-    let l = after-label-in-order i in
-    let f = l .label-in-order in
+    let w = c .before .before in
+    let v = w .before .before .before .before .before .before .before .before .before .before .before .before in
+    let l = after-label-in-order (v .before .before .before .before .before .before .before .before .before .before) in
     let p = (start l) .pre in
-    let a = i .index-in-order .ensures in (
-      indexed-fitting _ _ (p .1 .0) (f .ensures) _ (a .0) (a .1)
-          (c .before .before .clear-places .ensures
-          ∙ ap (λ (k : ℕ). replicate k 0) (f .kept .1 .1 .1 .1 .1 .1 .1 .1 .1 .0 ∙ p .0 .work)),
-      dues-written _ _ (p .1 .0) (p .0) (f .ensures)
-          (indexed-fitting _ _ (p .1 .0) (f .ensures) _ (a .0) (a .1) refl) _ _ (d .dues-in-order .ensures),
-    )
+    levied-fitting _ _ (p .1 .0) (p .0) (l .label-in-order .ensures) (long l) _ _ (v .levy-in-order .ensures)
+    (w .clear-places .ensures ∙ ap (λ (k : ℕ). replicate k 0) (long l .work))
 
 pub levy-fitting-spec : {M : Type 1} → statement M
 levy-fitting-spec =
     tie.close
     (tie.spec
     label-in-order-requires
-    mul-n
-    index-in-order-requires
-    dues-in-order-requires
+    mul-levy-in-order
+    levy-in-order-requires
     clear-places-requires
     same-length
     same-length-2
@@ -117,4 +118,6 @@ levy-fitting-spec =
     same-length-5
     same-length-6
     same-length-7
+    same-length-8
+    same-length-9
     returns)

@@ -1,6 +1,6 @@
--- `put_cell` meets its contract: the four fields of the line stand one after the other.
-use Prim.Native.Nat.{_+_, _≤_}
-use mathlib.Core.List.{_++_}
+-- `put_cell` meets its contract: the five fields of the line stand one after the other.
+use Prim.Native.Nat.{ℕ, _+_, _≤_}
+use mathlib.Core.List.{List, _++_}
 use borrow.Author.Needs.{needs}
 use native.Mathlib.Omega.{arith}
 use lib.ListN.{length}
@@ -12,37 +12,55 @@ use Rattle.listing.proofs.Putting.{put-room, put-then, field-end}
 use Rattle.listing.proofs.put_cell.Statement.{statement}
 use Rattle.listing.proofs.put_cell.Tie as tie
 
--- the digits of the four values and the four bytes after them have room
+-- the digits of the five values and the five bytes after them have room
 room : (c : tie.Start)
-    → let a =
-    c .args in a .at + length (decimalText (a .row)) + length (decimalText (a .col)) + length
-    (decimalText (a .area)) + length (labelText (a .label)) + 4 ≤ length (a .out .now)
-room c = let a = c .args in omega (arith, c .pre, cell-length (a .row) (a .col) (a .area) (labelText (a .label)))
+    → let a = c .args in
+    a .at + length (decimalText (a .basin)) + length (decimalText (a .row)) + length (decimalText (a .col))
+    + length (decimalText (a .area)) + length (labelText (a .label)) + 5 ≤ length (a .out .now)
+room c =
+    let a = c .args in
+    omega (arith, c .pre, cell-length (a .basin) (a .row) (a .col) (a .area) (labelText (a .label)))
 
 put-field-requires : tie.Need-put-field-requires
 put-field-requires c κs = omega (arith, room (c .before .before))
 
 put-field-requires-2 : tie.Need-put-field-requires-2
 put-field-requires-2 c κs =
-    let row = c .before .before .before in
+    let basin = c .before .before .before in
     omega (
       arith,
-      room (row .before .before .before),
-      field-end _ _ (row .put-field .ensures),
-      row .put-field .kept .1 .1 .0,
+      room (basin .before .before .before),
+      field-end _ _ (basin .put-field .ensures),
+      basin .put-field .kept .1 .1 .0,
     )
 
 put-field-requires-3 : tie.Need-put-field-requires-3
 put-field-requires-3 c κs =
-    let col = c .before .before .before in
-    let row = col .before .before .before .before in
+    let row = c .before .before .before in
+    let basin = row .before .before .before .before in
     omega (
       arith,
-      room (row .before .before .before),
-      field-end _ _ (row .put-field .ensures),
-      field-end _ _ (col .put-field2 .ensures),
-      row .put-field .kept .1 .1 .0,
-      col .put-field2 .kept .1 .1 .0,
+      room (basin .before .before .before),
+      field-end _ _ (basin .put-field .ensures),
+      field-end _ _ (row .put-field2 .ensures),
+      basin .put-field .kept .1 .1 .0,
+      row .put-field2 .kept .1 .1 .0,
+    )
+
+put-field-requires-4 : tie.Need-put-field-requires-4
+put-field-requires-4 c κs =
+    let col = c .before .before .before in
+    let row = col .before .before .before .before in
+    let basin = row .before .before .before .before in
+    omega (
+      arith,
+      room (basin .before .before .before),
+      field-end _ _ (basin .put-field .ensures),
+      field-end _ _ (row .put-field2 .ensures),
+      field-end _ _ (col .put-field3 .ensures),
+      basin .put-field .kept .1 .1 .0,
+      row .put-field2 .kept .1 .1 .0,
+      col .put-field3 .kept .1 .1 .0,
     )
 
 put-label-requires : tie.Need-put-label-requires
@@ -50,44 +68,52 @@ put-label-requires c κs =
     let area = c .before .before .before in
     let col = area .before .before .before .before in
     let row = col .before .before .before .before in
+    let basin = row .before .before .before .before in
     omega (
       arith,
-      room (row .before .before .before),
-      field-end _ _ (row .put-field .ensures),
-      field-end _ _ (col .put-field2 .ensures),
-      field-end _ _ (area .put-field3 .ensures),
-      row .put-field .kept .1 .1 .0,
-      col .put-field2 .kept .1 .1 .0,
-      area .put-field3 .kept .1 .1 .0,
+      room (basin .before .before .before),
+      field-end _ _ (basin .put-field .ensures),
+      field-end _ _ (row .put-field2 .ensures),
+      field-end _ _ (col .put-field3 .ensures),
+      field-end _ _ (area .put-field4 .ensures),
+      basin .put-field .kept .1 .1 .0,
+      row .put-field2 .kept .1 .1 .0,
+      col .put-field3 .kept .1 .1 .0,
+      area .put-field4 .kept .1 .1 .0,
     )
 
 same-length : tie.Need-same-length
 same-length c = search needs
 
 -- each field has room, with those after it
-row-room : (c : tie.Start)
-    → let a =
-    c .args in a .at + length
-    (field (decimalText (a .row)) comma ++
-    (field (decimalText (a .col)) comma ++
-    (field (decimalText (a .area)) comma ++ field (labelText (a .label)) lineFeed))) ≤ length (a .out .now)
+abbrev area-on : tie.Start → List ℕ
+area-on c = let a = c .args in field (decimalText (a .area)) comma ++ field (labelText (a .label)) lineFeed
+
+abbrev col-on : tie.Start → List ℕ
+col-on c = field (decimalText (c .args .col)) comma ++ area-on c
+
+abbrev row-on : tie.Start → List ℕ
+row-on c = field (decimalText (c .args .row)) comma ++ col-on c
+
+basin-room : (c : tie.Start)
+    → c .args .at + length (field (decimalText (c .args .basin)) comma ++ row-on c) ≤ length (c .args .out .now)
 unfolding cellLine
-row-room c = c .pre
+basin-room c = c .pre
 
-col-room : (c : tie.After-put-field)
-    → let a =
-    c .before .before .before .args in c .put-field .result + length
-    (field (decimalText (a .col)) comma ++
-    (field (decimalText (a .area)) comma ++ field (labelText (a .label)) lineFeed)) ≤ length
-    (c .put-field .last .1 .1 .0)
-col-room c = put-room (c .put-field .ensures) _ (row-room (c .before .before .before))
+row-room : (c : tie.After-put-field)
+    → c .put-field .result + length (row-on (c .before .before .before)) ≤ length (c .put-field .last .1 .1 .0)
+row-room c = put-room (c .put-field .ensures) _ (basin-room (c .before .before .before))
 
-area-room : (c : tie.After-put-field2)
-    → let a =
-    c .before .before .before .before .before .before .before .args in c .put-field2 .result + length
-    (field (decimalText (a .area)) comma ++ field (labelText (a .label)) lineFeed) ≤ length
-    (c .put-field2 .last .1 .1 .0)
-area-room c = put-room (c .put-field2 .ensures) _ (col-room (c .before .before .before .before))
+col-room : (c : tie.After-put-field2)
+    → c .put-field2 .result + length (col-on (c .before .before .before .before .before .before .before))
+    ≤ length (c .put-field2 .last .1 .1 .0)
+col-room c = put-room (c .put-field2 .ensures) _ (row-room (c .before .before .before .before))
+
+area-room : (c : tie.After-put-field3)
+    → c .put-field3 .result + length
+    (area-on (c .before .before .before .before .before .before .before .before .before .before .before))
+    ≤ length (c .put-field3 .last .1 .1 .0)
+area-room c = put-room (c .put-field3 .ensures) _ (col-room (c .before .before .before .before))
 
 returns : tie.Need-returns
 unfolding cellLine
@@ -96,10 +122,12 @@ returns c =
     let area = label .before .before .before .before in
     let col = area .before .before .before .before in
     let row = col .before .before .before .before in
-    put-then (row .put-field .ensures)
-    (put-then (col .put-field2 .ensures)
-    (put-then (area .put-field3 .ensures) (label .put-label .ensures) (area-room col)) (col-room row))
-    (row-room (row .before .before .before))
+    let basin = row .before .before .before .before in
+    put-then (basin .put-field .ensures)
+    (put-then (row .put-field2 .ensures)
+    (put-then (col .put-field3 .ensures)
+    (put-then (area .put-field4 .ensures) (label .put-label .ensures) (area-room col)) (col-room row))
+    (row-room basin)) (basin-room (basin .before .before .before))
 
 pub put-cell-spec : {M : Type 1} → statement M
 put-cell-spec =
@@ -108,6 +136,7 @@ put-cell-spec =
     put-field-requires
     put-field-requires-2
     put-field-requires-3
+    put-field-requires-4
     put-label-requires
     same-length
     returns)

@@ -10,7 +10,7 @@ use Rattle.sheet.specs.Record.{noDigits, labelsIn, labelAt, labelPlaces}
 use Rattle.sheet.specs.Flow.{every, isLabel}
 use Rattle.digits.proofs.Places.{every-end, every-no, every-yes}
 use Rattle.lookup.specs.Lookup.{greatestDepth}
-use Rattle.lookup.proofs.Counted.{entries-counted}
+use Rattle.lookup.proofs.Counted.{labels-counted}
 use Rattle.lookup.proofs.all_labels.Statement.{statement}
 use Rattle.lookup.proofs.all_labels.Tie as tie
 
@@ -29,7 +29,7 @@ abbrev labelsAt : tie.In-loop Inv-loop μ-loop → List ℕ
 labelsAt c = c .before .before .before .before .args .labels .now
 
 inside : (c : tie.In-loop Inv-loop μ-loop) → c .before .loop .i < length (labelsIn (labelsAt c))
-inside c = omega (arith, entries-counted (labelsAt c), c .before .before .label-count .ensures)
+inside c = omega (arith, labels-counted (labelsAt c), c .before .before .label-count .ensures)
 
 -- what is judged is the entry
 judged : (c : tie.After-is-label Inv-loop μ-loop)
@@ -69,7 +69,7 @@ returns-2 : tie.Need-returns-2 Inv-loop μ-loop
 returns-2 c =
     let labels = c .before .before .before .before .args .labels .now in
     let end : length (labelsIn labels) ≤ c .before .loop .i =
-    omega (arith, entries-counted labels, c .before .before .label-count .ensures) in
+    omega (arith, labels-counted labels, c .before .before .label-count .ensures) in
     sym (every-end noDigits _ _ _ end) ∙ c .before .loop .inv
 
 pub all-labels-spec : {M : Type 1} → statement M

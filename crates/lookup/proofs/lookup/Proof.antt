@@ -1,11 +1,11 @@
--- `lookup` meets its contract: the part lies in the slice, since it holds exactly the labels that begin so.
+-- `lookup` meets its contract: the part lies in the slice, since it holds exactly the basin's labels that begin so.
 use native.Mathlib.Omega.{arith}
 use borrow.Author.Needs.{needs}
 use mathlib.Core.Path.{_≡_, sym, _∙_}
 use mathlib.Core.List.{List}
 use Prim.Native.Nat.{ℕ, _+_, _*_, _≤_}
 use lib.ListN.{length}
-use Rattle.sheet.specs.declared.Label.{Label}
+use Rattle.sheet.specs.declared.UnitName.{UnitName}
 use Rattle.sheet.specs.Record.{labelsIn}
 use Rattle.lookup.specs.declared.LookupAnswer.the-variants.{Part, Refused}
 use Rattle.lookup.specs.Lookup.{lookupAnswer}
@@ -17,20 +17,23 @@ use Rattle.lookup.proofs.Answers.{
   refused-place,
   refused-number,
 }
-use Rattle.lookup.proofs.Counted.{entries-counted}
-use Rattle.lookup.proofs.Exactly.{found-exactly}
+use Rattle.lookup.proofs.Counted.{labels-counted}
+use Rattle.lookup.proofs.Exactly.{found-within}
 use Rattle.lookup.proofs.lookup.Statement.{statement}
 use Rattle.lookup.proofs.lookup.Tie as tie
 
 -- Points of the function, each from a later one.
 abbrev start : tie.After-find → tie.Start
-start c = c .before .before
+start c = c .before .before .before
 
-abbrev leadingAt : tie.After-find → Label
+abbrev leadingAt : tie.After-find → UnitName
 leadingAt c = (start c) .args .leading
 
 abbrev labelsAt : tie.After-find → List ℕ
 labelsAt c = (start c) .args .labels .now
+
+abbrev basinsAt : tie.After-find → List ℕ
+basinsAt c = (start c) .args .basins .now
 
 abbrev firstAt : tie.After-find → ℕ × ℕ
 firstAt c = (start c) .args .labels .ptr
@@ -47,21 +50,21 @@ numberAt c = c .before .number .given .0 .0
 
 found : (c : tie.After-known-told)
     → let here = c .before .before .before in
-    lookupAnswer (leadingAt here) (labelsIn (labelsAt here)) ≡ Part (startAt c) (lengthAt c)
+    lookupAnswer (leadingAt here) (labelsIn (labelsAt here)) (basinsAt here) ≡ Part (startAt c) (lengthAt c)
 found c = sym (c .before .before .before .find .ensures .0) ∙ c .before .start .given .1
 
 refused : (c : tie.After-known-told2)
     → let here = c .before .before .before in
-    lookupAnswer (leadingAt here) (labelsIn (labelsAt here)) ≡ Refused (numberAt c)
+    lookupAnswer (leadingAt here) (labelsIn (labelsAt here)) (basinsAt here) ≡ Refused (numberAt c)
 refused c = sym (c .before .before .before .find .ensures .0) ∙ c .before .number .given .1
 
 within : (c : tie.After-known-told) → startAt c + lengthAt c ≤ length (labelsIn (labelsAt (c .before .before .before)))
-within c = (found-exactly _ _ (startAt c) (lengthAt c) (found c)) .within
+within c = found-within _ _ _ (startAt c) (lengthAt c) (found c)
 
 -- and as numbers
 numbers-within : (c : tie.After-known-told)
     → 2 * startAt c + 2 * lengthAt c ≤ length (labelsAt (c .before .before .before))
-numbers-within c = omega (arith, within c, entries-counted (labelsAt (c .before .before .before)))
+numbers-within c = omega (arith, within c, labels-counted (labelsAt (c .before .before .before)))
 
 find-requires : tie.Need-find-requires
 find-requires c κs = search needs
@@ -94,10 +97,10 @@ returns : tie.Need-returns
 returns c =
     let found-here = found (c .before) in
     let here = c .before .before .before .before in (
-      found-part (leadingAt here) (labelsAt here) _ _ found-here (within (c .before)),
+      found-part (leadingAt here) (labelsAt here) (basinsAt here) _ _ found-here (within (c .before)),
       (
-        found-place (leadingAt here) (labelsAt here) _ _ found-here (firstAt here),
-        found-number (leadingAt here) (labelsAt here) _ _ found-here,
+        found-place (leadingAt here) (labelsAt here) (basinsAt here) _ _ found-here (firstAt here),
+        found-number (leadingAt here) (labelsAt here) (basinsAt here) _ _ found-here,
       ),
     )
 
@@ -111,10 +114,10 @@ returns-2 : tie.Need-returns-2
 returns-2 c =
     let refused-here = refused (c .before) in
     let here = c .before .before .before .before in (
-      refused-part (leadingAt here) (labelsAt here) _ refused-here,
+      refused-part (leadingAt here) (labelsAt here) (basinsAt here) _ refused-here,
       (
-        refused-place (leadingAt here) (labelsAt here) _ refused-here (firstAt here),
-        refused-number (leadingAt here) (labelsAt here) _ refused-here,
+        refused-place (leadingAt here) (labelsAt here) (basinsAt here) _ refused-here (firstAt here),
+        refused-number (leadingAt here) (labelsAt here) (basinsAt here) _ refused-here,
       ),
     )
 

@@ -9,7 +9,7 @@ use Rattle.report.proofs.stage_verdict.Tie as tie
 
 -- Points of the function, each from a later one.
 abbrev after-stage : tie.After-sheet-verdict → tie.After-stage
-after-stage c = c .before .before .before .before .before
+after-stage c = c .before .before .before .before .before .before
 
 enum-told : tie.Need-enum-told
 enum-told c = search needs
@@ -68,11 +68,14 @@ same-length-2 c = search needs
 same-length-3 : tie.Need-same-length-3
 same-length-3 c = search needs
 
+same-length-4 : tie.Need-same-length-4
+same-length-4 c = search needs
+
 returns-7 : tie.Need-returns-7
 unfolding endedSizes
 returns-7 c =
-    rw ((after-stage (c .before .before .before .before .before .before)) .stage .given .1)
-    (c .before .before .before .before .before .before .sheet-verdict .ensures)
+    rw ((after-stage (c .before .before .before .before .before .before .before .before)) .stage .given .1)
+    (c .before .before .before .before .before .before .before .before .sheet-verdict .ensures)
 
 pub stage-verdict-spec : {M : Type 1} → statement M
 stage-verdict-spec =
@@ -95,4 +98,5 @@ stage-verdict-spec =
     same-length
     same-length-2
     same-length-3
+    same-length-4
     returns-7)

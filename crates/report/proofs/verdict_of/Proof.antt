@@ -8,7 +8,7 @@ use Rattle.report.proofs.verdict_of.Tie as tie
 
 -- Points of the function, each from a later one.
 abbrev after-read2 : tie.After-stage-verdict → tie.After-read2
-after-read2 c = c .before .before .before .before .before
+after-read2 c = c .before .before .before .before .before .before
 
 enum-known-read : tie.Need-enum-known-read
 enum-known-read c = search needs
@@ -32,11 +32,14 @@ same-length-2 c = search needs
 same-length-3 : tie.Need-same-length-3
 same-length-3 c = search needs
 
+same-length-4 : tie.Need-same-length-4
+same-length-4 c = search needs
+
 returns-2 : tie.Need-returns-2
 unfolding verdictOf readLent intakeLent
 returns-2 c =
-    let e = c .before .before .before .before .before .before .stage-verdict .ensures in
-    rw ((after-read2 (c .before .before .before .before .before .before)) .read2 .given .1)
+    let e = c .before .before .before .before .before .before .before .before .stage-verdict .ensures in
+    rw ((after-read2 (c .before .before .before .before .before .before .before .before)) .read2 .given .1)
     (e .0, (ap verdictValues (e .0), e .1))
 
 pub verdict-of-spec : {M : Type 1} → statement M
@@ -50,4 +53,5 @@ verdict-of-spec =
     same-length
     same-length-2
     same-length-3
+    same-length-4
     returns-2)

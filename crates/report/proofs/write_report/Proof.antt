@@ -9,7 +9,7 @@ abbrev after-verdict-of : tie.After-labels → tie.After-verdict-of
 after-verdict-of c = c .before .before .before
 
 abbrev after-labels : tie.After-write-verdict → tie.After-labels
-after-labels c = c .before .before .before .before .before .before .before
+after-labels c = c .before .before .before .before .before .before .before .before .before .before
 
 verdict-of-requires : tie.Need-verdict-of-requires
 verdict-of-requires c κs = search needs
@@ -29,6 +29,9 @@ same-length-3 c = search needs
 same-length-4 : tie.Need-same-length-4
 same-length-4 c = search needs
 
+same-length-5 : tie.Need-same-length-5
+same-length-5 c = search needs
+
 returns : tie.Need-returns
 returns c =
     let v = (after-verdict-of (after-labels (c .before .before))) .verdict-of .ensures in
@@ -44,4 +47,5 @@ write-report-spec =
     same-length-2
     same-length-3
     same-length-4
+    same-length-5
     returns)

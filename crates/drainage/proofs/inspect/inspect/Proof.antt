@@ -1,10 +1,12 @@
 -- `inspect` meets its contract.
-use mathlib.Core.Path.{_≡_, refl, sym, _∙_}
+use mathlib.Core.Path.{_≡_, refl, sym, _∙_, ap}
 use Prim.Native.Nat.{_*_}
 use native.Mathlib.Omega.{arith}
+use Rattle.sheet.specs.declared.Found.{Found}
 use Rattle.sheet.specs.declared.Found.the-variants.{At, Nothing}
+use Rattle.sheet.specs.declared.Outcome.the-variants.{Accepted}
 use Rattle.sheet.specs.Sheet.{Grid, grid, cells, inside, first}
-use Rattle.sheet.specs.Refusal.{badCode, undrained}
+use Rattle.sheet.specs.Refusal.{badCode, undrained, refusedAt}
 use Rattle.drainage.proofs.Outcomes.{ranks-part, inside-is, undrained-is, coded-of, refused-4, refused-5}
 use Rattle.drainage.proofs.Outcomes.{inspected-before, inspected}
 use borrow.Author.Needs.{needs}
@@ -127,9 +129,6 @@ part-first-target-end-2 c = search needs
 first-target-requires-2 : tie.Need-first-target-requires-2
 first-target-requires-2 c κs = search needs
 
-second-searched-requires : tie.Need-second-searched-requires
-second-searched-requires c κs = search needs
-
 refused-by-requires : tie.Need-refused-by-requires
 refused-by-requires c κs = search needs
 
@@ -138,13 +137,10 @@ same-length-2 c = search needs
 
 returns-3 : tie.Need-returns-3
 returns-3 c =
-    let search = (after-search (c .before .before .before)) .search in
-    inspected (no-bad ((after-enum-told (after-enum-told2 (after-search (c .before .before .before))))))
-    (some ((after-enum-told2 (after-search (c .before .before .before))))) (search .ensures .0)
-    (rw (
-      unreached (c .before .before .before),
-      c .before .second-searched .ensures,
-    ) at (c .refused-by .ensures)) (search .ensures .1)
+    let search = (after-search (c .before)) .search in
+    inspected (no-bad ((after-enum-told (after-enum-told2 (after-search (c .before))))))
+    (some ((after-enum-told2 (after-search (c .before))))) (search .ensures .0)
+    (c .refused-by .ensures ∙ ap (λ (f : Found). refusedAt 6 f Accepted) (unreached (c .before))) (search .ensures .1)
 
 pub inspect-spec : {M : Type 1} → statement M
 inspect-spec =
@@ -174,7 +170,6 @@ inspect-spec =
     part-first-target-start-2
     part-first-target-end-2
     first-target-requires-2
-    second-searched-requires
     refused-by-requires
     same-length-2
     returns-3)

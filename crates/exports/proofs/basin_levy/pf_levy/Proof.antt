@@ -11,15 +11,16 @@ use Rattle.exports.proofs.indexed_code.Reads as indexed-code-reads
 use Rattle.levy.proofs.levy.Reads as levy-reads
 
 -- A point of the function, from a later one.
-abbrev after-levy : tie.After-slice-known14 → tie.After-levy
+abbrev after-levy : tie.After-slice-known18 → tie.After-levy
 after-levy c =
-    c .before .before .before .before .before .before .before .before .before .before .before .before .before .before
+    c .before .before .before .before .before .before .before .before .before .before .before .before
+    .before .before .before .before .before .before
 
 levy-requires : tie.Need-levy-requires
 levy-requires c κs = search needs
 
 indexed-code-requires : tie.Need-indexed-code-requires
-indexed-code-requires c κs = rw ((after-levy c) .levy .ensures .0) (levy-told _ _ _ _ _)
+indexed-code-requires c κs = rw ((after-levy c) .levy .ensures .0) (levy-told _ _ _ _ _ _)
 
 same-length : tie.Need-same-length
 same-length c = search needs
@@ -42,6 +43,12 @@ same-length-6 c = search needs
 same-length-7 : tie.Need-same-length-7
 same-length-7 c = search needs
 
+same-length-8 : tie.Need-same-length-8
+same-length-8 c = search needs
+
+same-length-9 : tie.Need-same-length-9
+same-length-9 c = search needs
+
 returns : tie.Need-returns
 returns c =
     let e = (after-levy (c .before)) .levy .ensures in
@@ -60,4 +67,6 @@ pf-levy-spec =
     same-length-5
     same-length-6
     same-length-7
+    same-length-8
+    same-length-9
     returns)

@@ -10,18 +10,15 @@ use Rattle.exports.proofs.unit_index.pf_index.Lts as lts
 use Rattle.exports.proofs.indexed_code.Reads as indexed-code-reads
 use Rattle.index.proofs.index.Reads as index-reads
 
--- Points of the function, each from a later one.
-abbrev after-index : tie.After-work → tie.After-index
-after-index c = c .before .before .before .before .before
-
-abbrev after-work : tie.After-slice-known12 → tie.After-work
-after-work c = c .before .before .before .before .before .before .before
+-- A point of the function, from a later one.
+abbrev after-index : tie.After-slice-known16 → tie.After-index
+after-index c = c .before .before .before .before .before .before .before .before .before .before .before .before .before .before .before .before
 
 index-requires : tie.Need-index-requires
 index-requires c κs = search needs
 
 indexed-code-requires : tie.Need-indexed-code-requires
-indexed-code-requires c κs = rw ((after-index (after-work c)) .index .ensures .0) (answer-told _ _ _)
+indexed-code-requires c κs = rw ((after-index c) .index .ensures .0) (answer-told _ _ _)
 
 same-length : tie.Need-same-length
 same-length c = search needs
@@ -41,9 +38,15 @@ same-length-5 c = search needs
 same-length-6 : tie.Need-same-length-6
 same-length-6 c = search needs
 
+same-length-7 : tie.Need-same-length-7
+same-length-7 c = search needs
+
+same-length-8 : tie.Need-same-length-8
+same-length-8 c = search needs
+
 returns : tie.Need-returns
 returns c =
-    let e = (after-index (after-work (c .before))) .index .ensures in
+    let e = (after-index (c .before)) .index .ensures in
     (c .indexed-code .ensures ∙ ap indexedCode (e .0), e .1 .1)
 
 pub pf-index-spec : {M : Type 1} → statement M
@@ -58,4 +61,6 @@ pf-index-spec =
     same-length-4
     same-length-5
     same-length-6
+    same-length-7
+    same-length-8
     returns)

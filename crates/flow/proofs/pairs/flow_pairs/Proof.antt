@@ -21,7 +21,7 @@ pair-count-requires c κs = search needs
 
 -- The start of the function, from a later point.
 abbrev start : tie.After-pair-count → tie.Start
-start c = c .before .before .before .before .before .before .before .before
+start c = c .before .before .before .before .before .before .before .before .before .before
 
 -- depth and least fit where the pairs are counted
 fits : (c : tie.After-pair-count)
@@ -38,35 +38,44 @@ counted : (c : tie.After-pair-count)
 unfolding labelPlaces
 counted c = c .pair-count .ensures
 
-returns : tie.Need-returns
-returns c =
-    promised _ _ _ _ _ _ _
-    (short-refused _ _ _ _ _ (fits (c .before)) _ (counted (c .before)) (c .if3 .taken)) refl
+slices-fit-requires : tie.Need-slices-fit-requires
+slices-fit-requires c κs = search needs
 
 answer-pairs-requires : tie.Need-answer-pairs-requires
 answer-pairs-requires c κs =
-    let d = c .before in (fits (d .before), (counted (d .before), d .if3 .left))
+    let d = c .before .before in
+    (fits (d .before), (counted (d .before), sym (d .slices-fit .ensures) ∙ c .before .if3 .taken))
 
 same-length : tie.Need-same-length
 same-length c = search needs
 
+returns : tie.Need-returns
+returns c =
+    let d = c .before .before .before .before in
+    let e = d .before in
+    promised _ _ _ _ _ _ _ _ _
+    (all-answered _ _ _ _ _ _ _ (fits (e .before)) _ (counted (e .before))
+    (sym (e .slices-fit .ensures) ∙ d .if3 .taken))
+    (c .before .before .answer-pairs .ensures)
+
 returns-2 : tie.Need-returns-2
 returns-2 c =
-    let d = c .before .before .before .before in
-    promised _ _ _ _ _ _ _
-    (all-answered _ _ _ _ _ (fits (d .before)) _ (counted (d .before)) (d .if3 .left))
-    (c .before .before .answer-pairs .ensures)
+    let d = c .before in
+    promised _ _ _ _ _ _ _ _ _
+    (short-refused _ _ _ _ _ _ _ (fits (d .before)) _ (counted (d .before))
+    (sym (d .slices-fit .ensures) ∙ c .if3 .left)) refl
 
 returns-3 : tie.Need-returns-3
 returns-3 c =
     let d = c .before .before in
-    promised _ _ _ _ _ _ _
-    (least-refused _ _ _ _ _ (sym (d .before .depth-fits .ensures) ∙ d .if1 .taken)
+    promised _ _ _ _ _ _ _ _ _
+    (least-refused _ _ _ _ _ _ _ (sym (d .before .depth-fits .ensures) ∙ d .if1 .taken)
     (sym (c .before .least-fits .ensures) ∙ c .if2 .left)) refl
 
 returns-4 : tie.Need-returns-4
 returns-4 c =
-    promised _ _ _ _ _ _ _ (depth-refused _ _ _ _ _ (sym (c .before .depth-fits .ensures) ∙ c .if1 .left)) refl
+    promised _ _ _ _ _ _ _ _ _
+    (depth-refused _ _ _ _ _ _ _ (sym (c .before .depth-fits .ensures) ∙ c .if1 .left)) refl
 
 pub flow-pairs-spec : {M : Type 1} → statement M
 flow-pairs-spec =
@@ -75,9 +84,10 @@ flow-pairs-spec =
     depth-fits-requires
     least-fits-requires
     pair-count-requires
-    returns
+    slices-fit-requires
     answer-pairs-requires
     same-length
+    returns
     returns-2
     returns-3
     returns-4)

@@ -10,14 +10,14 @@ use Rattle.index.proofs.from_intake.index_intake.Lts as lts
 use Rattle.index.proofs.index.Reads as index-reads
 
 -- Points of the function, each from a later one.
-abbrev after-stage : tie.After-index-arg6 → tie.After-stage
-after-stage c = c .before .before .before .before .before .before .before
+abbrev after-stage : tie.After-index-arg8 → tie.After-stage
+after-stage c = c .before .before .before .before .before .before .before .before .before
 
 abbrev after-index : tie.After-work → tie.After-index
-after-index c = c .before .before .before .before .before
+after-index c = c .before .before .before .before .before .before .before
 
-abbrev after-work : tie.After-slice-known12 → tie.After-work
-after-work c = c .before .before .before .before .before .before .before
+abbrev after-work : tie.After-slice-known16 → tie.After-work
+after-work c = c .before .before .before .before .before .before .before .before .before
 
 enum-told : tie.Need-enum-told
 enum-told c = search needs
@@ -85,6 +85,12 @@ same-length-5 c = search needs
 same-length-6 : tie.Need-same-length-6
 same-length-6 c = search needs
 
+same-length-7 : tie.Need-same-length-7
+same-length-7 c = search needs
+
+same-length-8 : tie.Need-same-length-8
+same-length-8 c = search needs
+
 returns-7 : tie.Need-returns-7
 unfolding intakeIndexed intakeLent intakeIndexAfter
 returns-7 c =
@@ -114,4 +120,6 @@ index-intake-spec =
     same-length-4
     same-length-5
     same-length-6
+    same-length-7
+    same-length-8
     returns-7)

@@ -12,27 +12,30 @@ use Rattle.index.proofs.units.fill_units.Statement.{statement}
 use Rattle.index.proofs.units.fill_units.Tie as tie
 use Rattle.index.proofs.units.fill_units.Reads as reads
 use Rattle.index.proofs.units.fill_units.Lts as lts
-use Rattle.checks.proofs.label_at.Reads as label-at-reads
+use Rattle.checks.proofs.unit_at.Reads as unit-at-reads
 use Rattle.index.proofs.units.last_of_group.Reads as last-of-group-reads
 
 abbrev Inv-loop : tie.InvT-loop
-Inv-loop cells labels units₀ outlets₀ counts₀ at₀ first₀ units outlets counts at first =
-    Filling cells labels (lentIndex units₀ outlets₀ counts₀) (lentIndex units outlets counts) at first
+Inv-loop cells labels basins units₀ outlets₀ counts₀ unit-basins₀ at₀ first₀ units outlets counts unit-basins at first =
+    Filling cells labels basins (lentIndex units₀ outlets₀ counts₀ unit-basins₀)
+    (lentIndex units outlets counts unit-basins) at first
 
 abbrev μ-loop : tie.MeasureT-loop
-μ-loop cells labels units₀ outlets₀ counts₀ at₀ first₀ units outlets counts at first = length cells - first
+μ-loop cells labels basins units₀ outlets₀ counts₀ unit-basins₀ at₀ first₀ units outlets counts unit-basins at first =
+    length cells - first
 
 -- Points of the function, each from a later one.
 abbrev start : tie.In-loop Inv-loop μ-loop → tie.Start Inv-loop μ-loop
-start c = c .before .before .before .before .before .before .before
+start c = c .before .before .before .before .before .before .before .before .before
 
-abbrev after-last-of-group : tie.After-label-at Inv-loop μ-loop → tie.After-last-of-group Inv-loop μ-loop
+abbrev after-last-of-group : tie.After-unit-at Inv-loop μ-loop → tie.After-last-of-group Inv-loop μ-loop
 after-last-of-group c = c .before .before
 
 -- a place is left for the group
 left : (c : tie.After-last-of-group Inv-loop μ-loop) → Room (c .before .before .loop .at + 1)
-    (lentIndex (c .before .before .loop .units) (c .before .before .loop .outlets) (c .before .before .loop .counts))
-left c = room-left _ _ _ (c .before .before .loop .inv) (c .last-of-group .ensures) ((start (c .before)) .pre .1)
+    (lentIndex (c .before .before .loop .units) (c .before .before .loop .outlets) (c .before .before .loop .counts)
+    (c .before .before .loop .unit-basins))
+left c = room-left _ _ _ _ (c .before .before .loop .inv) (c .last-of-group .ensures) ((start (c .before)) .pre .1)
 
 -- both numbers of its label's place are in the slice
 numbers-left : (c : tie.After-last-of-group Inv-loop μ-loop)
@@ -40,22 +43,24 @@ numbers-left : (c : tie.After-last-of-group Inv-loop μ-loop)
 numbers-left c = places-enough _ _ (left c .labels)
 
 loop-holds : tie.Need-loop-holds Inv-loop μ-loop
-loop-holds c = filling-starts _ _ _
+loop-holds c = filling-starts _ _ _ _
 
 last-of-group-requires : tie.Need-last-of-group-requires Inv-loop μ-loop
 last-of-group-requires c κs = ((start c) .pre .0, c .loop-test .taken)
 
-mul-label-at : tie.Need-mul-label-at Inv-loop μ-loop
-mul-label-at c = omega arith
+mul-unit-at : tie.Need-mul-unit-at Inv-loop μ-loop
+mul-unit-at c = omega arith
 
-shared-slice-read-label-at : tie.Need-shared-slice-read-label-at Inv-loop μ-loop
-shared-slice-read-label-at c = omega arith
+shared-slice-read-unit-at : tie.Need-shared-slice-read-unit-at Inv-loop μ-loop
+shared-slice-read-unit-at c = omega arith
 
-cast-label-at : tie.Need-cast-label-at Inv-loop μ-loop
-cast-label-at c = omega (arith, c .shared-slice-known3 .given (c .before .before .before .loop .first))
+cast-unit-at : tie.Need-cast-unit-at Inv-loop μ-loop
+cast-unit-at c = omega (arith, c .shared-slice-known4 .given (c .before .before .before .loop .first))
 
-label-at-requires : tie.Need-label-at-requires Inv-loop μ-loop
-label-at-requires c κs = let d = c .before .before in (start d) .pre .0 .on _ (d .loop-test .taken)
+unit-at-requires : tie.Need-unit-at-requires Inv-loop μ-loop
+unit-at-requires c κs =
+    let d = c .before .before in
+    let p = (start d) .pre .0 in (p .numbered _ (d .loop-test .taken), p .on _ (d .loop-test .taken))
 
 mul-units : tie.Need-mul-units Inv-loop μ-loop
 mul-units c = omega (arith, numbers-left (after-last-of-group c))
@@ -105,6 +110,12 @@ mul-counts c = omega (arith, left (after-last-of-group (c .before)) .counts)
 slice-write-counts : tie.Need-slice-write-counts Inv-loop μ-loop
 slice-write-counts c = omega (arith, left (after-last-of-group (c .before)) .counts)
 
+mul-unit-basins : tie.Need-mul-unit-basins Inv-loop μ-loop
+mul-unit-basins c = omega (arith, left (after-last-of-group (c .before)) .basins)
+
+slice-write-unit-basins : tie.Need-slice-write-unit-basins Inv-loop μ-loop
+slice-write-unit-basins c = omega (arith, left (after-last-of-group (c .before)) .basins)
+
 add-first : tie.Need-add-first Inv-loop μ-loop
 add-first c = omega arith
 
@@ -117,7 +128,8 @@ loop-less c = omega arith
 loop-again : tie.Need-loop-again Inv-loop μ-loop
 loop-again c =
     let d = after-last-of-group (c .before) in
-    rw (c .before .label-at .ensures) (filling-goes-on _ _ _ (d .before .before .loop .inv) (d .last-of-group .ensures))
+    rw (c .before .unit-at .ensures)
+    (filling-goes-on _ _ _ _ (d .before .before .loop .inv) (d .last-of-group .ensures))
 
 same-length : tie.Need-same-length Inv-loop μ-loop
 same-length c = c .before .loop .inv .units
@@ -128,11 +140,14 @@ same-length-2 c = c .before .loop .inv .outlets
 same-length-3 : tie.Need-same-length-3 Inv-loop μ-loop
 same-length-3 c = c .before .loop .inv .counts
 
+same-length-4 : tie.Need-same-length-4 Inv-loop μ-loop
+same-length-4 c = c .before .loop .inv .unit-basins
+
 returns : tie.Need-returns Inv-loop μ-loop
 returns c = (
-  filling-counted _ _ _ (c .before .loop .inv) (c .loop-test .left),
-  filling-ends _ _ _ (c .before .loop .inv) (c .loop-test .left)
-      (c .before .before .before .before .before .before .before .pre .1),
+  filling-counted _ _ _ _ (c .before .loop .inv) (c .loop-test .left),
+  filling-ends _ _ _ _ (c .before .loop .inv) (c .loop-test .left)
+      (c .before .before .before .before .before .before .before .before .before .pre .1),
 )
 
 pub fill-units-spec : {M : Type 1} → statement M
@@ -143,10 +158,10 @@ fill-units-spec =
     μ-loop
     loop-holds
     last-of-group-requires
-    mul-label-at
-    shared-slice-read-label-at
-    cast-label-at
-    label-at-requires
+    mul-unit-at
+    shared-slice-read-unit-at
+    cast-unit-at
+    unit-at-requires
     mul-units
     mul-units-2
     slice-write-units
@@ -163,6 +178,8 @@ fill-units-spec =
     cast-counts
     mul-counts
     slice-write-counts
+    mul-unit-basins
+    slice-write-unit-basins
     add-first
     add-at
     loop-less
@@ -170,4 +187,5 @@ fill-units-spec =
     same-length
     same-length-2
     same-length-3
+    same-length-4
     returns)

@@ -17,36 +17,36 @@ use Rattle.index.proofs.units.index_fits.Reads as index-fits-reads
 
 -- Points of the function, each from a later one.
 abbrev start : tie.After-index-fits → tie.Start
-start c = c .before .before .before .before .before .before
+start c = c .before .before .before .before .before .before .before .before
 
 abbrev then1 : tie.After-fill-units → tie.Then1
-then1 c = c .before .before .before .before
+then1 c = c .before .before .before .before .before
 
-abbrev after-fill-units : tie.After-slice-known6 → tie.After-fill-units
-after-fill-units c = c .before .before .before .before .before .before
+abbrev after-fill-units : tie.After-slice-known8 → tie.After-fill-units
+after-fill-units c = c .before .before .before .before .before .before .before .before
 
 abbrev after-index-fits : tie.After-index-fits2 → tie.After-index-fits
 after-index-fits c = c .before .before .before
 
 abbrev then2 : tie.After-fill-units2 → tie.Then2
-then2 c = c .before .before .before .before
+then2 c = c .before .before .before .before .before
 
-abbrev after-fill-units2 : tie.After-slice-known9 → tie.After-fill-units2
-after-fill-units2 c = c .before .before .before .before .before .before
+abbrev after-fill-units2 : tie.After-slice-known12 → tie.After-fill-units2
+after-fill-units2 c = c .before .before .before .before .before .before .before .before
 
 -- what was lent, and how many groups there are
 abbrev lentAt : tie.After-index-fits → LentIndex
-lentAt c = let a = (start c) .args in lentIndex (a .units .now) (a .outlets .now) (a .counts .now)
+lentAt c = let a = (start c) .args in lentIndex (a .units .now) (a .outlets .now) (a .counts .now) (a .unit-basins .now)
 
 abbrev groupCount : tie.After-index-fits → ℕ
-groupCount c = let a = (start c) .args in length (groupsOf (a .cells .now) (a .labels .now))
+groupCount c = let a = (start c) .args in length (groupsOf (a .cells .now) (a .labels .now) (a .basins .now))
 
 -- there is a place for each cell, so for each group
 room-for-cells : (c : tie.Then1) → Room (groupCount (c .before)) (lentAt (c .before))
 unfolding indexFits
 room-for-cells c =
     let a = (start (c .before)) .args in
-    less-room _ (groups-few (a .cells .now) (a .labels .now))
+    less-room _ (groups-few (a .cells .now) (a .labels .now) (a .basins .now))
     (fits-room (lentAt (c .before)) (length (a .cells .now)) (sym (c .before .index-fits .ensures) ∙ c .if1 .taken))
 
 -- the test of as many places as were counted
@@ -68,7 +68,7 @@ index-fits-requires c κs = search needs
 
 fill-units-requires : tie.Need-fill-units-requires
 fill-units-requires c κs =
-    let t = c .before .before .before in ((start (t .before)) .pre, room-for-cells t)
+    let t = c .before .before .before .before in ((start (t .before)) .pre, room-for-cells t)
 
 same-length : tie.Need-same-length
 same-length c = search needs
@@ -78,6 +78,9 @@ same-length-2 c = search needs
 
 same-length-3 : tie.Need-same-length-3
 same-length-3 c = search needs
+
+same-length-4 : tie.Need-same-length-4
+same-length-4 c = search needs
 
 returns : tie.Need-returns
 returns c =
@@ -92,16 +95,19 @@ index-fits-requires-2 c κs = search needs
 
 fill-units-requires-2 : tie.Need-fill-units-requires-2
 fill-units-requires-2 c κs =
-    let t = c .before .before .before in ((start (after-index-fits (t .before))) .pre, room-counted t)
-
-same-length-4 : tie.Need-same-length-4
-same-length-4 c = search needs
+    let t = c .before .before .before .before in ((start (after-index-fits (t .before))) .pre, room-counted t)
 
 same-length-5 : tie.Need-same-length-5
 same-length-5 c = search needs
 
 same-length-6 : tie.Need-same-length-6
 same-length-6 c = search needs
+
+same-length-7 : tie.Need-same-length-7
+same-length-7 c = search needs
+
+same-length-8 : tie.Need-same-length-8
+same-length-8 c = search needs
 
 returns-2 : tie.Need-returns-2
 returns-2 c =
@@ -120,12 +126,14 @@ write-units-spec =
     same-length
     same-length-2
     same-length-3
+    same-length-4
     returns
     count-units-requires
     index-fits-requires-2
     fill-units-requires-2
-    same-length-4
     same-length-5
     same-length-6
+    same-length-7
+    same-length-8
     returns-2
     returns-3)

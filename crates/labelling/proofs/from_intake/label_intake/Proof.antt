@@ -10,7 +10,7 @@ use Rattle.labelling.proofs.label.Reads as label-reads
 
 -- Points of the function, each from a later one.
 abbrev after-stage : tie.After-label → tie.After-stage
-after-stage c = c .before .before .before .before .before
+after-stage c = c .before .before .before .before .before .before
 
 enum-told : tie.Need-enum-told
 enum-told c = search needs
@@ -69,11 +69,14 @@ same-length-2 c = search needs
 same-length-3 : tie.Need-same-length-3
 same-length-3 c = search needs
 
+same-length-4 : tie.Need-same-length-4
+same-length-4 c = search needs
+
 returns-7 : tie.Need-returns-7
 unfolding intakeOutcome intakeLent
 returns-7 c =
-    rw ((after-stage (c .before .before .before .before .before .before)) .stage .given .1)
-    (c .before .before .before .before .before .before .label .ensures)
+    rw ((after-stage (c .before .before .before .before .before .before .before .before)) .stage .given .1)
+    (c .before .before .before .before .before .before .before .before .label .ensures)
 
 pub label-intake-spec : {M : Type 1} → statement M
 label-intake-spec =
@@ -96,4 +99,5 @@ label-intake-spec =
     same-length
     same-length-2
     same-length-3
+    same-length-4
     returns-7)

@@ -14,21 +14,22 @@ use Rattle.levy.proofs.levy.Reads as levy-reads
 
 -- Points of the function, each from a later one.
 abbrev start : tie.Else1 → tie.Start
-start c = c .before .before .before .before .before .before .before .before .before .before
+start c = c .before .before .before .before .before .before .before .before .before .before .before .before
 
 abbrev after-stage : tie.After-levy → tie.After-stage
-after-stage c = c .before .before .before .before .before .before .before .before .before
+after-stage c = c .before .before .before .before .before .before .before .before .before .before .before
 
-abbrev after-levy : tie.After-slice-known14 → tie.After-levy
+abbrev after-levy : tie.After-slice-known18 → tie.After-levy
 after-levy c =
     c .before .before .before .before .before .before .before .before .before .before .before .before .before .before
+    .before .before .before .before
 
 -- the total is within its bound
 within : (c : tie.Else1) → (start c) .args .total ≤ greatestTotal
 within c = omega (arith, c .if1 .left)
 
 returns : tie.Need-returns
-returns c = too-large _ _ _ _ _ _ (omega (arith, c .if1 .taken))
+returns c = too-large _ _ _ _ _ _ _ (omega (arith, c .if1 .taken))
 
 enum-told : tie.Need-enum-told
 enum-told c = search needs
@@ -56,27 +57,27 @@ levy-requires c κs = search needs
 
 returns-2 : tie.Need-returns-2
 unfolding endedSizes
-returns-2 c = not-ended _ _ _ _ _ _ (within (c .before .before)) (ap endedSizes (c .enum-told .given .1))
+returns-2 c = not-ended _ _ _ _ _ _ _ (within (c .before .before)) (ap endedSizes (c .enum-told .given .1))
 
 returns-3 : tie.Need-returns-3
 unfolding endedSizes
-returns-3 c = not-ended _ _ _ _ _ _ (within (c .before .before)) (ap endedSizes (c .enum-told2 .given .1))
+returns-3 c = not-ended _ _ _ _ _ _ _ (within (c .before .before)) (ap endedSizes (c .enum-told2 .given .1))
 
 returns-4 : tie.Need-returns-4
 unfolding endedSizes
-returns-4 c = not-ended _ _ _ _ _ _ (within (c .before .before)) (ap endedSizes (c .enum-told3 .given .1))
+returns-4 c = not-ended _ _ _ _ _ _ _ (within (c .before .before)) (ap endedSizes (c .enum-told3 .given .1))
 
 returns-5 : tie.Need-returns-5
 unfolding endedSizes
-returns-5 c = not-ended _ _ _ _ _ _ (within (c .before .before)) (ap endedSizes (c .enum-told4 .given .1))
+returns-5 c = not-ended _ _ _ _ _ _ _ (within (c .before .before)) (ap endedSizes (c .enum-told4 .given .1))
 
 returns-6 : tie.Need-returns-6
 unfolding endedSizes
-returns-6 c = not-ended _ _ _ _ _ _ (within (c .before .before)) (ap endedSizes (c .enum-told5 .given .1))
+returns-6 c = not-ended _ _ _ _ _ _ _ (within (c .before .before)) (ap endedSizes (c .enum-told5 .given .1))
 
 returns-7 : tie.Need-returns-7
 unfolding endedSizes
-returns-7 c = not-ended _ _ _ _ _ _ (within (c .before .before)) (ap endedSizes (c .enum-told6 .given .1))
+returns-7 c = not-ended _ _ _ _ _ _ _ (within (c .before .before)) (ap endedSizes (c .enum-told6 .given .1))
 
 same-length : tie.Need-same-length
 same-length c = search needs
@@ -99,10 +100,16 @@ same-length-6 c = search needs
 same-length-7 : tie.Need-same-length-7
 same-length-7 c = search needs
 
+same-length-8 : tie.Need-same-length-8
+same-length-8 c = search needs
+
+same-length-9 : tie.Need-same-length-9
+same-length-9 c = search needs
+
 returns-8 : tie.Need-returns-8
 unfolding endedSizes
 returns-8 c =
-    let l = after-levy c in ended _ _ _ _ _ _ (ap endedSizes ((after-stage l) .stage .given .1)) (l .levy .ensures)
+    let l = after-levy c in ended _ _ _ _ _ _ _ (ap endedSizes ((after-stage l) .stage .given .1)) (l .levy .ensures)
 
 pub levy-intake-spec : {M : Type 1} → statement M
 levy-intake-spec =
@@ -130,4 +137,6 @@ levy-intake-spec =
     same-length-5
     same-length-6
     same-length-7
+    same-length-8
+    same-length-9
     returns-8)

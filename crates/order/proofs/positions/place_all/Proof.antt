@@ -1,47 +1,45 @@
 -- `place_all` meets its contract. The invariant: the donors of the first i cells of the queue have their positions, and
--- so has the outlet. The measure: the cells of the queue that are left.
-use mathlib.Core.Path.{_≡_, refl, sym, _∙_, ap, subst}
+-- so have the outlets. The measure: the cells of the queue that are left.
+use mathlib.Core.Path.{_≡_, refl, _∙_}
 use mathlib.Core.List.{List}
-use Prim.Native.Nat.{ℕ, _-_, _≤_, _<_, _*_, _+_}
+use Prim.Native.Nat.{ℕ, _-_, _≤_, _*_}
 use native.Mathlib.Omega.{arith}
-use lib.ListN.{length, getD, set, length-set}
+use lib.ListN.{length}
 use borrow.Author.Needs.{needs}
 use Rattle.sheet.specs.Sheet.{grid}
-use Rattle.sheet.specs.Label.{outlet}
-use Rattle.sheet.proofs.Cells.{cells-most, inside-lt}
-use Rattle.upstream.specs.Work.{positionsPart}
-use Rattle.order.specs.Places.{Surveyed, Placed}
-use Rattle.order.proofs.Queued.{whole, queue-most, placed-none, standing, placed-more}
+use Rattle.sheet.proofs.Cells.{cells-most}
+use Rattle.order.specs.Places.{outletsIn, Surveyed, positioned, Placed}
+use Rattle.order.proofs.Queued.{queue-most, outlets-first, outlets-fit, placed-none, standing, placed-more}
 use Rattle.order.proofs.positions.place_all.Statement.{statement}
 use Rattle.order.proofs.positions.place_all.Tie as tie
 use Rattle.order.proofs.positions.place_all.Reads as reads
 use Rattle.order.proofs.positions.place_all.Lts as lts
-use Rattle.order.proofs.positions.place_outlet.Reads as place-outlet-reads
+use Rattle.order.proofs.positions.place_outlets.Reads as place-outlets-reads
 use Rattle.order.proofs.positions.place_upstream.Reads as place-upstream-reads
 
 abbrev Inv-loop : tie.InvT-loop
 Inv-loop dirs rows cols areas queued work₀ i₀ work i =
     (i ≤ queued) × (length work ≡ length work₀)
-    × ((entry : List ℕ) → Surveyed (grid rows cols dirs) areas entry queued → work₀ ≡ set entry
-    (positionsPart * (rows * cols) + outlet (grid rows cols dirs)) 0
+    × ((entry : List ℕ) → Surveyed (grid rows cols dirs) areas entry queued → work₀ ≡ positioned
+    (rows * cols) 0 (outletsIn (grid rows cols dirs) entry) entry
     → Placed (grid rows cols dirs) areas entry work queued i)
 
 abbrev μ-loop : tie.MeasureT-loop
 μ-loop dirs rows cols areas queued work₀ i₀ work i = queued - i
 
 -- Points of the function, each from a later one.
-abbrev start : tie.After-place-outlet Inv-loop μ-loop → tie.Start Inv-loop μ-loop
+abbrev start : tie.After-place-outlets Inv-loop μ-loop → tie.Start Inv-loop μ-loop
 start c = c .before .before .before .before .before
 
 most : (c : tie.Start Inv-loop μ-loop) → c .args .rows * c .args .cols ≤ 65536
 most c = cells-most (c .pre .measured .sized .rows-most) (c .pre .measured .sized .cols-most)
 
--- the outlet has its position
-outlet-placed : (c : tie.After-place-outlet Inv-loop μ-loop)
-    → c .place-outlet .last .1 .0 ≡ set (c .before .before .before .before .before .args .work .now)
-    (positionsPart *
-    (c .before .before .before .before .before .args .rows * c .before .before .before .before .before .args .cols) + outlet (grid (c .before .before .before .before .before .args .rows) (c .before .before .before .before .before .args .cols) (c .before .before .before .before .before .args .dirs .now))) 0
-outlet-placed c = c .place-outlet .ensures ∙ (rw (c .before .before .before .before .before .pre .single .first))
+-- the outlets have their positions
+outlets-placed : (c : tie.After-place-outlets Inv-loop μ-loop)
+    → let a = (start c) .args in
+    c .place-outlets .last .1 .1 .0 ≡ positioned (a .rows * a .cols) 0
+    (outletsIn (grid (a .rows) (a .cols) (a .dirs .now)) (a .work .now)) (a .work .now)
+outlets-placed c = c .place-outlets .ensures ∙ (rw (outlets-first ((start c) .pre)))
 
 -- the first cells of the queue have been gone through
 present : (c : tie.At-loop Inv-loop μ-loop)
@@ -52,22 +50,17 @@ present : (c : tie.At-loop Inv-loop μ-loop)
     ((start (c .before .before .before)) .args .queued) (c .loop .i)
 present c =
     c .loop .inv .2 ((start (c .before .before .before)) .args .work .now) ((start (c .before .before .before)) .pre)
-    (outlet-placed (c .before .before .before))
+    (outlets-placed (c .before .before .before))
 
 length-kept : (c : tie.At-loop Inv-loop μ-loop)
     → length (c .loop .work) ≡ length ((start (c .before .before .before)) .args .work .now)
-length-kept c = c .loop .inv .1 ∙ c .before .before .before .place-outlet .kept .1 .0
+length-kept c = c .loop .inv .1 ∙ c .before .before .before .place-outlets .kept .1 .1 .0
 
-mul-place-outlet : tie.Need-mul-place-outlet Inv-loop μ-loop
-mul-place-outlet c = omega (arith, most (c .before .before .before))
+mul-place-outlets : tie.Need-mul-place-outlets Inv-loop μ-loop
+mul-place-outlets c = omega (arith, most (c .before .before .before))
 
-place-outlet-requires : tie.Need-place-outlet-requires Inv-loop μ-loop
-place-outlet-requires c κs =
-    let p = c .before .before .before .before .pre in (
-      most (c .before .before .before .before),
-      p .room,
-      rw (p .single .first) (inside-lt _ _ (whole p 0 0 .outlet-inside)),
-    )
+place-outlets-requires : tie.Need-place-outlets-requires Inv-loop μ-loop
+place-outlets-requires c κs = outlets-fit (c .before .before .before .before .pre)
 
 loop-holds : tie.Need-loop-holds Inv-loop μ-loop
 loop-holds c = (omega arith, refl, λ w s e. rw e (placed-none s))
@@ -128,8 +121,8 @@ place-all-spec =
     (tie.spec
     Inv-loop
     μ-loop
-    mul-place-outlet
-    place-outlet-requires
+    mul-place-outlets
+    place-outlets-requires
     loop-holds
     mul-cell
     slice-read-cell

@@ -4,7 +4,7 @@ use mathlib.Core.Path.{_≡_, refl, sym, _∙_}
 use Prim.Native.Nat.{ℕ, _-_, _≤_, _<_, _*_, _+_, _^_}
 use native.Mathlib.Omega.{arith}
 use native.Mathlib.Numerals.{add-one}
-use mathlib.Core.List.{_∷_, List·Memᴰ·head}
+use mathlib.Core.List.{_∷_, map, List·Memᴰ·head}
 use lib.ListN.{length, getD, drop, length-set}
 use lib.Seq.{drop-cons, drop-length}
 use borrow.Author.Needs.{needs}
@@ -20,8 +20,8 @@ use Rattle.order.proofs.positions.place_donors.Lts as lts
 
 abbrev Inv-loop : tie.InvT-loop
 Inv-loop n first keys work₀ sizes positions at₀ k₀ k-end work at k =
-    (k ≤ length keys) × (length work ≡ length work₀) × PositionsFit n at (drop k keys) work
-    × (positioned n at (drop k keys) work ≡ positioned n first keys work₀)
+    (k ≤ length keys) × (length work ≡ length work₀) × PositionsFit n at (map cellOf (drop k keys)) work
+    × (positioned n at (map cellOf (drop k keys)) work ≡ positioned n first (map cellOf keys) work₀)
 
 abbrev μ-loop : tie.MeasureT-loop
 μ-loop n first keys work₀ sizes positions at₀ k₀ k-end work at k = length keys - k
@@ -36,8 +36,8 @@ rest c =
 
 fitted : (c : tie.In-loop Inv-loop μ-loop)
     → PositionsFit (c .before .before .args .n) (c .before .loop .at)
-    (getD (c .before .before .args .keys .now) (c .before .loop .k) 0 ∷ drop (c .before .loop .k + 1)
-    (c .before .before .args .keys .now)) (c .before .loop .work)
+    (map cellOf (getD (c .before .before .args .keys .now) (c .before .loop .k) 0 ∷ drop (c .before .loop .k + 1)
+    (c .before .before .args .keys .now))) (c .before .loop .work)
 fitted c = rw (rest c) at (c .before .loop .inv .2)
 
 on : (c : tie.In-loop Inv-loop μ-loop)

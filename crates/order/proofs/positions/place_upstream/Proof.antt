@@ -1,11 +1,10 @@
-use mathlib.Core.Path.{_≡_, refl, sym, _∙_}
+use mathlib.Core.Path.{sym}
 use Prim.Native.Nat.{_<_, _*_}
 use native.Mathlib.Omega.{arith}
 use lib.Seq.{length-take-le}
-use Rattle.sheet.specs.Sheet.{grid}
 use Rattle.sheet.proofs.Cells.{inside-lt}
 use Rattle.order.proofs.Listed.{listed-first, listed-within}
-use Rattle.order.proofs.Standing.{none-placed, fitting, donors-placed}
+use Rattle.order.proofs.Standing.{none-placed, key-cells, fitting, donors-placed}
 use borrow.Author.Needs.{needs}
 use Rattle.order.proofs.positions.place_upstream.Statement.{statement}
 use Rattle.order.proofs.positions.place_upstream.Tie as tie
@@ -91,20 +90,21 @@ slice-aggregate-place-donors c =
 
 place-donors-requires : tie.Need-place-donors-requires
 place-donors-requires c κs =
-    rw (listed-first (c .before .before .before .donors-of .ensures))
-    (fitting ((start (else1 (c .before .before .before))) .pre .0)
-    ((start (else1 (c .before .before .before))) .pre .1))
+    let p = (start (else1 (c .before .before .before))) .pre in
+    rw (listed-first (c .before .before .before .donors-of .ensures), key-cells (p .0) (p .1))
+    (fitting (p .0) (p .1))
 
 same-length : tie.Need-same-length
 same-length c = search needs
 
 returns-2 : tie.Need-returns-2
 returns-2 c =
+    let p = (start (else1 (c .before .before .before .before .before .before))) .pre in
     rw (
       c .before .before .place-donors .ensures,
       listed-first (c .before .before .before .before .before .before .donors-of .ensures),
-    ) (donors-placed ((start (else1 (c .before .before .before .before .before .before))) .pre .0)
-    ((start (else1 (c .before .before .before .before .before .before))) .pre .1))
+      key-cells (p .0) (p .1),
+    ) (donors-placed (p .0) (p .1))
 
 pub place-upstream-spec : {M : Type 1} → statement M
 place-upstream-spec =

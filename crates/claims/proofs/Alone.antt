@@ -22,7 +22,7 @@ use Rattle.sheet.proofs.Lists.{list-at, written-at}
 use Rattle.claims.specs.Demand.{basinAt}
 use Rattle.claims.specs.Alone.{AloneIsDirect, BasinsMeaning}
 use Rattle.claims.proofs.Sheets.{PassedOn, passed-on, outlet-is}
-use Rattle.claims.proofs.BasinNumbers.{basin-stays, outlets-rise, basin-some, basin-most}
+use Rattle.claims.proofs.BasinNumbers.{basin-stays, outlets-rise, basin-some, basin-most, basin-outside, outlet-number}
 use Rattle.claims.proofs.BasinGrids.{area-same, label-same}
 
 list-same : {A : Type 0} (f g : ℕ → A) (i m : ℕ) → ((c : ℕ) → f c ≡ g c) → listFrom f i m ≡ listFrom g i m
@@ -87,6 +87,8 @@ pub basins-meaning : (S : Sheet) → outcomeOn (S .grid) ≡ Accepted → (basin
 basins-meaning S accepted basins old e = record {
   some = λ c i. rw (basin c (inside-lt G c i)) (basin-some G P c i);
   most = λ c i. rw (basin c (inside-lt G c i)) (basin-most G P c i);
+  outside = λ c l o. basin c l ∙ basin-outside G c o;
+  numbered = λ o f. basin o (inside-lt G o ((outlet-is G o f) .0)) ∙ outlet-number G P o f;
   stays = λ c r n. basin c (next-from-lt G c n) ∙ basin-stays G P c r n ∙ sym (basin r (next-to-lt G c n));
   rising = λ o p f g l.
       rw (basin o (inside-lt G o ((outlet-is G o f) .0)), basin p (inside-lt G p ((outlet-is G p g) .0)))

@@ -1,12 +1,12 @@
 -- What document 02 says of basins, of the numbers that were written: their order, and that areas and labels are those
 -- of the sheet on which all other basins are set to 0; where there is one basin, they are those of document 01.
 use mathlib.Core.Path.{_≡_}
-use mathlib.Core.Bool.{true}
+use mathlib.Core.Bool.{true, false}
 use mathlib.Core.List.{List}
-use Prim.Native.Nat.{ℕ, _≤_, _<_}
+use Prim.Native.Nat.{ℕ, suc, _≤_, _<_}
 use lib.ListN.{getD}
 use Rattle.sheet.specs.declared.Next.the-variants.{To}
-use Rattle.sheet.specs.Sheet.{Grid, Sheet, cells, isOutlet, next}
+use Rattle.sheet.specs.Sheet.{Grid, Sheet, cells, inside, isOutlet, next}
 use Rattle.sheet.specs.Area.{count, area}
 use Rattle.sheet.specs.Record.{labelAt}
 use Rattle.sheet.specs.Label.{labelOf, areasOf, labelsOf}
@@ -27,6 +27,10 @@ pub record BasinsMeaning (S : Sheet) (basins : List ℕ) : Type 0 where
   -- from 1 to the number of outlets
   pub some : (c : ℕ) → Inside S c → 1 ≤ basinAt basins c
   pub most : (c : ℕ) → Inside S c → basinAt basins c ≤ basinCount (S .grid)
+  -- outside cells have 0
+  pub outside : (c : ℕ) → c < cells (S .grid) → inside (S .grid) c ≡ false → basinAt basins c ≡ 0
+  -- an outlet's is the count of outlets up to it, in reading order
+  pub numbered : (o : ℕ) → isOutlet (S .grid) o ≡ true → basinAt basins o ≡ count (suc o) (isOutlet (S .grid))
   -- water stays in its basin
   pub stays : (c r : ℕ) → next (S .grid) c ≡ To r → basinAt basins c ≡ basinAt basins r
   -- a later outlet has a larger number, so that a basin has one outlet

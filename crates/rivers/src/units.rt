@@ -124,8 +124,8 @@ fn number_cells(lo: usize, hi: usize, number: u32, cell: &[u32], basins: &mut [u
     ensures { λ _. ⌜ now (basins .exit)
         ≡ relabelled (stands (now (cell .entry)) lo (hi - lo)) (λ c. number) (now (basins .entry)) ⌝ }
 {
-    for j in lo..hi {
-        basins[cell[j] as usize] = number;
+    for i in lo..hi {
+        basins[cell[i] as usize] = number;
     }
 }
 

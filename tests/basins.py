@@ -82,3 +82,23 @@ def step_on_sheet(rows, cols, codes, cell):
     """Does the step of an inside cell stay on the sheet?"""
     row_step, col_step = reference.STEPS[codes[cell]]
     return 0 <= cell // cols + row_step < rows and 0 <= cell % cols + col_step < cols
+
+
+# What is counted of a sheet that is refused by 6.
+CIRCLE_KINDS = ['6 beside a basin', '6 beside several basins', '6 after cells of a basin', '6 upstream of a circle']
+
+
+def circle_kinds(rows, cols, dirs, place):
+    """The kinds that such a sheet belongs to; place is the cell that 6 tells."""
+    codes = reference.codes_of(dirs)
+    donors, outlets = reference.donors_and_outlets(rows, cols, codes)
+    if outlets:
+        yield '6 beside a basin' if len(outlets) == 1 else '6 beside several basins'
+        if min(reference.upstream(donors, outlets)) < place:
+            yield '6 after cells of a basin'
+    cell = place
+    for _ in codes:
+        cell = reference.step_end(rows, cols, codes, cell)
+        if cell == place:
+            return
+    yield '6 upstream of a circle'

@@ -350,9 +350,13 @@ def alone(rng, data, answer):
 
 def kinds_of(data, answer):
     """What is counted of a file: its answer; of a listing also its basins, the longest label, blanks, withdrawals,
-    weights, least and split, and what these change; of 10 also whether it was for a cell that had been withdrawn."""
+    weights, least and split, and what these change; of 6 also how the circle lies beside basins; of 10 also whether it
+    was for a cell that had been withdrawn."""
     if answer.startswith(b'refused'):
-        number = answer.split(b'\n')[1].split(b',')[0].decode()
+        number, place = answer.split(b'\n')[1].decode().split(',')
+        if number == '6':
+            state, dirs = reference.read_file(data)[2:4]
+            return [number, *basins.circle_kinds(state.rows, state.cols, dirs[:state.rows * state.cols], int(place))]
         return [number] + [REFUSED_AGAIN] * (number == '10' and withdrawals(data)[2])
     kinds = ['listings', LONGEST % longest_label(answer)]
     some, again, _ = withdrawals(data)
@@ -417,13 +421,13 @@ def main():
                       % (number, given[:2000], wanted[:500], out[:500], err[:200]))
     refusals = sorted(int(kind) for kind in counts if kind.isdigit())
     print('refusals: ' + ', '.join('%d: %d' % (number, counts[str(number)]) for number in refusals))
-    print(', '.join('%s: %d' % (kind, counts[kind]) for kind in [REFUSED_AGAIN] + LISTING_KINDS))
+    print(', '.join('%s: %d' % (kind, counts[kind]) for kind in [REFUSED_AGAIN] + basins.CIRCLE_KINDS + LISTING_KINDS))
     print('orders of the five names in listed files: %d' % len(orders))
     long = {length: counts[LONGEST % length] for length in long_labels.LENGTHS}
     print('listed files by the digits of their longest label: ' + ', '.join('%d: %d' % item for item in long.items()))
     print('%d passed, %d failed' % (passed, failed))
     complete = len(orders) == len(size_lines.ORDERS) and min(long.values()) > 0
-    complete = complete and all(counts[kind] > 0 for kind in LISTING_KINDS)
+    complete = complete and all(counts[kind] > 0 for kind in basins.CIRCLE_KINDS + LISTING_KINDS)
     return 0 if failed == 0 and passed > 0 and complete else 1
 
 

@@ -13,9 +13,8 @@ SOME = 5  # basins of a larger one that are
 # What is counted of a labelling call.
 LENGTH_KINDS = ['exact', 'one more', 'many more', 'refused: one too few', 'refused: none',
                 'refused: short basins alone']
-CIRCLE_KINDS = ['6 beside a basin', '6 beside several basins', '6 after cells of a basin', '6 upstream of a circle']
 ALONE = 'basins labelled alone'
-KINDS = basins.KINDS + LENGTH_KINDS + CIRCLE_KINDS + [ALONE]
+KINDS = basins.KINDS + LENGTH_KINDS + basins.CIRCLE_KINDS + [ALONE]
 
 # What is counted of an index call: the lengths of its basins.
 UNIT_KINDS = LENGTH_KINDS
@@ -46,7 +45,7 @@ def kinds(sheet, dirs, lengths, labelled):
     if number in (0, 3):
         yield from length_kinds(lengths[2], n, number, alone)
     if number == 6:
-        yield from circle_kinds(rows, cols, dirs[:n], labelled[1])
+        yield from basins.circle_kinds(rows, cols, dirs[:n], labelled[1])
 
 
 def length_kinds(length, count, number, alone):
@@ -61,21 +60,6 @@ def length_kinds(length, count, number, alone):
             yield 'refused: none'
         if alone:
             yield 'refused: short basins alone'
-
-
-def circle_kinds(rows, cols, dirs, place):
-    codes = reference.codes_of(dirs)
-    donors, outlets = reference.donors_and_outlets(rows, cols, codes)
-    if outlets:
-        yield '6 beside a basin' if len(outlets) == 1 else '6 beside several basins'
-        if min(reference.upstream(donors, outlets)) < place:
-            yield '6 after cells of a basin'
-    cell = place
-    for _ in codes:
-        cell = reference.step_end(rows, cols, codes, cell)
-        if cell == place:
-            return
-    yield '6 upstream of a circle'
 
 
 def compare_alone(rng, sheet, dirs, lent, labelled):

@@ -1,5 +1,5 @@
--- The third demand, about any labels: where water goes, which cells are inside, the depth, the least area of a mouth
--- that is counted, each cell's label and its digits.
+-- The third demand, about any labels: where water goes, which cells it is about (`inside`: of a sheet, the inside cells
+-- of one basin), the depth, the least area of a mouth that is counted, each cell's label and its digits.
 use mathlib.Core.Path.{_≡_}
 use mathlib.Core.Bool.{true}
 use mathlib.Core.List.{List}

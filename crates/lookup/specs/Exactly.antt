@@ -30,7 +30,7 @@ pub record NeighboursRise (units : List UnitName) : Type 0 where
 pub record PairsRise (units : List UnitName) : Type 0 where
   pub earlier : (i j : ℕ) → i < j → j < length units → isBefore (entryDigits units i) (entryDigits units j) ≡ true
 
--- a unit of the leading unit's basin whose label begins with the leading digits
+-- a unit of the basin that is named beside the leading digits, whose label begins with these
 pub record BeginsSo (leading m : UnitName) : Type 0 where
   pub basin : m .basin ≡ leading .basin
   pub digits : Begins (digitsOf (leading .label)) (digitsOf (m .label))
@@ -41,7 +41,7 @@ pub record Exactly (leading : UnitName) (units : List UnitName) (start count : �
   pub within : start + count ≤ length units
   -- it holds exactly the units that begin so
   pub exactly : (i : ℕ) → i < length units → ((start ≤ i) × (i < start + count)) ↔ BeginsSo leading (entryAt units i)
-  -- the entries before it stand before the leading digits in their basin
+  -- the entries before it stand before the leading digits in the basin named
   pub ahead : (i : ℕ) → i < start → isBefore (entryDigits units i) (basinAndDigits leading) ≡ true
   -- the entries after it stand after them; so an empty part stands at the place that they would take
   pub past : (i : ℕ) → start + count ≤ i → i < length units

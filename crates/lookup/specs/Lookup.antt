@@ -28,7 +28,7 @@ unfoldable pub standsBefore : UnitName → UnitName → Bool
 unfolding isBefore basinAndDigits
 standsBefore m k = isBefore (basinAndDigits m) (basinAndDigits k)
 
--- the unit m is of the leading unit's basin, and its label begins with the leading digits
+-- the unit m is of the basin that is named beside the leading digits, and its label begins with these
 unfoldable pub beginsWith : UnitName → UnitName → Bool
 unfolding begins basinAndDigits
 beginsWith leading m = begins (basinAndDigits leading) (basinAndDigits m)
@@ -50,12 +50,12 @@ unfoldable pub counted : (UnitName → Bool) → List UnitName → ℕ
 counted test [] = 0
 counted test (m ∷ units) = let rest = counted test units in cond (test m) (suc rest) rest
 
--- how many entries stand before the leading digits in their basin: the place where the part starts
+-- how many entries stand before the leading digits in the basin named: the place where the part starts
 unfoldable pub startOf : UnitName → List UnitName → ℕ
 unfolding counted standsBefore
 startOf leading units = counted (λ m. standsBefore m leading) units
 
--- how many entries begin with the leading digits in their basin
+-- how many entries are of the basin named and begin with the leading digits
 unfoldable pub lengthOf : UnitName → List UnitName → ℕ
 unfolding counted beginsWith
 lengthOf leading units = counted (beginsWith leading) units

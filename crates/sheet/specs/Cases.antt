@@ -14,7 +14,7 @@ use Rattle.sheet.specs.declared.UnitName.{UnitName}
 use Rattle.sheet.specs.Record.{labelOfNumbers, recordOf, digitsOf, labelsIn, numbersOf, labelPlaces}
 use Rattle.sheet.specs.Record.{unitName, basinAndDigits, unitsIn}
 use Rattle.sheet.specs.Basins.{basinOf, basinGrid, basinArea, basinLabel, basinsOf}
-use Rattle.sheet.specs.Label.{labelOf, outlet, listFrom}
+use Rattle.sheet.specs.Label.{labelOf, outletOf, listFrom}
 use Rattle.sheet.specs.Refusal.{Lent, outcome, OutcomeValues, outcomeValues, lentAfter}
 use Rattle.sheet.specs.Flow.{isLabel, outletFlow, flow, answerNumber, outletAnswerNumber}
 
@@ -98,10 +98,10 @@ outcomeIs S L = let v : OutcomeValues = outcomeValues (outcome S L) in v .number
 
 -- the cases marked *
 unfoldable pub cases : List Case
-unfolding area network river labelOf outlet outcome flow numbersOf
+unfolding area network river labelOf outletOf outcome flow numbersOf
 cases =
     case (area (sheet sampleA 2) 4 ∷ []) (11 ∷ [])
-    ∷ case (mouthsAt 5 (river (network (sheet sampleA 2)) (outlet sampleA))) (9 ∷ 10 ∷ 1 ∷ [])
+    ∷ case (mouthsAt 5 (river (network (sheet sampleA 2)) (outletOf sampleA 5))) (9 ∷ 10 ∷ 1 ∷ [])
     ∷ case (labelsAt (sheet sampleA 2) (3 ∷ 11 ∷ [])) (shorts (92 ∷ 93 ∷ []))
     ∷ case (labelsAt (sheet sampleA 1) (3 ∷ 6 ∷ 7 ∷ 11 ∷ [])) (shorts (9 ∷ 9 ∷ 9 ∷ 9 ∷ []))
     ∷ case (area (sheet (grid 1 1 (1 ∷ [])) 1) 0 ∷ labelsAt (sheet (grid 1 1 (1 ∷ [])) 1) (0 ∷ []))

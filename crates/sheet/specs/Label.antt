@@ -7,7 +7,7 @@ use Rattle.sheet.specs.declared.Found.{Found}
 use Rattle.sheet.specs.declared.Found.the-variants.{At, Nothing}
 use Rattle.sheet.specs.declared.Label.{Label}
 use Rattle.sheet.specs.Record.{recordOf, noDigits, numbersOf}
-use Rattle.sheet.specs.Sheet.{Grid, Sheet, cells, inside, next, isOutlet, first}
+use Rattle.sheet.specs.Sheet.{Grid, Sheet, cells, inside, next}
 use Rattle.sheet.specs.Water.{passes, wayEnd}
 use Rattle.sheet.specs.Area.{area}
 use Rattle.sheet.specs.River.{Network, network, stem, mouth, Run, river}
@@ -61,11 +61,6 @@ label N (suc depth) R c =
 abbrev pub cellFound : Found → ℕ
 cellFound (At c) = c
 cellFound Nothing = 0
-
--- the first outlet in reading order
-unfoldable pub outlet : Grid → ℕ
-unfolding isOutlet first
-outlet G = cellFound (first (isOutlet G) (cells G))
 
 -- the outlet that an inside cell's water comes to
 unfoldable pub outletOf : Grid → ℕ → ℕ

@@ -1,8 +1,8 @@
 /* Times the proved labelling call against the plain C baseline, also with one mouth taken at a time, so that labels get
    up to 36 digits, the same call with a least above 1 against that with least 1, the index call against the labelling
    call, the levy call against the index call, and check 4 by words against check 4 by bytes, on the same sheets in one
-   run, some of them with many basins, then the call for many pairs of labels, and prints the ratios. Where nothing else
-   is said, least is 1 and split 4; the levy is that of the last basin. */
+   run, some of them with many basins, then the call for many pairs of labels and the check of survey plans, and prints
+   the ratios. Where nothing else is said, least is 1 and split 4; the levy is that of the last basin. */
 #include <stdint.h>
 #include <stdio.h>
 #include <stdlib.h>
@@ -11,6 +11,7 @@
 #include "pfafstetter.h"
 #include "sheets.h"
 #include "time_pairs.h"
+#include "time_plans.h"
 
 enum { LEAST = 16 }; /* of the call with a least above 1 */
 
@@ -265,5 +266,6 @@ int main(void) {
     words_against_bytes();
     time_a_cell();
     pairs_against_plain();
+    plans_against_plain();
     return 0;
 }

@@ -4,14 +4,16 @@
    A label is a record of two 64-bit numbers: its first 18 digits as one decimal number, then the next ones, the 19th to
    the 36th, as another, 0 if there are none. No digits at all are 0 and 0. Text shows the digits of both joined. A call
    takes a single label as two arguments, first and rest. In a slice of labels a record is two neighbouring numbers,
-   first and rest. The length of such a slice (labels_len, units_len, p_len, q_len) counts numbers, so that n labels
-   need 2n; each record is one place, and an odd number at the end is no place: it is neither looked at nor changed.
+   first and rest. The length of such a slice (labels_len, units_len, p_len, q_len, index_len, plan_len) counts numbers,
+   so that n labels need 2n; each record is one place, and an odd number at the end is no place: it is neither looked at
+   nor changed.
 
    A sheet may hold several basins. They are numbered from 1 by their outlets in reading order; a cell is in the basin
    of the outlet that its water comes to. The areas and labels of a basin are those that it has where the cells of all
    others are set to 0. So labels of different basins may be equal, and a label says which cells are meant only together
    with the number of its basin: where a call takes a label, it takes that number too, and beside a slice of labels
-   stands a slice of these numbers, one place a label. */
+   stands a slice of these numbers, one place a label. Only pf_check_plan takes none, since all its labels are of one
+   basin. */
 #ifndef PFAFSTETTER_H
 #define PFAFSTETTER_H
 
@@ -111,6 +113,22 @@ uint64_t pf_flow_pairs(size_t depth, size_t least, const uint64_t *p, size_t p_l
    order: 2, 11, No if the basins differ, Same, 12, and then the rule. */
 uint32_t pf_outlet_flow(size_t depth, uint32_t p_basin, uint64_t p_first, uint64_t p_rest, uint32_t q_basin,
                         uint64_t q_first, uint64_t q_rest);
+
+/* Checks a survey plan, a list of unit labels of one basin, by which its units are gauged from the headwaters down.
+   index holds the labels of that basin, as pf_index lists them; in an index of several basins they are neighbours. The
+   plan is accepted exactly if each of these units stands in it once, after every other one whose water passes its
+   outlet, by the rule of pf_outlet_flow. work needs one place for each label of index. Returns 0, or refusal number +
+   256 x place. index is judged first, as a whole and in this order, each with place 0: 11 if one of its records is no
+   label of up to 36 digits, 16 if it does not rise strictly in dictionary order, 12 if one of its labels begins
+   another, 3 if there are fewer work places than labels in it. Then the plan is read from its first record on; the
+   first one that is refused is told with its place in the plan, from 1: by 20 if it is no label of index, or has stood
+   at an earlier place; otherwise by 21 if another unit whose water passes its outlet has not come at an earlier place.
+   A record that is no label at all is refused by 20 too. After the last one 22, if a unit is missing from the plan,
+   with the place in index, from 1, of the first that is missing. The first work places, one for each label of index,
+   are 0 afterwards, accepted or refused, unless the refusal was 11, 16, 12 or 3: then none is written. What stands past
+   them keeps its values, and what stood in them before does not matter. */
+uint64_t pf_check_plan(const uint64_t *index, size_t index_len, const uint64_t *plan, size_t plan_len, uint32_t *work,
+                       size_t work_len);
 
 /* Eight directions as one word, the first in its lowest byte: the place, 0 to 7, of the first that is none of the nine
    codes, or 8 if all are codes. */

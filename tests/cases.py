@@ -3,8 +3,8 @@
 #
 # A file can get refusals 1 to 6, 8 to 10, 14, 17 and 19. It cannot get
 #   7: no call gives it any more;
-#   11, 12, 16 and 18: they belong to the flow question, the outlet question, the lookup and the levy, of which the
-#   program makes no use;
+#   11, 12, 16, 18 and 20 to 22: they belong to the flow question, the outlet question, the lookup, the levy and the
+#   check of a plan, of which the program makes no use;
 #   13: the program hands over no line and no end after the end;
 #   15: the program labels only after the intake has accepted the end.
 # Nor can it get 1 to 4, 17 or 19 from labelling, since the intake has refused such sizes, directions and weights
@@ -18,6 +18,7 @@ import sys
 sys.dont_write_bytecode = True
 import basin_checks
 import long_label_checks
+import plan_checks
 import split_checks
 from labels import of_units, record, records, slice_of
 from reference import (Intake, first_bad, flow, flow_pairs, index, index_intake, label, label_intake, levy,
@@ -467,7 +468,7 @@ def main():
     checks += [*flow_checks(), *pair_checks(), *sheet_checks(), *word_checks(), *sample_checks(), *weight_checks()]
     checks += [*index_checks(), *levy_checks(), *lookup_checks(), *intake_checks(), *intake_weight_checks()]
     checks += [*intake_withdrawal_checks(), *split_checks.checks(), *long_label_checks.checks()]
-    checks += basin_checks.checks()
+    checks += basin_checks.checks() + plan_checks.checks()
     failures = [check for check in checks if check[1] != check[2]]
     for name, got, expected in failures:
         print(f'{name}: expected {expected!r:.200}, got {got!r:.200}')

@@ -2,6 +2,7 @@
 # Written from documents 01 and 02 alone, by lists, sorting and text. Refusals are their numbers; 0 means accepted.
 
 import sys
+from functools import lru_cache
 from itertools import accumulate
 from typing import NamedTuple
 
@@ -374,6 +375,42 @@ def flow_pairs(depth, least, ps, p_basins, qs, q_basins, room):
         return 3, None
     return 0, [answer_number(flow(depth, least, p_basin, p, q_basin, q))
                for (p, q), p_basin, q_basin in zip(pairs, p_basins, q_basins)]
+
+# The check of a survey plan, with labels of one basin as records.
+
+def index_refusal(labels, room):
+    """The refusal of a basin's index by 11, 16, 12, 3, with so many work places lent."""
+    if not all(is_label(label, MAX_DEPTH) for label in labels):
+        return 11
+    texts = [digits_of(label) for label in labels]
+    if texts != sorted(set(texts)):
+        return 16
+    if any(p != q and q.startswith(p) for p in texts for q in texts):
+        return 12
+    return 3 if room < len(labels) else 0
+
+@lru_cache(maxsize=16)
+def units_upstream(labels):
+    """For each of these labels the others whose water passes its outlet."""
+    return {p: {q for q in labels if outlet_flow(MAX_DEPTH, 1, p, 1, q) == 'Yes'} for p in labels}
+
+def check_plan(index, plan, room):
+    """The check of a plan with the basin's index, both slices of labels, and so many work places: (number, place).
+    Accepted, both are 0."""
+    labels, read = records_of(index), []
+    number = index_refusal(labels, room)
+    if number != 0:
+        return number, 0
+    upstream_of = units_upstream(tuple(labels))
+    for label in records_of(plan):
+        place = len(read) + 1
+        if label not in labels or label in read:
+            return 20, place
+        if not upstream_of[label] <= set(read):
+            return 21, place
+        read.append(label)
+    missing = [place for place, label in enumerate(labels, 1) if label not in read]
+    return (22, missing[0]) if missing else (0, 0)
 
 # The intake.
 

@@ -1,6 +1,7 @@
 #!/usr/bin/env python3
 """Writes cases for tests/direct/direct.c to standard output: calls with what tests/reference.py expects of
-them, and both questions about the labels of a sheet with what the water does.
+them, and both questions about the labels of a sheet with what the water does. What is expected of plans of a sheet's
+basin is compared with the water too.
 
 A case is a byte that names its call, then numbers of 8 bytes, lowest byte first, and slices. A label is two numbers,
 and the length of a slice of labels counts numbers. A label that is asked about is three: its basin comes first.
@@ -21,6 +22,8 @@ label as q.
 'M', the flow question about many pairs: depth, least and the lengths of P's labels and basins, of Q's labels and basins
 and of the answers; these slices before the call; the answer (256 x the number of pairs, or refusal number); the
 answers, a byte each, after it. Labels and basins must stay as they are.
+'K', the check of a plan: the lengths of the index, the plan and the work places; these slices before the call; the
+answer (0, or refusal number + 256 x place); the work places after it. Index and plan must stay as they are.
 
 At the end a tally of the kinds of cases goes to standard error; if one of them did not occur, the status is 1. The same
 --seed makes the same cases."""
@@ -43,6 +46,8 @@ import long_labels
 import lookups
 import outlets
 import pairs
+import plan_kinds
+import plans
 import reference
 import shapes
 import splits
@@ -81,6 +86,7 @@ tally = {
     'pf_first_bad': dict.fromkeys(words.KINDS, 0),
     'directions': dict.fromkeys(words.SHEET_KINDS, 0),
     'pf_flow_pairs': dict.fromkeys(pairs.KINDS, 0),
+    'pf_check_plan': dict.fromkeys(plan_kinds.KINDS, 0),
 }
 
 
@@ -470,6 +476,38 @@ def pair_questions(out, rng, count, indexes):
             tally['pf_flow_pairs'][kind] += times
 
 
+# Plans.
+
+def work_before(rng, room):
+    """Work places before a call: any numbers, small ones, or all 0."""
+    if rng.random() < 0.7:
+        return rubbish(rng, [4], [room])[0]
+    largest = rng.choice([0, 1, room + 1])
+    return array_of(4, [rng.randint(0, largest) for _ in range(room)])
+
+
+def plan_case(out, rng, call, answer):
+    (index, plan), (number, place) = call.slices(), answer
+    before = after = work_before(rng, call.room)
+    if number not in plan_kinds.OF_INDEX:
+        after = written(before, [0] * len(call.index))
+    out.write(b'K' + numbers([len(index), len(plan), call.room, *index, *plan]) + before.tobytes())
+    out.write(numbers([number + PLACE * place]) + after.tobytes())
+
+
+def plan_questions(out, rng, count, indexes):
+    earlier = None
+    for call in plans.questions(rng, count, indexes):
+        answer = plans.expected(call)
+        plan_case(out, rng, call, answer)
+        for kind in plan_kinds.kinds(call, answer, earlier):
+            tally['pf_check_plan'][kind] += 1
+        earlier = call
+    for call, answer in plans.huge(rng):
+        plan_case(out, rng, call, answer)
+        tally['pf_check_plan']['more than 65536 units'] += len(call.index) > 65536
+
+
 # Directions a word at a time.
 
 def word_questions(out, rng, count):
@@ -497,6 +535,8 @@ def main():
     parser.add_argument('--pairs', type=int, default=200000, help='random pairs of labels, of calls with many pairs')
     parser.add_argument('--levies', type=int, default=2000,
                         help='random sheets that labelling accepts, each with six totals and more, for pf_levy')
+    parser.add_argument('--plans', type=int, default=20000,
+                        help='random plans; for every 400 of them also all orders of the units of two small indexes')
     parser.add_argument('--seed', type=int, default=1)
     options = parser.parse_args()
     rng = random.Random(options.seed)
@@ -514,6 +554,7 @@ def main():
     word_sheets(out, rng)
     pair_questions(out, rng, options.pairs, indexes)
     levy_cases(out, rng, options.levies)
+    plan_questions(out, rng, options.plans, indexes)
     out.flush()
     for call, kinds in tally.items():
         print('%s: %s' % (call, ', '.join('%s %d' % kind for kind in kinds.items())), file=sys.stderr)

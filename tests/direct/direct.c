@@ -1,9 +1,9 @@
-/* Calls pf_label, pf_index, pf_levy, pf_lookup, pf_flow, pf_flow_pairs, pf_outlet_flow and pf_first_bad on the cases
-   that come on standard input, and compares the answer and every number of every lent slice afterwards with what is
-   expected; also the dues of pf_levy with the total and with the weights of the cells, and the basins of a sheet that
-   pf_label accepts with those that it gives where all others are set to 0. Where a slice of labels ends with an odd
-   number, or a slice of basins has places past the labels, the call is made a second time with other numbers there. The
-   cases are made by tests/direct/cases.py, which also says how they are laid out. */
+/* Calls pf_label, pf_index, pf_levy, pf_lookup, pf_flow, pf_flow_pairs, pf_outlet_flow, pf_check_plan and pf_first_bad
+   on the cases that come on standard input, and compares the answer and every number of every lent slice afterwards
+   with what is expected; also the dues of pf_levy with the total and with the weights of the cells, and the basins of a
+   sheet that pf_label accepts with those that it gives where all others are set to 0. Where a slice of labels ends with
+   an odd number, or a slice of basins has places past the labels, the call is made a second time with other numbers
+   there. The cases are made by tests/direct/cases.py, which also says how they are laid out. */
 #include <inttypes.h>
 #include <stdint.h>
 #include <stdio.h>
@@ -491,6 +491,54 @@ static int pairs_case(uint64_t which) {
     return good;
 }
 
+/* The lent slices of pf_check_plan. */
+enum { INDEX, PLAN, PLAN_WORK, OF_PLAN };
+
+/* The text of an answer that is a refusal number + 256 x place. */
+static struct text text_of_answer(uint64_t answer) {
+    struct text text;
+    snprintf(text.bytes, sizeof text.bytes, "%" PRIu64 " (number %" PRIu64 ", place %" PRIu64 ")", answer, answer % 256,
+             answer / 256);
+    return text;
+}
+
+/* Tells the first few work places that differ. */
+static void tell_work(uint64_t which, const struct lent *work) {
+    const uint32_t *given = work->places, *expected = work->expected;
+    uint64_t differences = 0;
+    for (uint64_t i = 0; i < work->length; i++) {
+        if (given[i] == expected[i] || differences++ >= TOLD) continue;
+        printf("case %" PRIu64 ", pf_check_plan: work place %" PRIu64 " is %" PRIu32 ", expected %" PRIu32 "\n", which,
+               i, given[i], expected[i]);
+    }
+}
+
+static int plan_call(uint64_t which, struct lent *lent, uint64_t expected) {
+    lend(lent, OF_PLAN);
+    uint64_t answer = pf_check_plan(LENT(INDEX), LENT(PLAN), LENT(PLAN_WORK));
+    if (answer != expected)
+        printf("case %" PRIu64 ", pf_check_plan: %" PRIu64 " numbers of the index, %" PRIu64 " of the plan, %" PRIu64
+               " work places: answer %s, expected %s\n", which, lent[INDEX].length, lent[PLAN].length,
+               lent[PLAN_WORK].length, text_of_answer(answer).bytes, text_of_answer(expected).bytes);
+    tell_work(which, &lent[PLAN_WORK]);
+    return as_expected(which, lent, OF_PLAN) & (answer == expected);
+}
+
+/* A case of pf_check_plan. Index and plan must stay as they are. */
+static int plan_case(uint64_t which) {
+    struct lent lent[] = {{.name = "labels of the index", .width = 8, .of_labels = 1},
+                          {.name = "labels of the plan", .width = 8, .of_labels = 1},
+                          {.name = "work places", .width = 4}};
+    for (int i = 0; i < OF_PLAN; i++) lent[i].length = number();
+    take_slices(lent, OF_PLAN);
+    uint64_t expected = number();
+    take_expected(lent, OF_PLAN, PLAN_WORK);
+    int good = plan_call(which, lent, expected);
+    if (change_odd(lent, OF_PLAN)) good &= plan_call(which, lent, expected);
+    release(lent, OF_PLAN);
+    return good;
+}
+
 /* 1 if all is as expected, 0 if not, -1 if there is no such kind of case. */
 static int run_case(int kind, uint64_t which) {
     switch (kind) {
@@ -503,6 +551,7 @@ static int run_case(int kind, uint64_t which) {
     case 'S': return labels_case(which);
     case 'W': return words_case(which);
     case 'M': return pairs_case(which);
+    case 'K': return plan_case(which);
     default: return -1;
     }
 }

@@ -1,5 +1,6 @@
 // The tests of checks 1, 2, 19, 17 and 4 to 6: sizes, depth, least and split, weights, and the first cell in reading
-// order that a check looks for; whether two labels or units are the same, and those at a place of lent slices.
+// order that a check looks for; whether two labels or units are the same, those at a place of lent slices, and places
+// set to 0.
 pub mod codes;
 
 use sheet::Found;
@@ -7,12 +8,12 @@ use sheet::Label;
 use sheet::UnitName;
 ghost use mathlib.Core.Path.{_≡_};
 ghost use Prim.Native.Nat.{_+_, _*_, _≤_, _<_};
-ghost use lib.ListN.{length};
+ghost use lib.ListN.{length, replicate};
 ghost use Rattle.sheet.specs.Sheet.{grid, first};
 ghost use Rattle.directions.specs.Sizes.{OnSheet, Sized};
 ghost use Rattle.sheet.specs.Record.{sameLabel, labelPlaces, labelAt, sameUnit, unitAt};
 ghost use Rattle.sheet.specs.Refusal.{within, sizesFit, depthFits, leastFits, splitFits, leastAndSplitFit};
-ghost use Rattle.sheet.specs.Refusal.{sheetFault, weightFits, weightsFit};
+ghost use Rattle.sheet.specs.Refusal.{sheetFault, weightFits, weightsFit, written};
 ghost use Rattle.checks.specs.Search.{isTarget};
 
 // What a search in reading order looks for: an inside cell, or an inside cell that a search upstream did not reach.
@@ -200,4 +201,23 @@ pub fn weights_fit(weights: &[u16], rows: usize) -> bool
         }
     }
     true
+}
+
+// Sets all places to 0.
+pub fn clear_places(places: &mut [u32])
+    ensures { λ _. ⌜ now (places .exit) ≡ replicate (length (now (places .entry))) 0 ⌝ }
+{
+    for i in 0..places.len() {
+        places[i] = 0;
+    }
+}
+
+// Sets the first `count` places to 0.
+pub fn clear_first(places: &mut [u32], count: usize)
+    requires { ⌜ count ≤ length (now places) ⌝ }
+    ensures { λ _. ⌜ now (places .exit) ≡ written (replicate count 0) (now (places .entry)) ⌝ }
+{
+    for i in 0..count {
+        places[i] = 0;
+    }
 }

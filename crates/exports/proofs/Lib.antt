@@ -1,3 +1,4 @@
 pub mod Places
 pub mod Codes
 pub mod PairsCodes
+pub mod PlanCodes

@@ -1,5 +1,5 @@
--- The numbers that a host gets for the outcome of labelling and for the answers of the index call, of the levy's and of
--- the call for many pairs.
+-- The numbers that a host gets for the outcome of labelling and for the answers of the index call, of the levy's, of
+-- the call for many pairs and of the check of a plan.
 use Prim.Native.Nat.{ℕ, _+_, _*_, _%_, _^_, _<_, _≤_}
 use Rattle.sheet.specs.declared.Outcome.{Outcome}
 use Rattle.sheet.specs.Refusal.{outcomeValues}
@@ -7,6 +7,8 @@ use Rattle.flow.specs.declared.pairs.PairsAnswer.{PairsAnswer}
 use Rattle.flow.specs.declared.pairs.PairsAnswer.the-variants.{Pairs, Refused as PairsRefused}
 use Rattle.index.specs.declared.Indexed.{Indexed}
 use Rattle.index.specs.declared.Indexed.the-variants.{Units, Refused}
+use Rattle.plan.specs.declared.PlanAnswer.{PlanAnswer}
+use Rattle.plan.specs.declared.PlanAnswer.the-variants.{Accepted as PlanAccepted, Refused as PlanRefused}
 
 -- the refusal's number + 256 × its place; 0 if accepted
 abbrev pub outcomeCode : Outcome → ℕ
@@ -27,3 +29,8 @@ CodeTells (Refused number place) = (1 ≤ number) × (number < 256) × (place < 
 abbrev pub pairsCode : PairsAnswer → ℕ
 pairsCode (Pairs count) = count * 256 % 2 ^ 64
 pairsCode (PairsRefused number) = number
+
+-- the refusal's number + 256 × its place, in 64 bits, which is exact for places below 2 ^ 56; 0 if accepted
+abbrev pub planCode : PlanAnswer → ℕ
+planCode PlanAccepted = 0
+planCode (PlanRefused number place) = number + place * 256 % 2 ^ 64

@@ -33,12 +33,13 @@ use Rattle.faults.specs.declared.Sizes.{Sizes}
 use Rattle.intake.specs.declared.Intake.{Intake}
 use Rattle.intake.specs.Intake.{LentSheet, endedSizes}
 use Rattle.labelling.specs.FromIntake.{sheetOf, lentWith, intakeLent}
+use Rattle.labelling.specs.Demand.{OfIntake}
 use Rattle.index.specs.declared.Indexed.the-variants.{Units, Refused}
 use Rattle.index.specs.Units.{unitOf, UnitEntry, distinctUnits, units, isOfUnit, outletCell, unitCells}
 use Rattle.index.specs.Index.{LentIndex, indexFits, roomFor, indexedOn, indexed, writtenIndex}
 use Rattle.index.specs.Index.{indexAfter}
 use Rattle.index.specs.FromIntake.{indexedWith, indexWith, intakeIndexed, intakeIndexAfter}
-use Rattle.index.specs.Meaning.{IndexMeaningFrom, IndexMeaningWhole, HasUnit, IndexMeaning, IndexedDirectly}
+use Rattle.index.specs.Meaning.{IndexMeaningWhole, HasUnit, IndexMeaning, IndexedDirectly, IndexedFrom}
 use Rattle.index.specs.Meaning.{indexUnit, indexBasin, indexLabel, indexOutlet, indexCount}
 use Rattle.index.proofs.ListPlaces.{place-of}
 use Rattle.index.proofs.UnitNames.{same-unit, same-true, same-false}
@@ -288,21 +289,31 @@ directly S L I L′ I′ count c =
     let f = index-filled S L I count (c .answer) in
     rw (c .lent, c .index, c .answer, f .all-units) (means S L (f .accepted) I)
 
+-- an accepted call from an intake is a direct call with the sheet of the intake, which had ended
 from-sizes : (i : Intake) (sizes : Option Sizes) (T : LentSheet) (L : Lent) (I : LentIndex) (L′ : Lent) (I′ : LentIndex)
     (count : ℕ) → endedSizes (i .stage) ≡ sizes → indexedWith sizes T L I ≡ Units count
-    → L′ ≡ lentWith sizes T L → I′ ≡ indexWith sizes T L I → IndexMeaningFrom i T L′ count I′
+    → L′ ≡ lentWith sizes T L → I′ ≡ indexWith sizes T L I
+    → OfIntake (λ S written. IndexedDirectly S L I written I′ count) i T L′
 unfolding indexedWith lentWith indexWith
 from-sizes i none T L I L′ I′ count e a f g = let z : _≡_ {A = ℕ} 0 1 = cc in absurd (omega arith)
 from-sizes i (some z) T L I L′ I′ count e a f g = record {
   sizes = z;
   ended = e;
-  holds = directly (sheetOf z T) L I L′ I′ count (record { answer = a; lent = f; index = g });
+  holds = record { answer = a; lent = f; index = g };
 }
 
-pub index-meaning-whole : IndexMeaningWhole
+pub indexed-from : (i : Intake) (T : LentSheet) (L : Lent) (I : LentIndex) (L′ : Lent) (I′ : LentIndex) (count : ℕ)
+    → IndexedFrom i T L I L′ I′ count → OfIntake (λ S written. IndexedDirectly S L I written I′ count) i T L′
 unfolding intakeIndexed intakeLent intakeIndexAfter
+indexed-from i T L I L′ I′ count c =
+    from-sizes i (endedSizes (i .stage)) T L I L′ I′ count refl (c .answer) (c .lent) (c .index)
+
+pub index-meaning-whole : IndexMeaningWhole
 index-meaning-whole = record {
   directly = directly;
-  from-intake = λ i T L I L′ I′ count c.
-      from-sizes i (endedSizes (i .stage)) T L I L′ I′ count refl (c .answer) (c .lent) (c .index);
+  from-intake = λ i T L I L′ I′ count c. let d = indexed-from i T L I L′ I′ count c in record {
+    sizes = d .sizes;
+    ended = d .ended;
+    holds = directly (sheetOf (d .sizes) T) L I L′ I′ count (d .holds);
+  };
 }

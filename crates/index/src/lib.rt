@@ -118,7 +118,7 @@ fn index_fitting(
         counts,
         unit_basins,
     );
-    labelling::clear_places(work);
+    checks::clear_places(work);
     answer
 }
 

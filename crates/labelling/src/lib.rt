@@ -3,6 +3,8 @@ mod basins;
 pub mod from_intake;
 
 use crate::basins::label_basins;
+use checks::clear_first;
+use checks::clear_places;
 use drainage::Inspection;
 use sheet::Outcome;
 use upstream::parts;
@@ -21,15 +23,6 @@ ghost use Rattle.labelling.specs.Labelling.{sheet, lent, checkedFirst, F
 ghost use Rattle.labelling.specs.Labelling.{LabelledInOrder};
 ghost use Rattle.order.specs.Places.{Arranged};
 
-// Sets all places to 0.
-pub fn clear_places(places: &mut [u32])
-    ensures { λ _. ⌜ now (places .exit) ≡ replicate (length (now (places .entry))) 0 ⌝ }
-{
-    for i in 0..places.len() {
-        places[i] = 0;
-    }
-}
-
 // Sets the first numbers of a slice of labels to 0, so many.
 fn clear_labels(labels: &mut [u64], numbers: usize)
     requires { ⌜ numbers ≤ length (now labels) ⌝ }
@@ -37,16 +30,6 @@ fn clear_labels(labels: &mut [u64], numbers: usize)
 {
     for i in 0..numbers {
         labels[i] = 0;
-    }
-}
-
-// Sets the first basins of a slice to 0, so many.
-fn clear_basins(basins: &mut [u32], count: usize)
-    requires { ⌜ count ≤ length (now basins) ⌝ }
-    ensures { λ _. ⌜ now (basins .exit) ≡ written (replicate count 0) (now (basins .entry)) ⌝ }
-{
-    for i in 0..count {
-        basins[i] = 0;
     }
 }
 
@@ -81,7 +64,7 @@ fn write_labels(
 {
     let n = rows * cols;
     clear_labels(labels, 2 * n);
-    clear_basins(basins, n);
+    clear_first(basins, n);
     drainage::measure::measure(dirs, rows, cols, weights, work, queued, areas);
     order::positions::arrange(dirs, rows, cols, areas, queued, work);
     let cells = parts::CELLS * n;

@@ -200,7 +200,7 @@ fn levy_fitting(
         total,
         dues,
     );
-    labelling::clear_places(work);
+    checks::clear_places(work);
     answer
 }
 

@@ -99,11 +99,11 @@ not-past-counted leading units =
 -- ---- a rising list
 
 module _ (leading : UnitName) (units : List UnitName) (rises : isRising units ≡ true) where
-  ahead-at : (i : ℕ) → i < length units → ahead leading (entryAt units i) ≡ ltb i (startOf leading units)
+  pub ahead-at : (i : ℕ) → i < length units → ahead leading (entryAt units i) ≡ ltb i (startOf leading units)
   unfolding startOf
   ahead-at i l = rising-counted (ahead leading) (ahead-closed leading) units rises i l
 
-  not-past-at : (i : ℕ) → i < length units
+  pub not-past-at : (i : ℕ) → i < length units
       → notPast leading (entryAt units i) ≡ ltb i (startOf leading units + lengthOf leading units)
   not-past-at i l =
       rising-counted (notPast leading) (not-past-closed leading) units rises i l

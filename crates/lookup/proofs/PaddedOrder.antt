@@ -135,7 +135,7 @@ before-padded m w e f =
     (stands greatestDepth (digitsOf w) (digitsOf m) (b .digits) (a .digits) (b .most) (a .most)))
 
 -- a label stands before leading digits or begins with them exactly if its padded number is less than their end
-not-past-padded : (m w : Label) → isLabel greatestDepth m ≡ true → isLabel greatestDepth w ≡ true
+pub not-past-padded : (m w : Label) → isLabel greatestDepth m ≡ true → isLabel greatestDepth w ≡ true
     → cond (isBefore (digitsOf m) (digitsOf w)) true (begins (digitsOf w) (digitsOf m)) ≡ ltb (padded m) (paddedEnd w)
 not-past-padded m w e f =
     let a = known m e in

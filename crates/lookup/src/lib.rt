@@ -25,26 +25,29 @@ pub enum LookupAnswer {
 }
 
 // A number of 36 digits in two halves, the first 18 digits and the next 18.
-struct Halves {
-    first: u64,
-    rest: u64,
+pub struct Halves {
+    pub first: u64,
+    pub rest: u64,
 }
 
 // The most digits of any label.
-const GREATEST_DEPTH: usize = 36;
+pub const GREATEST_DEPTH: usize = 36;
 
 // The most digits of each of its numbers.
 const NUMBER_DIGITS: usize = 18;
 
+// The least number of 18 digits.
+const LEAST_OF_18_DIGITS: u64 = 100000000000000000;
+
 // How many labels a slice holds; an odd number at the end is none.
-fn label_count(labels: &[u64]) -> usize
+pub fn label_count(labels: &[u64]) -> usize
     ensures { λ r. ⌜ r ≡ length (now (labels .entry)) / 2 ⌝ }
 {
     labels.len() / 2
 }
 
 // Each entry is a label.
-fn all_labels(labels: &[u64]) -> bool
+pub fn all_labels(labels: &[u64]) -> bool
     ensures { λ r. ⌜ r ≡ every (isLabel greatestDepth) (labelsIn (now (labels .entry))) ⌝ }
 {
     let count = label_count(labels);
@@ -82,11 +85,15 @@ fn padded_number(number: u64) -> u64
     if number == 0 {
         return 0;
     }
-    with_zeros(number, count_decimal_digits(number))
+    let mut m = number;
+    while m < LEAST_OF_18_DIGITS {
+        m = m * 10;
+    }
+    m
 }
 
 // A label with zeros behind its digits, up to 36 digits, so that labels compare as in a dictionary.
-fn padded(label: Label) -> Halves
+pub fn padded(label: Label) -> Halves
     requires { ⌜ isLabel greatestDepth label ≡ true ⌝ }
     ensures { λ r. ⌜ HalvesOf (paddedOf label) r ⌝ }
 {
@@ -99,7 +106,7 @@ fn padded(label: Label) -> Halves
 }
 
 // The first padded number past those of the labels that begin with the leading digits: one more at their last digit.
-fn padded_end(leading: Label) -> Halves
+pub fn padded_end(leading: Label) -> Halves
     requires { ⌜ isLabel greatestDepth leading ≡ true ⌝ }
     ensures { λ r. ⌜ HalvesOf (paddedEnd leading) r ⌝ }
 {
@@ -118,7 +125,7 @@ fn padded_end(leading: Label) -> Halves
 }
 
 // The padded label is less than a limit: by the first half, and where those are equal by the next.
-fn is_below(label: Label, limit: Halves) -> bool
+pub fn is_below(label: Label, limit: Halves) -> bool
     requires { ⌜ isLabel greatestDepth label ≡ true ⌝ }
     requires { ⌜ limit .rest ≤ 10 ^ numberDigits ⌝ }
     ensures { λ r. ⌜ r ≡ ltb (paddedOf label) (joined limit) ⌝ }

@@ -12,7 +12,7 @@ use Rattle.index.proofs.index_fitting.Tie as tie
 use Rattle.index.proofs.index_fitting.Reads as reads
 use Rattle.index.proofs.index_fitting.Lts as lts
 use Rattle.index.proofs.index_in_order.Reads as index-in-order-reads
-use Rattle.labelling.proofs.clear_places.Reads as clear-places-reads
+use Rattle.checks.proofs.clear_places.Reads as clear-places-reads
 use Rattle.labelling.proofs.label_in_order.Reads as label-in-order-reads
 
 -- Points of the function, each from a later one.

@@ -7,7 +7,7 @@ use Rattle.labelling.proofs.label_fitting.Statement.{statement}
 use Rattle.labelling.proofs.label_fitting.Tie as tie
 use Rattle.labelling.proofs.label_fitting.Reads as reads
 use Rattle.labelling.proofs.label_fitting.Lts as lts
-use Rattle.labelling.proofs.clear_places.Reads as clear-places-reads
+use Rattle.checks.proofs.clear_places.Reads as clear-places-reads
 use Rattle.labelling.proofs.label_in_order.Reads as label-in-order-reads
 
 -- Points of the function, each from a later one.

@@ -8,7 +8,7 @@ use Rattle.labelling.proofs.label_in_order.Tie as tie
 use Rattle.labelling.proofs.label_in_order.Reads as reads
 use Rattle.labelling.proofs.label_in_order.Lts as lts
 use Rattle.labelling.proofs.inspect_sheet.Reads as inspect-sheet-reads
-use Rattle.labelling.proofs.clear_places.Reads as clear-places-reads
+use Rattle.checks.proofs.clear_places.Reads as clear-places-reads
 use Rattle.labelling.proofs.write_if_accepted.Reads as write-if-accepted-reads
 
 -- Points of the function, each from a later one.

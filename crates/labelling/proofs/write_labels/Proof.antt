@@ -17,24 +17,24 @@ use Rattle.labelling.proofs.write_labels.Lts as lts
 use Rattle.drainage.proofs.measure.measure.Reads as measure-reads
 use Rattle.labelling.proofs.clear_labels.Reads as clear-labels-reads
 use Rattle.order.proofs.positions.arrange.Reads as arrange-reads
-use Rattle.labelling.proofs.clear_basins.Reads as clear-basins-reads
+use Rattle.checks.proofs.clear_first.Reads as clear-first-reads
 use Rattle.labelling.proofs.basins.label_basins.Reads as label-basins-reads
 
 -- Points of the function, each from a later one.
 abbrev start : tie.After-clear-labels → tie.Start
 start c = c .before .before .before .before .before .before .before .before
 
-abbrev after-clear-labels : tie.After-clear-basins → tie.After-clear-labels
+abbrev after-clear-labels : tie.After-clear-first → tie.After-clear-labels
 after-clear-labels c = c .before .before .before .before
 
-abbrev after-clear-basins : tie.After-measure → tie.After-clear-basins
-after-clear-basins c = c .before .before .before .before .before
+abbrev after-clear-first : tie.After-measure → tie.After-clear-first
+after-clear-first c = c .before .before .before .before .before
 
 abbrev after-measure : tie.After-arrange → tie.After-measure
 after-measure c = c .before .before .before .before .before .before .before
 
 abbrev first : tie.After-arrange → tie.Start
-first c = start (after-clear-labels (after-clear-basins (after-measure c)))
+first c = start (after-clear-labels (after-clear-first (after-measure c)))
 
 abbrev after-arrange : tie.After-label-basins → tie.After-arrange
 after-arrange c = c .before .before .before .before .before .before .before .before .before
@@ -52,8 +52,8 @@ clear-labels-requires c κs =
     let p = c .before .before .before .before .before .before .before .pre in
     omega (arith, places-enough _ _ (p .0 .labels))
 
-clear-basins-requires : tie.Need-clear-basins-requires
-clear-basins-requires c κs = (start (c .before .before .before)) .pre .0 .basins
+clear-first-requires : tie.Need-clear-first-requires
+clear-first-requires c κs = (start (c .before .before .before)) .pre .0 .basins
 
 measure-requires : tie.Need-measure-requires
 measure-requires c κs =
@@ -66,7 +66,7 @@ measure-requires c κs =
 arrange-requires : tie.Need-arrange-requires
 arrange-requires c κs =
     let m = c .before .before .before .before .before .before in
-    let p = (start (after-clear-labels (after-clear-basins m))) .pre in
+    let p = (start (after-clear-labels (after-clear-first m))) .pre in
     surveyed (p .0) (p .1) (m .measure .ensures .0) (m .measure .ensures .1 _ refl refl)
     (m .measure .kept .1 .1 .1 .1 .0)
 
@@ -149,7 +149,7 @@ label-basins-requires : tie.Need-label-basins-requires
 label-basins-requires c κs =
     let o = c .before .before .before .before .before .before .before .before in
     let m = after-measure o in
-    let k = after-clear-basins m in
+    let k = after-clear-first m in
     let l = after-clear-labels k in
     let p = (start l) .pre in
     let a = (start l) .args in
@@ -165,7 +165,7 @@ label-basins-requires c κs =
             (omega (arith, p .0 .areas, m .measure .kept .1 .1 .1 .1 .1 .1 .0))
             (omega (arith, p .0 .labels, ap labelPlaces (l .clear-labels .kept .0)))
             (p .0 .split-some) (p .0 .split-most),
-        layout-in S accepted e r _ (omega (arith, p .0 .basins, k .clear-basins .kept .0)),
+        layout-in S accepted e r _ (omega (arith, p .0 .basins, k .clear-first .kept .0)),
       ),
     )
 
@@ -185,7 +185,7 @@ returns : tie.Need-returns
 returns c =
     let o = after-arrange (c .before .before .before .before) in
     let m = after-measure o in
-    let k = after-clear-basins m in
+    let k = after-clear-first m in
     let l = after-clear-labels k in
     let p = (start l) .pre in
     let a = (start l) .args in
@@ -205,7 +205,7 @@ returns c =
             (l .clear-labels .ensures) (e .0),
         (
           basins-written S accepted same r (p .0 .depth-most) (most o) (a .basins .now) (p .0 .basins)
-              (k .clear-basins .ensures) (e .1),
+              (k .clear-first .ensures) (e .1),
           r,
         ),
       ),
@@ -218,7 +218,7 @@ write-labels-spec =
     mul-n
     mul-clear-labels
     clear-labels-requires
-    clear-basins-requires
+    clear-first-requires
     measure-requires
     arrange-requires
     mul-cells

@@ -14,7 +14,7 @@ use Rattle.levy.proofs.levy_fitting.Statement.{statement}
 use Rattle.levy.proofs.levy_fitting.Tie as tie
 use Rattle.levy.proofs.levy_fitting.Reads as reads
 use Rattle.levy.proofs.levy_fitting.Lts as lts
-use Rattle.labelling.proofs.clear_places.Reads as clear-places-reads
+use Rattle.checks.proofs.clear_places.Reads as clear-places-reads
 use Rattle.labelling.proofs.label_in_order.Reads as label-in-order-reads
 use Rattle.levy.proofs.levy_in_order.Reads as levy-in-order-reads
 

@@ -1,28 +1,28 @@
--- `clear_basins` meets its contract. The loop's invariant: the first i places are 0, and the others are those lent.
+-- `clear_first` meets its contract. The loop's invariant: the first i places are 0, and the others are those lent.
 use mathlib.Core.Path.{_≡_, refl, ap, _∙_}
 use mathlib.Core.List.{List, _++_}
 use Prim.Native.Nat.{ℕ, _-_, _≤_}
 use native.Mathlib.Omega.{arith}
 use lib.ListN.{length, set, drop, replicate, length-set, length-replicate}
 use borrow.Author.Fill.{fill-more}
-use Rattle.labelling.proofs.clear_basins.Statement.{statement}
-use Rattle.labelling.proofs.clear_basins.Tie as tie
+use Rattle.checks.proofs.clear_first.Statement.{statement}
+use Rattle.checks.proofs.clear_first.Tie as tie
 
 abbrev Inv-loop : tie.InvT-loop
-Inv-loop basins₀ count i₀ basins i =
-    (i ≤ count) × (basins ≡ replicate i 0 ++ drop i basins₀) × (length basins ≡ length basins₀)
+Inv-loop places₀ count i₀ places i =
+    (i ≤ count) × (places ≡ replicate i 0 ++ drop i places₀) × (length places ≡ length places₀)
 
 abbrev μ-loop : tie.MeasureT-loop
-μ-loop basins₀ count i₀ basins i = count - i
+μ-loop places₀ count i₀ places i = count - i
 
 loop-holds : tie.Need-loop-holds Inv-loop μ-loop
 loop-holds c = (omega arith, refl, refl)
 
-mul-basins : tie.Need-mul-basins Inv-loop μ-loop
-mul-basins c = omega arith
+mul-places : tie.Need-mul-places Inv-loop μ-loop
+mul-places c = omega arith
 
-slice-write-basins : tie.Need-slice-write-basins Inv-loop μ-loop
-slice-write-basins c = omega arith
+slice-write-places : tie.Need-slice-write-places Inv-loop μ-loop
+slice-write-places c = omega arith
 
 add-i : tie.Need-add-i Inv-loop μ-loop
 add-i c = omega arith
@@ -35,8 +35,8 @@ loop-again c =
     let l = c .before .loop in (
       omega arith,
       ap (λ (x : List ℕ). set x (l .i) 0) (l .inv .1)
-          ∙ fill-more (l .i) 0 (c .before .before .args .basins .now) (omega arith),
-      length-set (l .basins) (l .i) 0 ∙ l .inv .2,
+          ∙ fill-more (l .i) 0 (c .before .before .args .places .now) (omega arith),
+      length-set (l .places) (l .i) 0 ∙ l .inv .2,
     )
 
 same-length : tie.Need-same-length Inv-loop μ-loop
@@ -47,7 +47,7 @@ returns c =
     let e : c .before .loop .i ≡ c .before .before .args .count = omega arith in
     rw (length-replicate {A = ℕ} (c .before .before .args .count) 0) (rw e at (c .before .loop .inv .1))
 
-pub clear-basins-spec : {M : Type 1} → statement M
-clear-basins-spec =
+pub clear-first-spec : {M : Type 1} → statement M
+clear-first-spec =
     tie.close
-    (tie.spec Inv-loop μ-loop loop-holds mul-basins slice-write-basins add-i loop-less loop-again same-length returns)
+    (tie.spec Inv-loop μ-loop loop-holds mul-places slice-write-places add-i loop-less loop-again same-length returns)

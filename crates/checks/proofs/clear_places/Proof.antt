@@ -5,8 +5,8 @@ use Prim.Native.Nat.{ℕ, _-_, _≤_}
 use native.Mathlib.Omega.{arith}
 use lib.ListN.{length, set, drop, replicate, length-set, drop-of-length-le}
 use borrow.Author.Fill.{fill-more}
-use Rattle.labelling.proofs.clear_places.Statement.{statement}
-use Rattle.labelling.proofs.clear_places.Tie as tie
+use Rattle.checks.proofs.clear_places.Statement.{statement}
+use Rattle.checks.proofs.clear_places.Tie as tie
 
 abbrev Inv-loop : tie.InvT-loop
 Inv-loop places₀ i₀ i-end places i =

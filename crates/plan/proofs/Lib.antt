@@ -1,0 +1,15 @@
+pub mod Cases
+pub mod UnitsOfOne
+pub mod Parted
+pub mod IndexMeaning
+pub mod UpstreamMeaning
+pub mod PlanPlaces
+pub mod PlanOrder
+pub mod PlanSteps
+pub mod Meaning
+pub mod Places
+pub mod LastOdd
+pub mod Upstream
+pub mod Come
+pub mod Judging
+pub mod Answers

@@ -1,0 +1,3 @@
+pub mod Plan
+pub mod Steps
+pub mod Meaning

@@ -1,0 +1,2 @@
+pub mod BasinIndex
+pub mod Survey

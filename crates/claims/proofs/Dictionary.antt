@@ -56,6 +56,13 @@ before-irreflexive x = go (isBefore x x) refl
 pub before-transitive : (x y z : List ℕ) → isBefore x y ≡ true → isBefore y z ≡ true → isBefore x z ≡ true
 before-transitive x y z e f = earlier-before (earlier-transitive (before-earlier x y e) (before-earlier y z f))
 
+pub before-asymmetric : (x y : List ℕ) → isBefore x y ≡ true → isBefore y x ≡ false
+before-asymmetric x y e = go (isBefore y x) refl
+  where
+    go : (t : Bool) → isBefore y x ≡ t → t ≡ false
+    go true f = absurd (true≢false (sym (before-transitive x y x e f) ∙ before-irreflexive x))
+    go false f = refl
+
 -- of two labels either they are equal or one stands before the other
 pub data Compared (x y : List ℕ) : Type 0 where
   before : isBefore x y ≡ true → Compared x y

@@ -1,6 +1,6 @@
 -- The tests of the flow question and the outlet question say what they mean: where two labels part, and the digit rule
 -- there.
-use mathlib.Core.Path.{_≡_, _∙_, ap}
+use mathlib.Core.Path.{_≡_, sym, _∙_, ap}
 use mathlib.Core.Bool.{true}
 use mathlib.Core.List.{List, [], _∷_}
 use Prim.Native.Nat.{ℕ, zero, suc, _+_, _-_, _≤_, _<_}
@@ -28,6 +28,13 @@ part-from i (a ∷ x) (b ∷ y) (suc k) t =
 pub part-found : (x y : List ℕ) (k : ℕ) → PartAt x y k → partAt x y ≡ At k
 unfolding partAt
 part-found x y k t = part-from 0 x y k t ∙ ap At (omega arith)
+
+-- two digit lists part at one place only
+pub part-once : (x y : List ℕ) (i j : ℕ) → PartAt x y i → PartAt x y j → i ≡ j
+part-once x y i j t u =
+    let e : At i ≡ At j = sym (part-found x y i t) ∙ part-found x y j u in
+    let same : i ≡ j = cc in
+    same
 
 module _ (x y : List ℕ) (k : ℕ) where
   -- the test of the rule is the rule

@@ -1,4 +1,4 @@
--- Where two digit lists part, and the digit rule, by recursion and by places.
+-- Where two digit lists part, and the digit rule, by recursion and by places; and leading digits.
 use mathlib.Core.Path.{_≡_, refl, sym, ap}
 use mathlib.Core.Bool.{Bool, true, false, cond, true≢false}
 use mathlib.Core.List.{List, [], _∷_}
@@ -7,7 +7,7 @@ use Prim.Native.Nat.{ℕ, zero, suc, _≤_, _<_}
 use native.Mathlib.Omega.{arith}
 use lib.ListN.{length, getD}
 use Rattle.sheet.specs.Flow.{every, isOdd}
-use Rattle.claims.specs.Parting.{PartAt, RuleAt}
+use Rattle.claims.specs.Parting.{PartAt, RuleAt, Begins, begins-on}
 
 abbrev pub allOdd : List ℕ → Bool
 allOdd x = every isOdd x
@@ -62,6 +62,17 @@ parted-apart p e = irr (rw e at p)
     irr : {z : List ℕ} → Parted z z → ⊥
     irr (parted-now n) = n refl
     irr (parted-on r) = irr r
+
+pub begins-not-parted : {x y : List ℕ} → Begins x y → Parted x y → ⊥
+begins-not-parted (begins-on b) (parted-now n) = n refl
+begins-not-parted (begins-on b) (parted-on p) = begins-not-parted b p
+
+-- where a label begins another, their first digits are the same, and its rest begins the other's rest
+pub begins-first : {a b : ℕ} {w x : List ℕ} → Begins (a ∷ w) (b ∷ x) → a ≡ b
+begins-first (begins-on h) = refl
+
+pub begins-rest : {a b : ℕ} {w x : List ℕ} → Begins (a ∷ w) (b ∷ x) → Begins w x
+begins-rest (begins-on h) = h
 
 part-next : {a : ℕ} {x y : List ℕ} {i : ℕ} → PartAt x y i → PartAt (a ∷ x) (a ∷ y) (suc i)
 part-next {a} {x} {y} {i} p =
@@ -135,6 +146,15 @@ at-rule (a ∷ x) (b ∷ y) (suc i) p r =
 
 pub part-differs : {x y : List ℕ} {i : ℕ} → PartAt x y i → x ≢ y
 part-differs {x} {y} {i} p e = p .differ (ap (λ (l : List ℕ). getD l i 0) e)
+
+-- the place where two digit lists part is the same the other way
+pub part-turned : {x y : List ℕ} {i : ℕ} → PartAt x y i → PartAt y x i
+part-turned t = record {
+  in-x = t .in-y;
+  in-y = t .in-x;
+  before = λ j l. sym (t .before j l);
+  differ = λ e. t .differ (sym e);
+}
 
 -- the rule by recursion and at the place where the labels part
 pub both-ways : {W : Type 0} {x y : List ℕ} {i : ℕ} → W ↔ Rule x y → PartAt x y i → W ↔ RuleAt x y i

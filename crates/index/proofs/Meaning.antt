@@ -27,6 +27,7 @@ use Rattle.claims.specs.Parting.{Begins, begins-on}
 use Rattle.claims.proofs.Counts.{not-true}
 use Rattle.claims.proofs.Sums.{count-sum, sum-same}
 use Rattle.claims.proofs.Dictionary.{before-irreflexive}
+use Rattle.claims.proofs.Parting.{begins-first, begins-rest}
 use Rattle.claims.proofs.Units.{drains-map, begins-all}
 use Rattle.claims.proofs.Theorems.{demand-three}
 use Rattle.faults.specs.declared.Sizes.{Sizes}
@@ -46,7 +47,7 @@ use Rattle.index.proofs.UnitNames.{same-unit, same-true, same-false}
 use Rattle.index.proofs.UnitsRise.{rise-at}
 use Rattle.index.proofs.Distinct.{among-rise, among-has, of-unit, unit-of}
 use Rattle.index.proofs.WrittenUnits.{unit-digits-written, unit-written}
-use Rattle.index.proofs.Outlets.{begins-first, begins-rest, begins-same, outlet-is}
+use Rattle.index.proofs.Outlets.{begins-same, outlet-is}
 use Rattle.index.proofs.Partition.{counts-add}
 use Rattle.index.proofs.Columns.{units-long, label-column, basin-column, outlet-column, count-column, column-at}
 use Rattle.index.proofs.Columns.{label-column-at}

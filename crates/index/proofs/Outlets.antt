@@ -21,6 +21,7 @@ use Rattle.sheet.proofs.Cells.{inside-lt}
 use Rattle.sheet.proofs.Records.{same-true as label-true, same-false as label-false}
 use Rattle.claims.specs.Demand.{Shares, Inside, digitsAt, OfBasin}
 use Rattle.claims.specs.Parting.{Begins, begins-none, begins-on}
+use Rattle.claims.proofs.Parting.{begins-first, begins-rest}
 use Rattle.claims.proofs.Runs.{pass-both}
 use Rattle.claims.proofs.Units.{drains-passes, begins-all}
 use Rattle.claims.proofs.Basins.{lawful}
@@ -35,12 +36,6 @@ pub begins-at : {w x : List ℕ} → Begins w x → (i : ℕ) → i < length w �
 begins-at begins-none i l = absurd (omega arith)
 begins-at (begins-on b) zero l = refl
 begins-at (begins-on b) (suc i) l = begins-at b i (omega arith)
-
-pub begins-first : {a b : ℕ} {w x : List ℕ} → Begins (a ∷ w) (b ∷ x) → a ≡ b
-begins-first (begins-on h) = refl
-
-pub begins-rest : {a b : ℕ} {w x : List ℕ} → Begins (a ∷ w) (b ∷ x) → Begins w x
-begins-rest (begins-on h) = h
 
 module _ (S : Sheet) (L : Lent) (accepted : outcome S L ≡ Accepted) where
   -- an inside cell is of the basin that was written for it

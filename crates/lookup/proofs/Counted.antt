@@ -84,6 +84,13 @@ every-at none test (m ∷ x) zero e h = both-true (test m) (every test x) e .0
 every-at none test (m ∷ x) (suc i) e h =
     every-at none test x i (both-true (test m) (every test x) e .1) (omega arith)
 
+-- and a test that is passed at each place, every entry passes
+pub at-every : {A : Type 0} (none : A) (test : A → Bool) (x : List A)
+    → ((i : ℕ) → i < length x → test (getD x i none) ≡ true) → every test x ≡ true
+unfolding every
+at-every none test [] f = refl
+at-every none test (m ∷ x) f = rw (f 0 (omega arith)) (at-every none test x (λ i l. f (suc i) (omega arith)))
+
 pub counted-most : (test : UnitName → Bool) (units : List UnitName) → counted test units ≤ length units
 unfolding counted
 counted-most test [] = omega arith

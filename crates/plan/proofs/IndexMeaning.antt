@@ -1,6 +1,6 @@
 -- The tests of the index say what they mean, by places: all are labels, they rise, and every two part.
 use mathlib.Core.Path.{_≡_, refl, _∙_}
-use mathlib.Core.Bool.{Bool, true}
+use mathlib.Core.Bool.{true}
 use mathlib.Core.List.{List, [], _∷_}
 use mathlib.Core.Logic.{_↔_}
 use Prim.Native.Nat.{ℕ, zero, suc, _<_}
@@ -15,25 +15,18 @@ use Rattle.claims.specs.Parting.{PartAt}
 use Rattle.claims.proofs.Parting.{parted-at, at-parted}
 use Rattle.lookup.specs.Lookup.{greatestDepth, isRising}
 use Rattle.lookup.specs.Exactly.{entryDigits}
-use Rattle.lookup.proofs.Counted.{every-at}
+use Rattle.lookup.proofs.Counted.{every-at, at-every}
 use Rattle.lookup.proofs.Rising.{pairs-rising}
 use Rattle.plan.specs.Plan.{unitsOfOne, parts, allPart}
 use Rattle.plan.specs.Meaning.{labelIn, digitsIn, AllLabels, AllRise, AllParted}
 use Rattle.plan.proofs.Parted.{parts-agree}
 use Rattle.plan.proofs.UnitsOfOne.{units-of-one-length, digits-of-one, rising-of-one}
 
--- a test that each label passes
-at-every : (test : Label → Bool) (labels : List Label) → ((i : ℕ) → i < length labels → test (labelIn labels i) ≡ true)
-    → every test labels ≡ true
-unfolding every
-at-every test [] f = refl
-at-every test (p ∷ labels) f = rw (f 0 (omega arith)) (at-every test labels (λ i l. f (suc i) (omega arith)))
-
 -- 11
 pub labels-agree : (index : List Label) → (every (isLabel greatestDepth) index ≡ true) ↔ AllLabels index
 labels-agree index = (
   λ e. record { labels = λ i l. every-at noDigits (isLabel greatestDepth) index i e l },
-  λ a. at-every (isLabel greatestDepth) index (a .labels),
+  λ a. at-every noDigits (isLabel greatestDepth) index (a .labels),
 )
 
 -- 16
@@ -66,7 +59,7 @@ at-parts : (labels : List Label)
 unfolding allPart
 at-parts [] f = refl
 at-parts (p ∷ labels) f =
-    rw (at-every (parts p) labels (λ j l. f 0 (suc j) (omega arith) (omega arith)))
+    rw (at-every noDigits (parts p) labels (λ j l. f 0 (suc j) (omega arith) (omega arith)))
     (at-parts labels (λ i j l h. f (suc i) (suc j) (omega arith) (omega arith)))
 
 -- of all

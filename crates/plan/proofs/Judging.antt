@@ -14,19 +14,17 @@ use lib.Seq.{drop-cons}
 use Rattle.sheet.specs.declared.Found.{Found}
 use Rattle.sheet.specs.declared.Found.the-variants.{At, Nothing}
 use Rattle.sheet.specs.declared.Label.{Label}
-use Rattle.sheet.specs.Record.{digitsOf, noDigits}
+use Rattle.sheet.specs.Record.{noDigits}
 use Rattle.sheet.specs.Refusal.{both}
 use Rattle.sheet.proofs.Records.{same-is, same-not}
-use Rattle.claims.specs.Dictionary.{isBefore}
 use Rattle.claims.proofs.Counts.{not-true}
-use Rattle.claims.proofs.Dictionary.{before-irreflexive}
 use Rattle.plan.specs.declared.PlanAnswer.the-variants.{Refused}
 use Rattle.plan.specs.Plan.{isOneOf, isAwaited, awaitsOne, placeFault, missingFrom, planFrom}
 use Rattle.plan.specs.Steps.{Judged, Spans, PlaceJudged, placeOf, endOf, hasCome, allCome, spanOf}
 use Rattle.plan.specs.Steps.{judgedAt, placeJudged, missingIn, planJudged}
 use Rattle.plan.proofs.Places.{place-is, place-none, place-some}
 use Rattle.plan.proofs.PlanPlaces.{awaits-at, at-awaits}
-use Rattle.plan.proofs.UnitsOfOne.{rising-of-one}
+use Rattle.plan.proofs.UnitsOfOne.{places-differ}
 use Rattle.plan.proofs.Upstream.{end-after, upstream-range}
 use Rattle.plan.proofs.Come.{come-at, come-missing, come-other, has-come-here, spans-none, spans-set}
 
@@ -89,39 +87,23 @@ cleared-work-for index work e = rw e (none-told index .work-for)
 -- ---- what is asked of the unit that a place of the plan names
 
 module _ (index came : List Label) (p : Label) where
-  fault-unknown : isOneOf index p ≡ false → placeFault index came p ≡ 20
+  place-fault-unknown : isOneOf index p ≡ false → placeFault index came p ≡ 20
   unfolding placeFault
-  fault-unknown e = rw e
+  place-fault-unknown e = rw e
 
-  fault-used : isOneOf index p ≡ true → isOneOf came p ≡ true → placeFault index came p ≡ 20
+  place-fault-used : isOneOf index p ≡ true → isOneOf came p ≡ true → placeFault index came p ≡ 20
   unfolding placeFault
-  fault-used e f = rw (e, f)
+  place-fault-used e f = rw (e, f)
 
-  fault-waiting : isOneOf index p ≡ true → isOneOf came p ≡ false → awaitsOne index came p ≡ true
+  place-fault-waiting : isOneOf index p ≡ true → isOneOf came p ≡ false → awaitsOne index came p ≡ true
       → placeFault index came p ≡ 21
   unfolding placeFault
-  fault-waiting e f g = rw (e, f, g)
+  place-fault-waiting e f g = rw (e, f, g)
 
-  fault-none : isOneOf index p ≡ true → isOneOf came p ≡ false → awaitsOne index came p ≡ false
+  place-fault-none : isOneOf index p ≡ true → isOneOf came p ≡ false → awaitsOne index came p ≡ false
       → placeFault index came p ≡ 0
   unfolding placeFault
-  fault-none e f g = rw (e, f, g)
-
--- different places of an index hold different labels
-module _ (index : List Label) (good : Judged index) where
-  earlier-differs : (i j : ℕ) → i < j → j < length index → getD index i noDigits ≢ getD index j noDigits
-  earlier-differs i j h l e =
-      let before : isBefore (digitsOf (getD index i noDigits)) (digitsOf (getD index j noDigits)) ≡ true =
-      rising-of-one index (good .rising .rises) i j h l in
-      true≢false (sym (rw e at before) ∙ before-irreflexive (digitsOf (getD index j noDigits)))
-
-  places-differ : (i j : ℕ) → i < length index → j < length index → j ≢ i
-      → getD index i noDigits ≢ getD index j noDigits
-  places-differ i j h l n e =
-      elim (decLt i j) [
-        | yes k ↦ earlier-differs i j k l e
-        | no k ↦ earlier-differs j i (omega arith) h (sym e)
-      ]
+  place-fault-none e f g = rw (e, f, g)
 
 -- ---- a place of the plan
 
@@ -217,7 +199,8 @@ module _ (index : List Label) (good : Judged index) (p : Label) where
                   let same : p ≡ q = sym (ap (λ (k : ℕ). getD index k noDigits) e ∙ here) in
                   rw (same-is p q same, e) (has-come-here work i end (end-after index p i good place .0) most)
               | no n ↦
-                  let other : p ≢ q = λ same. places-differ index good i j inside h n (here ∙ same) in
+                  let differ = places-differ index (good .rising .rises) j i h inside n in
+                  let other : p ≢ q = λ same. differ (sym (here ∙ same)) in
                   rw (same-not p q other, come-other work i end (end-after index p i good place .0) most j n)
                   (told .tells j h)
             ]
@@ -241,17 +224,18 @@ module _ (index : List Label) (good : Judged index) (p : Label) where
           → hasCome (getD work i 0) ≡ b → allCome (suc i) (endOf index p) work ≡ d → PlaceTold came work
       at i e j true d f g =
           refused 20 (j ∙ judged-used index p i work f)
-          (fault-used index came p (place-some index p i e) (sym (used came work told i e) ∙ f)) (λ z. omega arith)
+          (place-fault-used index came p (place-some index p i e) (sym (used came work told i e) ∙ f))
+          (λ z. omega arith)
       at i e j false false f g =
           refused 21 (j ∙ judged-waiting index p i work f g)
-          (fault-waiting index came p (place-some index p i e) (sym (used came work told i e) ∙ f)
+          (place-fault-waiting index came p (place-some index p i e) (sym (used came work told i e) ∙ f)
           (one-awaited came work told i e g)) (λ z. omega arith)
       at i e j false true f g =
           let come = j ∙ judged-come index p i work f g in
           record {
             fault =
                 ap (λ (j : PlaceJudged). j .number) come
-                ∙ sym (fault-none index came p (place-some index p i e) (sym (used came work told i e) ∙ f)
+                ∙ sym (place-fault-none index came p (place-some index p i e) (sym (used came work told i e) ∙ f)
                 (none-awaited came work told i e g));
             next = λ none. rw come (come-told came work told i e g);
           }
@@ -259,7 +243,7 @@ module _ (index : List Label) (good : Judged index) (p : Label) where
       go : (r : Found) → placeOf index p ≡ r → PlaceTold came work
       go Nothing e =
           refused 20 (judged-by index p work Nothing e ∙ judged-unknown index p work)
-          (fault-unknown index came p (place-none index p e)) (λ z. omega arith)
+          (place-fault-unknown index came p (place-none index p e)) (λ z. omega arith)
       go (At i) e =
           at i e (judged-by index p work (At i) e) (hasCome (getD work i 0)) (allCome (suc i) (endOf index p) work)
           refl refl

@@ -21,7 +21,7 @@ use Rattle.plan.proofs.IndexMeaning.{labels-agree, rising-agree, parted
 use Rattle.plan.proofs.PlanPlaces.{test-fails, test-false, before, before-agrees, faultAt, fault-at}
 use Rattle.plan.proofs.PlanPlaces.{FaultAt, fault-unknown, fault-awaits, fault-none}
 use Rattle.plan.proofs.PlanOrder.{in-order, order-fits}
-use Rattle.plan.proofs.PlanSteps.{answerFrom, missing, answer-step, answer-end, missing-step, missing-end}
+use Rattle.plan.proofs.PlanSteps.{answerFrom, missing, answer-step, answer-end, missing-step, none-missing}
 use Rattle.plan.proofs.PlanSteps.{missing-reach, missing-first, answer-reach, answer-twenty, answer-twenty-one}
 
 -- ---- what holds with each answer
@@ -110,9 +110,9 @@ module _ (index plan : List Label) (places : ℕ) where
   unfolding planAnswer
   answer-three g l = rw (good-index g, lt-leb (length index) places l)
 
-  answer-plan : GoodIndex index → length index ≤ places → planAnswer index plan places ≡ answerFrom index plan 0
+  answer-start : GoodIndex index → length index ≤ places → planAnswer index plan places ≡ answerFrom index plan 0
   unfolding planAnswer
-  answer-plan g l = rw (good-index g, le-leb (length index) places l)
+  answer-start g l = rw (good-index g, le-leb (length index) places l)
 
 -- ---- every answer tells what holds
 
@@ -134,7 +134,7 @@ module _ (index plan : List Label) (places : ℕ) (good : GoodIndex index) (room
   tell-missing fits zero i e stands =
       let all : i ≡ length index = omega arith in
       let ordered = in-order index plan fits (λ m l. stands m (omega arith)) in
-      rw (all, missing-end index plan) (told-order (good, room, ordered))
+      rw (all, none-missing index plan) (told-order (good, room, ordered))
   tell-missing fits (suc d) i e stands =
       rw (missing-step index plan i (omega arith)) (go (isOneOf (before plan (length plan)) (labelIn index i)) refl
       (tell-missing fits d (suc i) (omega arith)))
@@ -184,7 +184,7 @@ tell index plan places = labels (every (isLabel greatestDepth) index) refl
         → Told index plan places (planAnswer index plan places)
     of-room g true e =
         let room = leb-true (length index) places e in
-        rw (answer-plan index plan places g room)
+        rw (answer-start index plan places g room)
         (tell-plan index plan places g room (length plan) 0 (omega arith) none)
     of-room g false e =
         let few = leb-false (length index) places e in
@@ -234,13 +234,13 @@ plan-meaning index plan places = record {
     upTo : (k : ℕ) → k ≤ length plan → Reached index plan places k
         → planAnswer index plan places ≡ answerFrom index plan k
     upTo k l r =
-        answer-plan index plan places (r .good) (r .room) ∙ answer-reach index plan (r .good) k l (r .fits)
+        answer-start index plan places (r .good) (r .room) ∙ answer-reach index plan (r .good) k l (r .fits)
 
     accept : IsInOrder index plan places → planAnswer index plan places ≡ Accepted
     accept t =
         upTo (length plan) (omega arith) (record { good = t .0; room = t .1; fits = order-fits index plan (t .2) })
         ∙ answer-end index plan ∙ missing-reach index plan (length index) (omega arith) (t .2 .stands)
-        ∙ missing-end index plan
+        ∙ none-missing index plan
 
     twenty : (k : ℕ) → IsUnknown index plan places k → planAnswer index plan places ≡ Refused 20 (suc k)
     twenty k t = upTo k (omega (arith, t .1)) (t .0) ∙ answer-twenty index plan (t .0 .good) k (t .1) (t .2)

@@ -20,8 +20,8 @@ use Rattle.sheet.proofs.Within.{both-true}
 use Rattle.claims.specs.Dictionary.{isBefore}
 use Rattle.claims.specs.Parting.{Begins, begins-none, begins-on}
 use Rattle.claims.proofs.Dictionary.{Earlier, earlier-end, earlier-now, earlier-on, before-earlier}
-use Rattle.claims.proofs.Dictionary.{before-irreflexive, before-transitive}
-use Rattle.claims.proofs.Parting.{Parted, parted-now, parted-on}
+use Rattle.claims.proofs.Dictionary.{before-transitive, before-asymmetric}
+use Rattle.claims.proofs.Parting.{Parted, parted-now, parted-on, begins-not-parted}
 use Rattle.lookup.specs.Lookup.{greatestDepth, begins, standsBefore, risingFrom, isRising}
 use Rattle.lookup.specs.Padded.{padded, paddedEnd}
 use Rattle.lookup.proofs.Begins.{begins-agrees, begins-between}
@@ -66,10 +66,6 @@ module _ (p q : Label) where
   parts-agree = (parts-parted, parted-parts)
 
 -- of two that do not part one begins the other
-begun-not-parted : {x y : List ℕ} → Begins x y → Parted x y → ⊥
-begun-not-parted (begins-on b) (parted-now n) = n refl
-begun-not-parted (begins-on b) (parted-on p) = begun-not-parted b p
-
 begun-or-parted : {x y : List ℕ} → Earlier x y → Begins x y ⊎ Parted x y
 begun-or-parted earlier-end = inl begins-none
 begun-or-parted (earlier-now {a = a} {b = b} l) = let n : a ≢ b = omega arith in inr (parted-now n)
@@ -83,7 +79,7 @@ parts-begins p q e = go (begins (digitsOf p) (digitsOf q)) refl (parts p q) refl
   where
     go : (s : Bool) → begins (digitsOf p) (digitsOf q) ≡ s → (t : Bool) → parts p q ≡ t → t ≡ not s
     go true b true d =
-        absurd (begun-not-parted (begins-agrees (digitsOf p) (digitsOf q) .0 b) (parts-parted p q d))
+        absurd (begins-not-parted (begins-agrees (digitsOf p) (digitsOf q) .0 b) (parts-parted p q d))
     go true b false d = refl
     go false b true d = refl
     go false b false d =
@@ -92,18 +88,12 @@ parts-begins p q e = go (begins (digitsOf p) (digitsOf q)) refl (parts p q) refl
           | inr g ↦ absurd (true≢false (sym (parted-parts p q g) ∙ d))
         ]
 
-not-after : (x y : List ℕ) → isBefore x y ≡ true → isBefore y x ≡ false
-not-after x y e = go (isBefore y x) refl
-  where
-    go : (t : Bool) → isBefore y x ≡ t → t ≡ false
-    go true f = absurd (true≢false (sym (before-transitive x y x e f) ∙ before-irreflexive x))
-    go false f = refl
-
 -- so exactly if the other is less than the end of those that begin with the first
 pub parts-padded : (p q : Label) → isLabel greatestDepth p ≡ true → isLabel greatestDepth q ≡ true
     → isBefore (digitsOf p) (digitsOf q) ≡ true → parts p q ≡ not (ltb (padded q) (paddedEnd p))
 parts-padded p q e f b =
-    let n = rw (not-after (digitsOf p) (digitsOf q) b) at (not-past-padded q p f e) in parts-begins p q b ∙ ap not n
+    let n = rw (before-asymmetric (digitsOf p) (digitsOf q) b) at (not-past-padded q p f e) in
+    parts-begins p q b ∙ ap not n
 
 -- ---- an index that rises
 
@@ -115,7 +105,7 @@ parts-past p q z e b c = go (begins (digitsOf p) (digitsOf z)) refl
     go : (t : Bool) → begins (digitsOf p) (digitsOf z) ≡ t → parts p z ≡ true
     go true g =
         let h = begins-between (digitsOf p) (digitsOf q) (digitsOf z) b c g in
-        absurd (begun-not-parted (begins-agrees (digitsOf p) (digitsOf q) .0 h) (parts-parted p q e))
+        absurd (begins-not-parted (begins-agrees (digitsOf p) (digitsOf q) .0 h) (parts-parted p q e))
     go false g = parts-begins p z (before-transitive (digitsOf p) (digitsOf q) (digitsOf z) b c) ∙ ap not g
 
 -- the label p, then q and the labels after it rise

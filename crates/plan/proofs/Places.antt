@@ -2,6 +2,7 @@
 use mathlib.Core.Path.{_≡_, refl, sym, ap, _∙_}
 use mathlib.Core.Bool.{Bool, true, false, true≢false}
 use mathlib.Core.List.{List}
+use mathlib.Core.Logic.{_≢_}
 use Prim.Native.Nat.{ℕ, _+_, _≤_, _<_}
 use native.Mathlib.Omega.{arith}
 use lib.Dec.{ltb}
@@ -27,7 +28,8 @@ use Rattle.plan.specs.Plan.{ofOneBasin, unitsOfOne, isOneOf}
 use Rattle.plan.specs.Meaning.{labelIn}
 use Rattle.plan.specs.Steps.{Rising, StandFirst, placeOf, labelBeforeLastOdd, endOf}
 use Rattle.plan.proofs.PlanPlaces.{test-false, one-of-agrees}
-use Rattle.plan.proofs.UnitsOfOne.{units-of-one-length, unit-of-one, before-of-one, rising-of-one}
+use Rattle.plan.proofs.UnitsOfOne.{units-of-one-length, unit-of-one, before-of-one}
+use Rattle.plan.proofs.UnitsOfOne.{rising-of-one, places-differ}
 
 -- ---- the place of a label
 
@@ -127,9 +129,8 @@ module _ (index : List Label) (r : Rising index) where
     where
       none : NoneBelow (isAt index p) i
       none j h = same-not (labelIn index j) p (λ f.
-          let same : labelIn index j ≡ labelIn index i = f ∙ sym (same-true (labelIn index i) p e) in
-          let before = rw same at (rising-of-one index (r .rises) j i h l) in
-          true≢false (sym before ∙ before-irreflexive (digitsOf (labelIn index i))))
+          let other : j ≢ i = omega arith in
+          places-differ index (r .rises) j i (omega arith) l other (f ∙ sym (same-true (labelIn index i) p e)))
 
   -- what is no label has none
   pub place-of-none : (p : Label) → isLabel greatestDepth p ≡ false → placeOf index p ≡ Nothing

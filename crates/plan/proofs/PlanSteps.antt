@@ -58,9 +58,10 @@ module _ (index plan : List Label) where
   unfolding missingFrom
   missing-step i l = rw (drop-cons index i noDigits l)
 
-  pub missing-end : missing (length index) ≡ Accepted
+  -- past the last unit none is missing
+  pub none-missing : missing (length index) ≡ Accepted
   unfolding missingFrom
-  missing-end = rw (drop-of-length-le index {i = length index} (omega arith))
+  none-missing = rw (drop-of-length-le index {i = length index} (omega arith))
 
   -- units that stand in the plan are passed over
   pub missing-reach : (i : ℕ) → i ≤ length index

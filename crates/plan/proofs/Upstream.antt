@@ -21,7 +21,7 @@ use Rattle.claims.specs.Parting.{MeetsRule, Begins, begins-none, begins-on}
 use Rattle.claims.proofs.Dictionary.{Earlier, earlier-now, earlier-on, before-earlier, earlier-before}
 use Rattle.claims.proofs.Dictionary.{before-irreflexive, before-transitive}
 use Rattle.claims.proofs.Parting.{Parted, parted-now, parted-on, Rule, rule-now, rule-on, allOdd}
-use Rattle.claims.proofs.Parting.{at-parted, at-rule, rule-at}
+use Rattle.claims.proofs.Parting.{begins-first, begins-rest, at-parted, at-rule, rule-at}
 use Rattle.lookup.specs.Lookup.{greatestDepth, begins, beginsWith, isRising, startOf, lengthOf}
 use Rattle.lookup.specs.Exactly.{entryAt}
 use Rattle.lookup.proofs.Begins.{begins-agrees, begins-not-before}
@@ -42,12 +42,6 @@ use Rattle.plan.proofs.UpstreamMeaning.{upstream-agrees}
 odd-rest : (a : ℕ) (x : List ℕ) → allOdd (a ∷ x) ≡ true → allOdd x ≡ true
 unfolding every
 odd-rest a x e = both-true (isOdd a) (allOdd x) e .1
-
-begun-first : {a b : ℕ} {w x : List ℕ} → Begins (a ∷ w) (b ∷ x) → a ≡ b
-begun-first (begins-on b) = refl
-
-begun-rest : {a : ℕ} {w x : List ℕ} → Begins (a ∷ w) (a ∷ x) → Begins w x
-begun-rest (begins-on b) = b
 
 -- where the rule is met, y begins with the digits of x up to where its last odd digits start
 rule-begins : {x y : List ℕ} → Rule x y → Begins (beforeLastOdd x) y
@@ -73,7 +67,7 @@ begins-rule (parted-now {a = a} {b = b} {x = x} {y = y} n) (earlier-now l) h = g
   where
     go : (s : Bool) → allOdd (a ∷ x) ≡ s → Begins (cond s [] (a ∷ beforeLastOdd x)) (b ∷ y) → Rule (a ∷ x) (b ∷ y)
     go true e h = rule-now l e
-    go false e h = absurd (n (begun-first h))
+    go false e h = absurd (n (begins-first h))
 begins-rule (parted-now n) (earlier-on e) h = absurd (n refl)
 begins-rule (parted-on p) (earlier-now l) h = absurd (omega arith)
 begins-rule (parted-on {a = a} {x = x} {y = y} p) (earlier-on e) h =
@@ -82,7 +76,7 @@ begins-rule (parted-on {a = a} {x = x} {y = y} p) (earlier-on e) h =
     go : (s : Bool) → allOdd (a ∷ x) ≡ s → Begins (cond s [] (a ∷ beforeLastOdd x)) (a ∷ y)
         → Begins (beforeLastOdd x) y
     go true o h = rw (none-left x (odd-rest a x o)) begins-none
-    go false o h = begun-rest h
+    go false o h = begins-rest h
 
 -- the digits up to where the last odd ones start begin the others, and what stands after these does not stand before
 -- those

@@ -9,7 +9,6 @@ use native.Mathlib.Omega.{arith}
 use lib.Dec.{ltb}
 use lib.ListN.{length}
 use borrow.Author.Tests.{ltb-true, ltb-false}
-use Rattle.sheet.specs.declared.Found.the-variants.{At}
 use Rattle.sheet.specs.declared.OutletFlow.{OutletFlow}
 use Rattle.sheet.specs.declared.OutletFlow.the-variants.{Same}
 use Rattle.sheet.specs.declared.Label.{Label}
@@ -18,28 +17,12 @@ use Rattle.sheet.specs.Refusal.{depthFits}
 use Rattle.sheet.specs.Flow.{isLabel, answerUnequal, outletFlow}
 use Rattle.sheet.proofs.Records.{same-is, same-not}
 use Rattle.claims.specs.Parting.{PartAt}
-use Rattle.claims.proofs.Parting.{part-differs}
-use Rattle.claims.proofs.FlowTests.{part-found}
+use Rattle.claims.proofs.Parting.{part-differs, part-turned}
+use Rattle.claims.proofs.FlowTests.{part-once}
 use Rattle.claims.proofs.FlowAnswers.{Answered, answered-yes, answered-no, answer-at, good-labels}
 use Rattle.lookup.specs.Lookup.{greatestDepth}
 use Rattle.plan.specs.Plan.{ofOneBasin, isUpstream}
 use Rattle.plan.specs.Meaning.{labelIn, digitsIn, ByDigits, GoodIndex}
-
--- the place where two digit lists part is the same the other way
-part-turned : {x y : List ℕ} {i : ℕ} → PartAt x y i → PartAt y x i
-part-turned t = record {
-  in-x = t .in-y;
-  in-y = t .in-x;
-  before = λ j l. sym (t .before j l);
-  differ = λ e. t .differ (sym e);
-}
-
--- two digit lists part at one place only
-part-once : (x y : List ℕ) (i j : ℕ) → PartAt x y i → PartAt x y j → i ≡ j
-part-once x y i j t u =
-    let e : At i ≡ At j = sym (part-found x y i t) ∙ part-found x y j u in
-    let same : i ≡ j = cc in
-    same
 
 -- by the answer to the outlet question
 told : (p q : Label) (k : ℕ) → PartAt (digitsOf p) (digitsOf q) k → (o : OutletFlow)

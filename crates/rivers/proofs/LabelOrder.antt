@@ -12,7 +12,6 @@ use Rattle.sheet.specs.River.{Network, heavier, Run, stem, mouth, river}
 use Rattle.sheet.specs.Unit.{Parts, taken, finished, cutAt}
 use Rattle.sheet.specs.Label.{Place, placeOf, label}
 use Rattle.claims.specs.Demand.{Shares}
-use Rattle.claims.specs.Parting.{Begins, begins-on}
 use Rattle.claims.specs.Dictionary.{NotAfter}
 use Rattle.claims.proofs.Runs.{In, at-head, in-tail, is-under}
 use Rattle.claims.specs.Lawful.{Lawful}
@@ -20,7 +19,7 @@ use Rattle.claims.specs.Runs.{Headed, mouth-here}
 use Rattle.claims.proofs.Rivers.{river-headed, river-covers}
 use Rattle.claims.proofs.Parts.{join, join-cut, Spot, spot-last, spot-in, spot-mouth, spot-later, spot-above, spot-held}
 use Rattle.claims.proofs.Parts.{place-spot, place-headed, place-holds}
-use Rattle.claims.proofs.Parting.{Parted, parted-now, parted-on}
+use Rattle.claims.proofs.Parting.{begins-not-parted}
 use Rattle.claims.proofs.Dictionary.{not-after-both, not-after-on, not-after-now}
 use Rattle.claims.proofs.DigitRule.{unitOutlet, outlet-rule}
 use Rattle.claims.proofs.Units.{digitsIn, drains-passes, named-outlet, begins-all}
@@ -56,11 +55,6 @@ record LaidOut (cell size : List ℕ) (R : Run) : Type 0 where
 -- the label of the cell at position i in the river whose mouth stands at position m
 abbrev along : Network → List ℕ → ℕ → ℕ → ℕ → List ℕ
 along N cell depth m i = digitsIn N (getD cell m 0) depth (getD cell i 0)
-
--- a label that begins another does not part from it
-begins-not-parted : {x y : List ℕ} → Begins x y → Parted x y → ⊥
-begins-not-parted (begins-on b) (parted-now c) = c refl
-begins-not-parted (begins-on b) (parted-on p) = begins-not-parted b p
 
 module _ {cell size area : List ℕ} {count split least : ℕ} {N : Network} (Y : Layout cell size count)
     (O : Lawful N (heavier N)) (L : LayoutOf N cell size area split least) where

@@ -27,7 +27,6 @@ use Rattle.lookup.specs.Padded.{padded, paddedEnd}
 use Rattle.lookup.proofs.Begins.{begins-agrees, begins-between}
 use Rattle.lookup.proofs.PaddedOrder.{not-past-padded}
 use Rattle.plan.specs.Plan.{ofOneBasin, unitsOfOne, parts, allPart}
-use Rattle.plan.specs.Steps.{neighboursPartFrom, neighboursPart}
 use Rattle.plan.proofs.UnitsOfOne.{before-of-one}
 
 -- ---- two labels, by digits
@@ -126,6 +125,17 @@ rest-part p q (z ∷ labels) e b r =
     let next = parts-past p q z e b (f .0) in
     rw next
     (rest-part p z labels next (before-transitive (digitsOf p) (digitsOf q) (digitsOf z) b (f .0)) (f .1))
+
+-- each label parts from the next; p stands before the first of these
+unfoldable pub neighboursPartFrom : Label → List Label → Bool
+unfolding parts
+neighboursPartFrom p [] = true
+neighboursPartFrom p (q ∷ labels) = let rest = neighboursPartFrom q labels in cond (parts p q) rest false
+
+unfoldable pub neighboursPart : List Label → Bool
+unfolding neighboursPartFrom
+neighboursPart [] = true
+neighboursPart (p ∷ labels) = neighboursPartFrom p labels
 
 from-neighbours : (p : Label) (labels : List Label) → risingFrom (ofOneBasin p) (unitsOfOne labels) ≡ true
     → neighboursPartFrom p labels ≡ allPart (p ∷ labels)

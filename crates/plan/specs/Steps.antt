@@ -1,6 +1,6 @@
 -- What the steps of the plan's check ask and promise: places in the index, and work places that tell which units came.
 use mathlib.Core.Path.{_≡_}
-use mathlib.Core.Bool.{Bool, true, false, cond}
+use mathlib.Core.Bool.{Bool, true, cond}
 use mathlib.Core.List.{List, [], _∷_}
 use Prim.Native.Nat.{ℕ, suc, _+_, _-_, _≤_, _<_}
 use lib.Dec.{eqb, ltb, leb}
@@ -17,7 +17,7 @@ use Rattle.lookup.specs.Exactly.{entryAt}
 use Rattle.lookup.specs.Padded.{isBelow, countBelow}
 use Rattle.plan.specs.declared.PlanAnswer.{PlanAnswer}
 use Rattle.plan.specs.declared.PlanAnswer.the-variants.{Accepted, Refused}
-use Rattle.plan.specs.Plan.{ofOneBasin, unitsOfOne, parts, allPart}
+use Rattle.plan.specs.Plan.{ofOneBasin, unitsOfOne, allPart}
 
 -- ---- the index
 
@@ -30,17 +30,6 @@ pub record Rising (index : List Label) : Type 0 where
 pub record Judged (index : List Label) : Type 0 where
   pub rising : Rising index
   pub part : allPart index ≡ true
-
--- each label parts from the next; p stands before the first of these
-unfoldable pub neighboursPartFrom : Label → List Label → Bool
-unfolding parts
-neighboursPartFrom p [] = true
-neighboursPartFrom p (q ∷ labels) = let rest = neighboursPartFrom q labels in cond (parts p q) rest false
-
-unfoldable pub neighboursPart : List Label → Bool
-unfolding neighboursPartFrom
-neighboursPart [] = true
-neighboursPart (p ∷ labels) = neighboursPartFrom p labels
 
 -- ---- places in the index
 

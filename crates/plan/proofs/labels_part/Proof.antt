@@ -15,9 +15,8 @@ use Rattle.lookup.specs.Lookup.{greatestDepth}
 use Rattle.lookup.specs.Padded.{padded, paddedEnd}
 use Rattle.lookup.proofs.Counted.{labels-counted, every-at}
 use Rattle.plan.specs.Plan.{parts}
-use Rattle.plan.specs.Steps.{neighboursPartFrom, neighboursPart}
 use Rattle.plan.proofs.UnitsOfOne.{rising-of-one}
-use Rattle.plan.proofs.Parted.{parts-padded, neighbours-part, parted-start, parted-end, parted-no, parted-turn}
+use Rattle.plan.proofs.Parted.{neighboursPartFrom, neighboursPart, parts-padded, neighbours-part, parted-start, parted-end, parted-no, parted-turn}
 use Rattle.plan.proofs.labels_part.Statement.{statement}
 use Rattle.plan.proofs.labels_part.Tie as tie
 

@@ -1,5 +1,7 @@
 // Reads a grid file from standard input and prints its atlas on standard output: the pages of its sheet, or the two
 // lines after a refusal. It only moves bytes: a page is written by crate atlas_file, whose contract fixes it.
+#![tactic(auto)]
+
 use atlas_file::write_verdict_page;
 use programs::{
     CELLS, Input, LABEL_NUMBERS, REPORT_BYTES, ROWS, WORK_PLACES, complain, print_text, read_input,

@@ -1,4 +1,6 @@
 // The atlas of a file that was read: the pages of its sheet, or the two lines after a refusal.
+#![tactic(auto)]
+
 ghost use Rattle.std.specs.Prelude.{◌≡◌};
 ghost use Rattle.listing.specs.Writing.{listing_values};
 ghost use Rattle.atlas_file.specs.Atlas.{refusal_page_into, verdict_page_into};

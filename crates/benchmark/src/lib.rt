@@ -1,4 +1,6 @@
 // Check 4 by words and by bytes, for bench/run alone: no other crate uses them, and the exported library has neither.
+#![tactic(auto)]
+
 ghost use Rattle.std.specs.Prelude.{◌≡◌};
 ghost use Rattle.benchmark.specs.Cells.{has_cells, cell_or, first_bad_cell};
 

@@ -1,6 +1,8 @@
 // The tests of checks 1, 2, 19, 17 and 4 to 6: sizes, depth, least and split, weights, and the first cell in reading
 // order that a check looks for; whether two labels or units are the same, those at a place of lent slices, and places
 // set to 0.
+#![tactic(auto)]
+
 pub mod codes;
 
 ghost use Rattle.std.specs.Prelude.{◌≡◌, ◌+◌, ◌*◌, ◌≤◌, ◌<◌, length, replicate};
@@ -14,7 +16,7 @@ ghost use Rattle.checks.specs.Search.{is_target};
 use sheet::{Found, Label, UnitName};
 
 // What a search in reading order looks for: an inside cell, or an inside cell that a search upstream did not reach.
-#[derive(Drop)]
+#[derive(Clone, Copy)]
 pub enum Target {
     Inside,
     Unreached,

@@ -1,17 +1,19 @@
 // Decimal numbers: a value read at a position of a line, and a number written as text.
+#![tactic(auto)]
+
 ghost use Rattle.std.specs.Prelude.{◌≡◌, ◌+◌, ◌≤◌, length};
 ghost use Rattle.decimal.specs.Value.{is_digit, blanks_at, most_digits, number_at, unpadded_at, value_at, found_values};
 ghost use Rattle.decimal.specs.Text.{decimal_text, written_values, write_text};
 
 // What reading a value gives: the value and the position after it, or that no value stands there.
-#[derive(Drop)]
+#[derive(Clone, Copy)]
 pub enum Value {
     Found(u32, usize),
     Bad,
 }
 
 // What writing a text gives: the position after it, or that it does not fit and nothing was written.
-#[derive(Drop)]
+#[derive(Clone, Copy)]
 pub enum Written {
     End(usize),
     NoRoom,

@@ -1,4 +1,6 @@
 // A label as a record of two decimal numbers, and its digits, the most significant first.
+#![tactic(auto)]
+
 ghost use Rattle.std.specs.Prelude.{◌≡◌, ◌≤◌, ◌<◌, ◌^◌, length};
 ghost use Rattle.sheet.specs.Record.{Digits, number, decimal_digits, number_digits, record_of, digits_of};
 ghost use Rattle.sheet.specs.Refusal.{within, written};
@@ -12,14 +14,14 @@ use checks::depth_fits;
 use sheet::{Found, Label};
 
 // The answer of write_digits: how many digits were written, or document 01's number of the refusal.
-#[derive(Drop)]
+#[derive(Clone, Copy)]
 pub enum DigitsAnswer {
     Written(usize),
     Refused(u8),
 }
 
 // The answer of label_of: the label, or document 01's number of the refusal.
-#[derive(Drop)]
+#[derive(Clone, Copy)]
 pub enum LabelAnswer {
     Label(Label),
     Refused(u8),

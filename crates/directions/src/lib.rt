@@ -1,5 +1,7 @@
 // The fixed table of steps, where a cell's water goes, and the neighbours one step back; in `word` the test of eight
 // directions at once.
+#![tactic(auto)]
+
 pub mod word;
 
 ghost use Rattle.std.specs.Prelude.{◌≡◌, ◌+◌, ◌*◌, ◌<◌};

@@ -1,5 +1,7 @@
 // The dues of one basin's units, from the order along rivers, in which one basin stands after the other and the cells
 // of each unit side by side.
+#![tactic(auto)]
+
 ghost use Rattle.std.specs.Prelude.{◌≡◌, ◌<◌, leb, length, get_or};
 ghost use Rattle.sheet.specs.Area.{row_weight};
 ghost use Rattle.sheet.specs.Refusal.{written};
@@ -14,7 +16,7 @@ use index::units::{count_units, last_of_group};
 use upstream::parts;
 
 // A part of the work places: from `first` up to `end`.
-#[derive(Drop)]
+#[derive(Clone, Copy)]
 pub struct Part {
     pub first: usize,
     pub end: usize,

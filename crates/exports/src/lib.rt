@@ -1,5 +1,7 @@
 // The calls for hosts in C and in languages that call C; include/pfafstetter.h declares them. Each only calls proved
 // functions.
+#![tactic(auto)]
+
 pub mod basin_levy;
 pub mod survey_plan;
 pub mod unit_index;

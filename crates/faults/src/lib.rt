@@ -1,9 +1,11 @@
 // What refuses the sizes, the row of a weight and the cells that a file lists.
+#![tactic(auto)]
+
 pub mod cell_faults;
 pub mod size_faults;
 
 // The sizes of a sheet, as the file lists them.
-#[derive(Drop)]
+#[derive(Clone, Copy)]
 pub struct Sizes {
     pub rows: usize,
     pub cols: usize,
@@ -13,7 +15,7 @@ pub struct Sizes {
 }
 
 // What a cell line lists.
-#[derive(Drop)]
+#[derive(Clone, Copy)]
 pub struct Cell {
     pub row: usize,
     pub col: usize,

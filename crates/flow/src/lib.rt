@@ -1,4 +1,6 @@
 // The flow question, does water from the unit q pass the unit p, and the outlet question, does it pass the outlet of p?
+#![tactic(auto)]
+
 pub mod pairs;
 
 ghost use Rattle.std.specs.Prelude.{◌≡◌, true, ◌<◌, length, drop};

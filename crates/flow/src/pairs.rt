@@ -8,7 +8,7 @@ use crate::{answer_fitting, answer_number};
 use checks::{depth_fits, least_fits, unit_at};
 
 // The answer of flow_pairs: the count of pairs, or the number of the refusal.
-#[derive(Drop)]
+#[derive(Clone, Copy)]
 pub enum PairsAnswer {
     Pairs(usize),
     Refused(u8),

@@ -1,4 +1,6 @@
 // The index of a sheet's units, by basin and then label, each with its outlet cell and its count of cells.
+#![tactic(auto)]
+
 pub mod from_intake;
 pub mod units;
 
@@ -15,7 +17,7 @@ use sheet::Outcome;
 use upstream::parts;
 
 // The answer of the index call: the number of units, or refused with document 01's number and place.
-#[derive(Drop)]
+#[derive(Clone, Copy)]
 pub enum Indexed {
     Units(usize),
     Refused(u8, usize),

@@ -1,4 +1,6 @@
 // The intake of a sheet's file: it takes one line at a time and hands its state back.
+#![tactic(auto)]
+
 ghost use Rattle.std.specs.Prelude.{◌≡◌, length};
 ghost use Rattle.intake.specs.Intake.{taken_values, lent_sheet, new_intake, state_fault, line_in, line_after, end_taken};
 
@@ -17,7 +19,7 @@ use weight_lines::weight_line;
 
 // The stage of an intake, with what later lines need: the order of the columns, the sizes, the row whose weight comes
 // next.
-#[derive(Drop)]
+#[derive(Clone, Copy)]
 pub enum Stage {
     WaitingForSizeNames,
     WaitingForSizes(Columns),
@@ -28,20 +30,20 @@ pub enum Stage {
     Ended(Sizes),
 }
 
-#[derive(Drop)]
+#[derive(Clone, Copy)]
 pub struct Intake {
     pub stage: Stage,
 }
 
 // The outcome of a line or of the end: accepted, or refused with document 01's number.
-#[derive(Drop)]
+#[derive(Clone, Copy)]
 pub enum TakenOutcome {
     Accepted,
     Refused(u8),
 }
 
 // The next state beside the outcome.
-#[derive(Drop)]
+#[derive(Clone, Copy)]
 pub struct Taken {
     pub intake: Intake,
     pub outcome: TakenOutcome,

@@ -1,4 +1,6 @@
 // Labelling of a sheet by a direct call: the areas, labels and basins of its cells, in lent slices.
+#![tactic(auto)]
+
 mod basins;
 pub mod from_intake;
 

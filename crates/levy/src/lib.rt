@@ -1,4 +1,6 @@
 // The basin levy: a total of whole cents, shared among the units of one basin of a sheet by the weights of their cells.
+#![tactic(auto)]
+
 pub mod from_intake;
 
 ghost use Rattle.std.specs.Prelude.{◌≡◌, ◌≤◌};

@@ -3,7 +3,7 @@ ghost use Rattle.std.specs.Prelude.{◌≡◌};
 ghost use Rattle.lines.specs.Columns.{column_number, same_column, column_at, column_digits, named, column_count};
 
 // A column, by its name in the file. Absent stands for no column.
-#[derive(Drop)]
+#[derive(Clone, Copy)]
 pub enum Column {
     Absent,
     Rows,
@@ -18,7 +18,7 @@ pub enum Column {
 }
 
 // The columns of a line, in their order; Absent where there are fewer.
-#[derive(Drop)]
+#[derive(Clone, Copy)]
 pub struct Columns {
     pub first: Column,
     pub second: Column,

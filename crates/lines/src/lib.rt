@@ -1,4 +1,6 @@
 // Lines of the file: their columns, their fields, which are parted by commas, and value lines.
+#![tactic(auto)]
+
 pub mod columns;
 pub mod fields;
 pub mod values;

@@ -9,7 +9,7 @@ use super::fields::field_end;
 use decimal::Value;
 
 // The values of a line, in the order of its columns; 0 where there are fewer.
-#[derive(Drop)]
+#[derive(Clone, Copy)]
 pub struct Values {
     pub first: u32,
     pub second: u32,
@@ -19,7 +19,7 @@ pub struct Values {
 }
 
 // What reading a values line gives.
-#[derive(Drop)]
+#[derive(Clone, Copy)]
 pub enum ValuesLine {
     Values(Values),
     Bad,

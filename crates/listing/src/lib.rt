@@ -1,4 +1,6 @@
 // The listing of a sheet's cells, and the two lines after a refusal, as text in a lent buffer.
+#![tactic(auto)]
+
 ghost use Rattle.std.specs.Prelude.{◌≡◌, ◌+◌, ◌*◌, ◌<◌, ◌≤◌, length};
 ghost use Rattle.decimal.specs.Text.{decimal_text};
 ghost use Rattle.sheet.specs.Sheet.{grid};
@@ -11,7 +13,7 @@ use decimal::{COMMA, LINE_FEED, Written, decimal_length};
 use sheet::Label;
 
 // The answer of a call that writes a text: the count of its bytes, or document 01's number of a refusal.
-#[derive(Drop)]
+#[derive(Clone, Copy)]
 pub enum Listing {
     Bytes(usize),
     Refused(u8),

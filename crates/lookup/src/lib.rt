@@ -1,4 +1,6 @@
 // Looking up leading digits in a basin: the part of a slice of labels that holds the basin's labels that begin so.
+#![tactic(auto)]
+
 ghost use Rattle.std.specs.Prelude.{◌≡◌, true, ◌≤◌, ◌^◌, ◌/◌, ltb, length};
 ghost use Rattle.sheet.specs.Record.{decimal_digits, number_digits, labels_in, numbers_of, units_in};
 ghost use Rattle.sheet.specs.Flow.{every, is_label};
@@ -12,14 +14,14 @@ use digits::{count_decimal_digits, is_label};
 use sheet::{Label, UnitName};
 
 // The answer of find: where the part starts and how many labels it has, or the number of the refusal.
-#[derive(Drop)]
+#[derive(Clone, Copy)]
 pub enum LookupAnswer {
     Part(usize, usize),
     Refused(u8),
 }
 
 // A number of 36 digits in two halves, the first 18 digits and the next 18.
-#[derive(Drop)]
+#[derive(Clone, Copy)]
 pub struct Halves {
     pub first: u64,
     pub rest: u64,

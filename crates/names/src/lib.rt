@@ -1,4 +1,6 @@
 // Names lines: the expected names in any order, each exactly once, parted by commas.
+#![tactic(auto)]
+
 ghost use Rattle.std.specs.Prelude.{◌≡◌, cond, eqb};
 ghost use Rattle.lines.specs.Fields.{fields};
 ghost use Rattle.names.specs.Columns.{column_if, column_named, with_column, no_columns, count_column, as_often};
@@ -9,7 +11,7 @@ use lines::columns::{Column, Columns, same_column};
 use lines::fields::{field_end, same_bytes};
 
 // What reading a names line gives.
-#[derive(Drop)]
+#[derive(Clone, Copy)]
 pub enum NamesLine {
     Columns(Columns),
     Bad,

@@ -1,4 +1,6 @@
 // Pages of a sheet's atlas, as text in a lent buffer.
+#![tactic(auto)]
+
 ghost use Rattle.std.specs.Prelude.{◌≡◌, true, ◌+◌, ◌-◌, ◌*◌, ◌<◌, ◌≤◌, length};
 ghost use Rattle.decimal.specs.Ascii.{line_feed};
 ghost use Rattle.decimal.specs.Text.{decimal_text, overwrite};

@@ -1,5 +1,7 @@
 // Reads a grid file from standard input and prints its report on standard output: the listing of its sheet, or the two
 // lines after a refusal. It only moves bytes: the report is written by crate report, whose contract fixes it.
+#![tactic(auto)]
+
 use programs::{
     CELLS, Input, LABEL_NUMBERS, REPORT_BYTES, ROWS, WORK_PLACES, complain, print_text, read_input,
 };

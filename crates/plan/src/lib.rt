@@ -1,4 +1,6 @@
 // The check of a survey plan: a list of unit labels of one basin, against the labels of that basin's index. No grid.
+#![tactic(auto)]
+
 ghost use Rattle.std.specs.Prelude.{◌≡◌, true, [], ◌≤◌, ◌^◌, length, replicate};
 ghost use Rattle.sheet.specs.declared.Found.TheVariants.{At};
 ghost use Rattle.sheet.specs.Record.{number, decimal_digits, number_digits, labels_in};
@@ -16,7 +18,7 @@ use lookup::{GREATEST_DEPTH, Halves, all_labels, is_below, label_count, padded, 
 use sheet::{Found, Label};
 
 // The answer of check_plan: accepted, or the refusal's number and its place, from 1 in the plan or in the index, or 0.
-#[derive(Drop)]
+#[derive(Clone, Copy)]
 pub enum PlanAnswer {
     Accepted,
     Refused(u8, usize),

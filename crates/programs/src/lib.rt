@@ -1,5 +1,7 @@
 // What programs share: the sizes of what they lend, standard input read to its end, and a text printed on standard
 // output.
+#![tactic(auto)]
+
 use lines::LINE_BYTES;
 use listing::Listing;
 use reading::{Read, Reader};
@@ -24,14 +26,14 @@ pub const REPORT_BYTES: usize = 122905;
 const INTERRUPTED: i32 = 4;
 
 // A file that was read, or that standard input could not be read.
-#[derive(Drop)]
+#[derive(Clone, Copy)]
 pub enum Input {
     File(Read),
     Failed,
 }
 
 // What a read of the input brought: more of the file, the end of its reading, or that it failed.
-#[derive(Drop)]
+#[derive(Clone, Copy)]
 enum Chunk {
     More(Reader),
     End(Reader),

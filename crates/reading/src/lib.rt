@@ -1,4 +1,6 @@
 // A whole file, read in chunks of any size: its lines go to the intake, one after the other.
+#![tactic(auto)]
+
 ghost use Rattle.std.specs.Prelude.{◌≡◌, List, ℕ, length};
 ghost use Rattle.lines.specs.Fields.{line_bytes};
 ghost use Rattle.intake.specs.Intake.{lent_sheet};
@@ -11,7 +13,7 @@ use intake::{Intake, TakenOutcome};
 use lines::LINE_BYTES;
 
 // The bytes of a file so far. The bytes of the line that is not ended yet stand in a lent buffer.
-#[derive(Drop)]
+#[derive(Clone, Copy)]
 pub struct Reader {
     pub intake: Intake,
     // the lines that went to the intake; the last of them is the refused one, if one was refused
@@ -23,7 +25,7 @@ pub struct Reader {
 }
 
 // How a file ends: refused, with document 01's number and place, or with an ended intake.
-#[derive(Drop)]
+#[derive(Clone, Copy)]
 pub enum Read {
     Refused(u8, usize),
     Ended(Intake),

@@ -1,4 +1,6 @@
 // The report of a file that was read: a verdict on it, and the text that tells it.
+#![tactic(auto)]
+
 ghost use Rattle.std.proofs.Math.Option.{some};
 ghost use Rattle.std.specs.Prelude.{◌≡◌};
 ghost use Rattle.intake.specs.Intake.{lent_sheet, ended_sizes};
@@ -16,7 +18,7 @@ use sheet::Outcome;
 
 // Refused, with document 01's number and place, or labelled: a sheet of these sizes, with its areas, labels and basins
 // in what was lent.
-#[derive(Drop)]
+#[derive(Clone, Copy)]
 pub enum Verdict {
     Refused(u8, usize),
     Labelled(Sizes),

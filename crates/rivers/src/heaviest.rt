@@ -8,7 +8,7 @@ use crate::keys::{key_at, larger, smaller};
 
 // Whether no mouth that counts was met, and the four largest keys of those that were, the largest first; where there
 // are fewer, the least key that counts.
-#[derive(Drop)]
+#[derive(Clone, Copy)]
 struct Top {
     finished: bool,
     a: u64,
@@ -55,21 +55,21 @@ impl Top {
 
 // The rule by which mouths of a unit are taken: at most `split`, which is 1 to 4, of those with an area of `least` or
 // more.
-#[derive(Drop)]
+#[derive(Clone, Copy)]
 pub struct Rule {
     pub split: usize,
     pub least: u32,
 }
 
 // Whether a unit is finished, and the least key that is taken.
-#[derive(Drop)]
+#[derive(Clone, Copy)]
 pub struct Cut {
     pub finished: bool,
     pub key: u64,
 }
 
 // Where a unit stands: at positions `lo` to `hi`, without `hi`, of a river whose subtree ends at `end`.
-#[derive(Drop)]
+#[derive(Clone, Copy)]
 pub struct UnitSpan {
     pub lo: usize,
     pub hi: usize,

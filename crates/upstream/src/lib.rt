@@ -1,4 +1,6 @@
 // The search upstream from the outlets: a queue of cells, each after the cell that its water goes to.
+#![tactic(auto)]
+
 pub mod parts;
 
 ghost use Rattle.std.specs.Prelude.{◌≡◌, ◌+◌, ◌*◌, ◌/◌, ◌%◌, ◌<◌, ◌≤◌, length};

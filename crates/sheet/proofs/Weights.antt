@@ -8,7 +8,7 @@ use native.Mathlib.Omega.{arith}
 use lib.ListN.{get_or}
 use Rattle.sheet.specs.Sheet.{Sheet, cells}
 use Rattle.sheet.specs.Area.{weight}
-use Rattle.sheet.specs.Refusal.{both, weight_fits, weights_fit}
+use Rattle.sheet.specs.Refusal.{weight_fits, weights_fit}
 use Rattle.sheet.proofs.Cells.{row_lt}
 use Rattle.sheet.proofs.Within.{both_true, within_both}
 

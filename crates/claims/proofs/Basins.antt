@@ -78,7 +78,7 @@ module _ {N : Network} {inside : ℕ → Type 0} {outlet : ℕ} (B : Basin N ins
 
   -- it is the outlet of the way of each of its cells
   pub own_outlet : (c : ℕ) → InBasin N inside outlet c → way_end N.next N.cells c ≡ outlet
-  own_outlet c i = ends_end (all_end B.forest c) i.comes B.Ends-there
+  own_outlet c i = ends_end (all_end B.forest c) i.comes B.ends_there
 
   -- the one-outlet statement
   pub units_drain : (depth : ℕ) (w : List ℕ) (c : ℕ) → Shares Cell (digits_in N outlet depth) w c

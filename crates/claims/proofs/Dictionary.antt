@@ -34,9 +34,10 @@ before_earlier (a ∷ x) (b ∷ y) e = go (eqb a b) refl (before_earlier x y) e
     go true q f h = rw (← eqb-true a b q) (earlier_on (f h))
     go false q f h = earlier_now (ltb-true a b h)
 
-earlier_irreflexive : {x : List ℕ} → Earlier x x → ⊥
-earlier_irreflexive (earlier_now l) = omega arith
-earlier_irreflexive (earlier_on e) = earlier_irreflexive e
+earlier_unlike : {x y : List ℕ} → Earlier x y → x ≢ y
+earlier_unlike earlier_end e = cc
+earlier_unlike (earlier_now {a = a} {b = b} l) e = let same : a ≡ b = cc in omega arith
+earlier_unlike (earlier_on r) e = earlier_unlike r (cc)
 
 earlier_transitive : {x y z : List ℕ} → Earlier x y → Earlier y z → Earlier x z
 earlier_transitive earlier_end (earlier_now m) = earlier_end
@@ -50,7 +51,7 @@ pub before_irreflexive : (x : List ℕ) → is_before x x ≡ false
 before_irreflexive x = go (is_before x x) refl
   where
     go : (t : Bool) → is_before x x ≡ t → t ≡ false
-    go true e = absurd (earlier_irreflexive (before_earlier x x e))
+    go true e = absurd (earlier_unlike (before_earlier x x e) refl)
     go false e = refl
 
 pub before_transitive : (x y z : List ℕ) → is_before x y ≡ true → is_before y z ≡ true → is_before x z ≡ true

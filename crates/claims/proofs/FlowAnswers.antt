@@ -15,7 +15,7 @@ use Rattle.sheet.specs.declared.UnitName.{UnitName}
 use Rattle.sheet.specs.Record.{digits_of, same_label}
 use Rattle.sheet.specs.Refusal.{depth_fits}
 use Rattle.sheet.specs.Flow.{part_at, rule_at, is_label, answer_at, answer_unequal, outlet_flow}
-use Rattle.sheet.specs.Flow.{stem_alone, cell_answer, flow, answer_number, outlet_answer_number}
+use Rattle.sheet.specs.Flow.{stem_alone, cell_answer, answer_number, outlet_answer_number}
 use Rattle.sheet.proofs.Within.{both_true}
 use Rattle.sheet.proofs.Questions.{from_outlet_flow}
 use Rattle.claims.specs.Demand.{AllCounted}

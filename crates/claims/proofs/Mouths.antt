@@ -63,6 +63,7 @@ both false x = (refl, x)
 -- a finished run has no mouth that counts
 pub finished_none : (N : Network) (R : Run) → finished N R ≡ true → (v : ℕ) → MouthOf R v → N.counted v ≡ false
 unfolding finished
+finished_none N [] e v m = elim m [ ]
 finished_none N (stem s ∷ R) e v (mouth_there m) = finished_none N R e v m
 finished_none N (mouth w ∷ R) e v mouth_here = (both (N.counted w) e).0
 finished_none N (mouth w ∷ R) e v (mouth_there m) = finished_none N R (both (N.counted w) e).1 v m
@@ -119,6 +120,7 @@ mouth_cases (mouth_there m) = inr m
 
 pub chosen_none : (t : ℕ → Bool) (R : Run) → chosen t R ≡ 0 → (u : ℕ) → MouthOf R u → t u ≡ true → ⊥
 unfolding chosen
+chosen_none t [] e u m h = elim m [ ]
 chosen_none t (stem s ∷ R) e u (mouth_there m) h = chosen_none t R e u m h
 chosen_none t (mouth v ∷ R) e u mouth_here h = let k = rw h at e in omega arith
 chosen_none t (mouth v ∷ R) e u (mouth_there m) h = chosen_none t R (go (t v) e) u m h
@@ -198,6 +200,7 @@ module _ (heavier : ℕ → ℕ → Bool) (t : ℕ → Bool) where
   rank_once : {next : ℕ → Next} {v : ℕ} {R : Run} → Ordered next R → MouthOf R v
       → ((u : ℕ) → MouthOf R u → t u ≡ true → u ≢ v → heavier u v ≡ true) → chosen t R ≤ suc (rank heavier R v)
   unfolding chosen rank
+  rank_once {R = []} o m f = elim m [ ]
   rank_once {v = v} {R = mouth w ∷ R} (ordered_cons n g o) mouth_here f =
       once (t v) (heavier v v)
       (rank_over v R (λ u m h. f u (mouth_there m) h (λ e. n u u (is_under (rw e here)) (mouth_in m here) here)))
@@ -281,6 +284,7 @@ module _ (heavier : ℕ → ℕ → Bool) (t : ℕ → Bool) where
   chosen_more : (unlike : (u : ℕ) → heavier u u ≡ false) (v : ℕ) (R : Run) → MouthOf R v → t v ≡ true
       → ((u : ℕ) → MouthOf R u → heavier u v ≡ true → t u ≡ true) → rank heavier R v < chosen t R
   unfolding chosen rank
+  chosen_more unlike v [] m h f = elim m [ ]
   chosen_more unlike v (stem s ∷ R) (mouth_there m) h f = chosen_more unlike v R m h (λ u n. f u (mouth_there n))
   chosen_more unlike v (mouth w ∷ R) mouth_here h f =
       let l = chosen_over v R (λ u n. f u (mouth_there n)) in rw (h, unlike w) (omega arith)

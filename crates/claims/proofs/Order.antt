@@ -30,6 +30,7 @@ module _ {next : ℕ → Next} {heavier : ℕ → ℕ → Bool}
     (lighter : (u v w : ℕ) → heavier w v ≡ true → heavier v u ≡ true → heavier w u ≡ true) where
   pub under : {s : ℕ} {old : Option ℕ} {R : Run} {c : ℕ} → Chain next heavier s old R → In next R c
       → Under next heavier s old c
+  under chain_end i = elim i [ ]
   under (chain_stem {t = t} e a w) (at_head is_stem) = record { donor = t; steps = e; above = a; passed = here }
   under (chain_stem {t = t} e a w) (in_tail i) =
       let u = under w i in
@@ -69,11 +70,13 @@ module _ {next : ℕ → Next} where
 
   -- nothing in A passes anything in B
   pub not_back : (A B : Run) {q p : ℕ} → Ordered next (A ++ B) → In next A q → In next B p → ¬ Passes next q p
+  not_back [] B o i j = elim i [ ]
   not_back (e ∷ A) B {q} {p} (ordered_cons n f o) (at_head h) j = n q p h (in_right A j)
   not_back (e ∷ A) B (ordered_cons n f o) (in_tail i) j = not_back A B o i j
 
   -- everything in B passes each stem cell of A
   pub stem_first : (A B : Run) {s q : ℕ} → Ordered next (A ++ B) → StemOf A s → In next B q → Passes next q s
+  stem_first [] B o s j = elim s [ ]
   stem_first (stem t ∷ A) B {q = q} (ordered_cons n f o) stem_here j = f t q stem_here (in_right A j)
   stem_first (e ∷ A) B (ordered_cons n f o) (stem_there i) j = stem_first A B o i j
 
@@ -102,6 +105,7 @@ module _ {next : ℕ → Next} {heavier : ℕ → ℕ → Bool}
   stem_all : {t : ℕ} {R : Run} → Chain next heavier t none R → (s q : ℕ) → StemOf (stem t ∷ []) s → In next R q
       → Passes next q s
   stem_all w s q stem_here i = chain_passes lighter w i
+  stem_all w s q (stem_there m) i = elim m [ ]
 
   pub chain_ordered : {s : ℕ} {old : Option ℕ} {R : Run} → Chain next heavier s old R → Ordered next R
   chain_ordered chain_end = ordered_end

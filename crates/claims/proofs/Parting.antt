@@ -7,7 +7,7 @@ use Prim.Native.Nat.{ℕ, zero, suc, ◌≤◌, ◌<◌}
 use native.Mathlib.Omega.{arith}
 use lib.ListN.{length, get_or}
 use Rattle.sheet.specs.Flow.{every, is_odd}
-use Rattle.claims.specs.Parting.{PartAt, RuleAt, Begins, begins_on}
+use Rattle.claims.specs.Parting.{PartAt, RuleAt, Begins, begins_none, begins_on}
 
 abbrev pub all_odd : List ℕ → Bool
 all_odd x = every is_odd x
@@ -33,9 +33,12 @@ pub rule_first : {a b : ℕ} {x y : List ℕ} → a ≢ b → Rule (a ∷ x) (b 
 rule_first n (rule_now l o) = (l, o)
 rule_first n (rule_on r) = absurd (n refl)
 
+rule_same : {a b : ℕ} {x y : List ℕ} → a ≡ b → Rule (a ∷ x) (b ∷ y) → Rule x y
+rule_same e (rule_now l o) = absurd (omega arith)
+rule_same e (rule_on r) = r
+
 pub rule_rest : {a : ℕ} {x y : List ℕ} → Rule (a ∷ x) (a ∷ y) → Rule x y
-rule_rest (rule_now l o) = absurd (omega arith)
-rule_rest (rule_on r) = r
+rule_rest r = rule_same refl r
 
 -- equal labels, or labels that part, and then the rule says whether water passes
 pub judged : {G W : Type 0} {x y : List ℕ} → Verdict G W x y → (x ≡ y) ⊎ (Parted x y × (G → W ↔ Rule x y))
@@ -57,15 +60,16 @@ judged (on v) =
 
 -- labels that part are not equal, and neither begins the other
 pub parted_apart : {x y : List ℕ} → Parted x y → x ≢ y
-parted_apart p e = irr (rw e at p)
-  where
-    irr : {z : List ℕ} → Parted z z → ⊥
-    irr (parted_now n) = n refl
-    irr (parted_on r) = irr r
+parted_apart (parted_now n) e = n (cc)
+parted_apart (parted_on r) e = parted_apart r (cc)
 
 pub begins_not_parted : {x y : List ℕ} → Begins x y → Parted x y → ⊥
-begins_not_parted (begins_on b) (parted_now n) = n refl
-begins_not_parted (begins_on b) (parted_on p) = begins_not_parted b p
+begins_not_parted b p = go b p refl
+  where
+    go : {x y z : List ℕ} → Begins x y → Parted x z → y ≡ z → ⊥
+    go begins_none p e = elim p [ ]
+    go (begins_on b) (parted_now n) e = n (cc)
+    go (begins_on b) (parted_on p) e = go b p (cc)
 
 -- where a label begins another, their first digits are the same, and its rest begins the other's rest
 pub begins_first : {a b : ℕ} {w x : List ℕ} → Begins (a ∷ w) (b ∷ x) → a ≡ b

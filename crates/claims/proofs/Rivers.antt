@@ -22,11 +22,13 @@ use Rattle.claims.proofs.Order.{chain_passes, stem_ordered, Ordered, ordered_end
 module _ {next : ℕ → Next} {heavier : ℕ → ℕ → Bool} where
   chain_goes : {s v : ℕ} {old : Option ℕ} {R : Run} → Chain next heavier s old R → MouthOf R v
       → (t : ℕ) × (next v ≡ To t)
+  chain_goes chain_end m = elim m [ ]
   chain_goes (chain_stem e a w) (mouth_there m) = chain_goes w m
   chain_goes {s} (chain_mouth e a w) mouth_here = (s, e)
   chain_goes (chain_mouth e a w) (mouth_there m) = chain_goes w m
 
   pub mouth_goes : {v : ℕ} {R : Run} → Headed next heavier R → MouthOf R v → (t : ℕ) × (next v ≡ To t)
+  mouth_goes headed_none m = elim m [ ]
   mouth_goes (headed_stem w) (mouth_there m) = chain_goes w m
 
 module _ {N : Network} {heavier : ℕ → ℕ → Bool} (O : Lawful N heavier) where

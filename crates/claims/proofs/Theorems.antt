@@ -15,7 +15,7 @@ use Rattle.sheet.specs.Area.{sum_over, weight, area}
 use Rattle.sheet.specs.River.{network}
 use Rattle.sheet.specs.Label.{outlet_of}
 use Rattle.sheet.specs.Basins.{basin_of}
-use Rattle.sheet.specs.Refusal.{outcome, written, lent_after, Lent}
+use Rattle.sheet.specs.Refusal.{outcome, lent_after, Lent}
 use Rattle.sheet.specs.Sheet.{cells, inside, next, Grid, Sheet}
 use Rattle.sheet.proofs.Cells.{cells_most, inside_lt, row_lt}
 use Rattle.sheet.proofs.Within.{cols_some, rows_cols_most}

@@ -11,10 +11,10 @@ use Rattle.sheet.specs.declared.Next.TheVariants.{To}
 use Rattle.sheet.specs.Water.{Passes, Drains, DrainsTo, here, there, drained, drains_on}
 use Rattle.sheet.specs.Unit.{finished, taken}
 use Rattle.sheet.specs.Label.{place_of, label, Place}
-use Rattle.sheet.specs.River.{Run, upstream, river, Network, stem}
+use Rattle.sheet.specs.River.{Run, river, Network, stem, mouth}
 use Rattle.claims.specs.Demand.{Shares, OneOutlet}
 use Rattle.claims.specs.Parting.{Begins, begins_none, begins_on}
-use Rattle.claims.specs.Runs.{Chain, chain_stem, chain_mouth, Headed, headed_none, headed_stem}
+use Rattle.claims.specs.Runs.{Chain, chain_end, chain_stem, chain_mouth, Headed, headed_none, headed_stem}
 use Rattle.claims.specs.Lawful.{Lawful}
 use Rattle.claims.proofs.Runs.{has_stem, in_none, in_cons, pass_both, In, is_stem, is_under, at_head, in_tail}
 use Rattle.claims.proofs.Rivers.{river_headed, river_passes, river_covers}
@@ -42,6 +42,7 @@ module _ {next : ℕ → Next} where
   pub chain_drains : {heavier : ℕ → ℕ → Bool} {S : ℕ → Type 0} {s c : ℕ} {old : Option ℕ} {R : Run}
       → Chain next heavier s old R
       → ((x : ℕ) → In next R x → S x) → S s → In next R c → Drains next S c s
+  chain_drains chain_end f b i = elim i [ ]
   chain_drains (chain_stem {t = t} e a w) f b (at_head is_stem) = drains_on (f t (at_head is_stem)) e (drained b)
   chain_drains (chain_stem {t = t} e a w) f b (in_tail i) = drains_more
       (chain_drains w (λ x j. f x (in_tail j)) (f t (at_head is_stem)) i) e b
@@ -94,6 +95,7 @@ module _ {N : Network} {heavier : ℕ → ℕ → Bool} (O : Lawful N heavier) w
       → DrainsTo N.next (SharesIn N d R []) (first_stem R c)
   unfolding first_stem
   all_drain d [] c headed_none i = absurd (in_none i)
+  all_drain d (mouth v ∷ R) c h i = elim h [ ]
   all_drain d (stem s ∷ R) c (headed_stem w) i = record {
     among = record { held = at_head is_stem; begins = begins_none };
     drains = λ x k. elim (in_cons k.held) [

@@ -1,10 +1,9 @@
 -- What the general theorems ask of a network: its inside cells drain to outlets, and counted mouths are closed upwards;
 -- and the basin of one of its outlets.
-use Rattle.std.specs.Prelude.{◌≡◌, true, ℕ, zero, suc, ◌<◌}
+use Rattle.std.specs.Prelude.{◌≡◌, true, ℕ, suc, ◌<◌}
 use Rattle.sheet.specs.declared.Next.{Next}
 use Rattle.sheet.specs.declared.Next.TheVariants.{Outlet, To}
 use Rattle.sheet.specs.Water.{Passes}
-use Rattle.sheet.specs.Area.{heavier_by}
 use Rattle.sheet.specs.River.{Network, heavier}
 
 -- the way of a cell comes to an outlet within n cells

@@ -1,7 +1,7 @@
 -- Bounds of areas and labels, and what it means that the fuel of the definitions is enough.
-use Rattle.std.specs.Prelude.{◌≡◌, true, List, [], ◌∷◌, ◌↔◌, ℕ, suc, ◌+◌, ◌≤◌, ◌<◌, ◌^◌, get_or}
+use Rattle.std.specs.Prelude.{◌≡◌, true, List, [], ◌∷◌, ◌↔◌, ℕ, ◌+◌, ◌≤◌, ◌<◌, ◌^◌, get_or}
 use Rattle.sheet.specs.Sheet.{Grid, Sheet, cells, inside, next, is_outlet}
-use Rattle.sheet.specs.Water.{Passes, passes, reaches_outlet}
+use Rattle.sheet.specs.Water.{Passes, passes}
 use Rattle.sheet.specs.Area.{count, sum_over, drains_into, weight, area}
 use Rattle.sheet.specs.River.{network, donors, river_within, river}
 use Rattle.sheet.specs.Record.{label_at}

@@ -3,13 +3,11 @@ use mathlib.Core.Path.{◌≡◌, refl, sym, ◌∙◌}
 use mathlib.Core.Bool.{Bool, true, false, cond}
 use mathlib.Core.Logic.{◌≢◌}
 use Prim.Native.Nat.{ℕ}
-use borrow.Author.Rules.{rules}
 use Rattle.sheet.specs.Refusal.{sizes_fit, depth_fits, least_and_split_fit, sheet_fault}
 use Rattle.sheet.proofs.Within.{no_fault}
 use Rattle.faults.specs.declared.Sizes.{Sizes}
 use Rattle.faults.specs.Faults.{sizes_fault, lent_enough}
-use Rattle.faults.proofs.size_faults.sizes_fault.Statement.{statement}
-use Rattle.faults.proofs.size_faults.sizes_fault.Tie as tie
+use Rattle.faults.proofs.size_faults.sizes_fault.Goals as goal
 
 module _ (z : Sizes) (dirs weights : ℕ) {fault : ℕ}
     (is : fault ≡ sheet_fault z.rows z.cols z.depth z.least z.split) where
@@ -35,27 +33,18 @@ module _ (z : Sizes) (dirs weights : ℕ) {fault : ℕ}
       let p = no_fault _ _ _ _ _ (sym is ∙ none) in
       rw (p.0, p.1, p.2, e)
 
-sheet-fault-requires : tie.Need-sheet-fault-requires
-sheet-fault-requires c κs = search rules
+pub lent_enough-requires : goal.lent_enough-requires
+lent_enough-requires c = (no_fault _ _ _ _ _ (sym c.sheet_fault-fault.ensures ∙ c.if-fault-eq0.true)).0
 
-lent-enough-requires : tie.Need-lent-enough-requires
-lent-enough-requires c κs = (no_fault _ _ _ _ _ (sym c.before.sheet-fault.ensures ∙ c.if1.true)).0
+pub returns-then-lent_enough : goal.returns-then-lent_enough
+returns-then-lent_enough c =
+    lent-decides _ _ _ c.sheet_fault-fault.ensures c.if-fault-eq0.true
+    (sym c.lent_enough.ensures ∙ c.if-lent_enough.true)
 
-returns : tie.Need-returns
-returns c =
-    let t = c.before.before in
-    lent-decides _ _ _ t.before.sheet-fault.ensures t.if1.true
-    (sym c.before.lent-enough.ensures ∙ c.if2.true)
+pub returns-then-fault-eq0 : goal.returns-then-fault-eq0
+returns-then-fault-eq0 c =
+    lent-decides _ _ _ c.sheet_fault-fault.ensures c.if-fault-eq0.true
+    (sym c.lent_enough.ensures ∙ c.if-lent_enough.false)
 
-returns-2 : tie.Need-returns-2
-returns-2 c =
-    let t = c.before.before in
-    lent-decides _ _ _ t.before.sheet-fault.ensures t.if1.true
-    (sym c.before.lent-enough.ensures ∙ c.if2.false)
-
-returns-3 : tie.Need-returns-3
-returns-3 c = stands _ _ _ c.before.sheet-fault.ensures c.if1.false
-
-pub sizes-fault-spec : {M : Type 1} → statement M
-sizes-fault-spec =
-    tie.close (tie.spec sheet-fault-requires lent-enough-requires returns returns-2 returns-3)
+pub returns : goal.returns
+returns c = stands _ _ _ c.sheet_fault-fault.ensures c.if-fault-eq0.false

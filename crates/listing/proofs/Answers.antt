@@ -4,7 +4,7 @@ use mathlib.Core.Bool.{Bool, true, false, cond}
 use mathlib.Core.List.{List}
 use Prim.Native.Nat.{ℕ, ◌*◌, ◌^◌, ◌<◌, ◌≤◌}
 use native.Mathlib.Omega.{arith}
-use borrow.Author.Tests.{eq-eqb, ne_eqb, le-leb, leb-true}
+use borrow.Author.Tests.{le-leb, lt-leb, leb-true}
 use lib.Dec.{leb}
 use lib.ListN.{length, take, drop}
 use lib.Seq.{take-append_seam, drop-append_seam}
@@ -61,30 +61,86 @@ module _ (G : Grid) (areas labels basins buffer : List ℕ) where
   -- a fault is refused
   pub refused_fault : (fault : ℕ) → fault ≡ listing_fault G areas labels basins → (fault ≡ 0 → ⊥)
       → refused fault buffer ≡ listing_into G areas labels basins buffer
-  unfolding listing_into
-  refused_fault fault e some = rw (← e, ne_eqb fault 0 some)
+  unfolding listing_into listing_fault
+  refused_fault fault e some = go (sizes_fit G.rows G.cols) (places_fit G areas labels basins) e
+    where
+      go : (a b : Bool) → fault ≡ cond a (cond b 0 3) 1 → refused fault buffer
+          ≡ cond a (cond b (text_into (listing_text G areas labels basins) buffer) (refused 3 buffer)) (refused 1 buffer)
+      go true true f = absurd (some f)
+      go true false f = rw f refl
+      go false b f = rw f refl
 
   -- with none, only the buffer's length is left to check
   pub no_fault_into : listing_fault G areas labels basins ≡ 0
       → listing_into G areas labels basins buffer ≡ text_into (listing_text G areas labels basins) buffer
+  unfolding listing_into listing_fault
+  no_fault_into e = go (sizes_fit G.rows G.cols) (places_fit G areas labels basins) e
+    where
+      go : (a b : Bool) → ◌≡◌ {A = ℕ} (cond a (cond b 0 3) 1) 0
+          → cond a (cond b (text_into (listing_text G areas labels basins) buffer) (refused 3 buffer)) (refused 1 buffer)
+          ≡ text_into (listing_text G areas labels basins) buffer
+      go true true f = refl
+      go true false f = absurd (omega arith)
+      go false b f = absurd (omega arith)
+
+module _ (rows cols : ℕ) (dirs areas labels basins buffer : List ℕ) where
+  pub refused_sizes : sizes_fit rows cols ≡ false
+      → refused 1 buffer ≡ listing_into (grid rows cols dirs) areas labels basins buffer
   unfolding listing_into
-  no_fault_into e = rw (eq-eqb (listing_fault G areas labels basins) 0 e)
+  refused_sizes e = rw e
 
-module _ (rows cols : ℕ) (dirs areas labels basins buffer : List ℕ) (sizes : sizes_fit rows cols ≡ true)
-    (d : rows * cols ≤ length dirs) (a : rows * cols ≤ length areas)
-    (l : rows * cols ≤ label_places (length labels)) (b : rows * cols ≤ length basins) where
-  -- all checks but that of the buffer are passed
-  pub listing_into_lem : listing_into (grid rows cols dirs) areas labels basins buffer ≡ text_into
-      (listing_text (grid rows cols dirs) areas labels basins) buffer
-  listing_into_lem =
-      no_fault_into (grid rows cols dirs) areas labels basins buffer
-      (none_fails rows cols dirs areas labels basins sizes d a l b)
+  module _ (sizes : sizes_fit rows cols ≡ true) where
+    refused_places : places_fit (grid rows cols dirs) areas labels basins ≡ false
+        → refused 3 buffer ≡ listing_into (grid rows cols dirs) areas labels basins buffer
+    unfolding listing_into
+    refused_places e = rw (sizes, e)
 
-  pub listing_accepted : length (listing_text (grid rows cols dirs) areas labels basins) ≤ length buffer
-      → listing_into (grid rows cols dirs) areas labels basins buffer ≡ accepted
-      (listing_text (grid rows cols dirs) areas labels basins) buffer
-  listing_accepted room =
-      listing_into_lem ∙ text_into_lem (listing_text (grid rows cols dirs) areas labels basins) buffer room
+    pub refused_dirs : length dirs < rows * cols
+        → refused 3 buffer ≡ listing_into (grid rows cols dirs) areas labels basins buffer
+    unfolding places_fit
+    refused_dirs d = refused_places (rw (lt-leb _ _ d))
+
+    module _ (d : rows * cols ≤ length dirs) where
+      pub refused_areas : length areas < rows * cols
+          → refused 3 buffer ≡ listing_into (grid rows cols dirs) areas labels basins buffer
+      unfolding places_fit
+      refused_areas a = refused_places (rw (le-leb _ _ d, lt-leb _ _ a))
+
+      module _ (a : rows * cols ≤ length areas) where
+        pub refused_labels : label_places (length labels) < rows * cols
+            → refused 3 buffer ≡ listing_into (grid rows cols dirs) areas labels basins buffer
+        unfolding places_fit
+        refused_labels l = refused_places (rw (le-leb _ _ d, le-leb _ _ a, lt-leb _ _ l))
+
+        module _ (l : rows * cols ≤ label_places (length labels)) where
+          pub refused_basins : length basins < rows * cols
+              → refused 3 buffer ≡ listing_into (grid rows cols dirs) areas labels basins buffer
+          unfolding places_fit
+          refused_basins b = refused_places (rw (le-leb _ _ d, le-leb _ _ a, le-leb _ _ l, lt-leb _ _ b))
+
+          module _ (b : rows * cols ≤ length basins) where
+            pub listable : Listable rows cols dirs areas labels basins
+            listable = let most = rows_cols_most rows cols sizes in record {
+              rows_most = most.0;
+              cols_most = most.1;
+              cols_some = cols_some rows cols sizes;
+              dirs_long = d;
+              areas_long = a;
+              labels_long = l;
+              basins_long = b;
+            }
+
+            -- all checks but that of the buffer are passed
+            pub listing_into_lem : listing_into (grid rows cols dirs) areas labels basins buffer ≡ text_into
+                (listing_text (grid rows cols dirs) areas labels basins) buffer
+            unfolding listing_into places_fit
+            listing_into_lem = rw (sizes, le-leb _ _ d, le-leb _ _ a, le-leb _ _ l, le-leb _ _ b)
+
+            pub listing_accepted : length (listing_text (grid rows cols dirs) areas labels basins) ≤ length buffer
+                → listing_into (grid rows cols dirs) areas labels basins buffer ≡ accepted
+                (listing_text (grid rows cols dirs) areas labels basins) buffer
+            listing_accepted room =
+                listing_into_lem ∙ text_into_lem (listing_text (grid rows cols dirs) areas labels basins) buffer room
 
 -- 39 bytes are enough for any refusal
 pub refusal_accepted : (number place : ℕ) (buffer : List ℕ) → number < 256 → place < 2 ^ 64 → 39 ≤ length buffer

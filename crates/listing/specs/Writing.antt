@@ -1,5 +1,5 @@
 -- What the calls that write a text answer, and what the lent buffer holds afterwards.
-use Rattle.std.specs.Prelude.{Bool, cond, List, ℕ, leb, eqb, length}
+use Rattle.std.specs.Prelude.{Bool, cond, List, ℕ, leb, length}
 use Rattle.sheet.specs.Record.{label_places}
 use Rattle.sheet.specs.Sheet.{Grid, cells}
 use Rattle.sheet.specs.Refusal.{both, sizes_fit, written}
@@ -47,13 +47,13 @@ unfolding sizes_fit places_fit
 listing_fault G areas labels basins =
     cond (sizes_fit G.rows G.cols) (cond (places_fit G areas labels basins) 0 3) 1
 
--- the listing in a lent buffer: 1 and 3 for the slices, before 3 for the buffer
+-- the listing in a lent buffer: 1, then 3
 unfoldable pub listing_into : Grid → List ℕ → List ℕ → List ℕ → List ℕ → Listed
-unfolding listing_fault listing_text text_into
+unfolding sizes_fit places_fit listing_text text_into
 listing_into G areas labels basins buffer =
-    let fault : ℕ = listing_fault G areas labels basins in
     let rest : Listed = text_into (listing_text G areas labels basins) buffer in
-    cond (eqb fault 0) rest (refused fault buffer)
+    cond (sizes_fit G.rows G.cols) (cond (places_fit G areas labels basins) rest (refused 3 buffer))
+    (refused 1 buffer)
 
 -- the two lines after a refusal in a lent buffer
 unfoldable pub refusal_into : ℕ → ℕ → List ℕ → Listed

@@ -2,14 +2,12 @@
 use mathlib.Core.Path.{◌≡◌, sym, ap}
 use mathlib.Core.Bool.{Bool, true, false}
 use Prim.Native.Nat.{ℕ}
-use borrow.Author.Rules.{rules}
 use Rattle.sheet.specs.declared.Flow.TheVariants.{Same, Yes, No, Undecided, Refused}
 use Rattle.sheet.specs.declared.OutletFlow.{OutletFlow}
 use Rattle.sheet.specs.declared.OutletFlow.TheVariants.{Same as OutletSame, Yes as OutletYes, No as OutletNo}
 use Rattle.sheet.specs.declared.OutletFlow.TheVariants.{Refused as OutletRefused}
 use Rattle.sheet.specs.Flow.{cell_answer}
-use Rattle.flow.proofs.cell_answer.Statement.{statement}
-use Rattle.flow.proofs.cell_answer.Tie as tie
+use Rattle.flow.proofs.cell_answer.Goals as goal
 
 -- the answer by that to the outlet question
 module _ (alone : Bool) (answer : OutletFlow) where
@@ -30,43 +28,17 @@ module _ (alone : Bool) (answer : OutletFlow) where
 
 ruleset answers = (same-stays, yes-stays, yes-unsure, no-stays, refusal-stays)
 
-enum_told : tie.Need-enum-told
-enum_told c = search rules
+pub returns-in-Same : goal.returns-in-Same
+returns-in-Same c = search answers
 
-enum-told-2 : tie.Need-enum-told-2
-enum-told-2 c = search rules
+pub returns-then-alone : goal.returns-then-alone
+returns-then-alone c = search answers
 
-enum-told-3 : tie.Need-enum-told-3
-enum-told-3 c = search rules
+pub returns-else-alone : goal.returns-else-alone
+returns-else-alone c = search answers
 
-enum-known-answer : tie.Need-enum-known-answer
-enum-known-answer c = search rules
+pub returns-in-No : goal.returns-in-No
+returns-in-No c = search answers
 
-returns : tie.Need-returns
-returns c = search answers
-
-returns-2 : tie.Need-returns-2
-returns-2 c = search answers
-
-returns-3 : tie.Need-returns-3
-returns-3 c = search answers
-
-returns-4 : tie.Need-returns-4
-returns-4 c = search answers
-
-returns-5 : tie.Need-returns-5
-returns-5 c = search answers
-
-pub cell-answer-spec : {M : Type 1} → statement M
-cell-answer-spec =
-    tie.close
-    (tie.spec
-    enum_told
-    enum-told-2
-    enum-told-3
-    enum-known-answer
-    returns
-    returns-2
-    returns-3
-    returns-4
-    returns-5)
+pub returns-in-Refused : goal.returns-in-Refused
+returns-in-Refused c = search answers

@@ -36,11 +36,11 @@ record Split (cell size : List ℕ) (end lo hi : ℕ) (A B : Run) : Type 0 where
 laid_split : {cell size : List ℕ} {end lo hi : ℕ} (A B : Run) → Laid cell size end lo hi (A ++ B)
     → Split cell size end lo hi A B
 laid_split {lo = lo} [] B l = record { mid = lo; left = laid_end; right = l }
-laid_split (stem s ∷ A) B (laid_stem e l) =
-    let r = laid_split A B l in
+laid_split {lo = lo} (stem s ∷ A) B (laid_stem e l) =
+    let r = laid_split {lo = lo + 1} A B l in
     record { mid = r.mid; left = laid_stem e r.left; right = r.right }
-laid_split (mouth v ∷ A) B (laid_mouth n l) =
-    let r = laid_split A B l in
+laid_split {size = size} {lo = lo} (mouth v ∷ A) B (laid_mouth n l) =
+    let r = laid_split {lo = lo + get_or size lo 0} A B l in
     record { mid = r.mid; left = laid_mouth n r.left; right = r.right }
 
 -- a run lies at positions of the layout
@@ -78,26 +78,32 @@ module _ {cell size area : List ℕ} {count split least : ℕ} {N : Network} (Y 
       omega (arith, p.0, q.1)
 
   -- of two cells in the order of the layout either both lie in one part, or the second in a part with a larger digit
+  cells_later : {k end lo hi i j c d : ℕ} {P : Parts} {h m : Place} → hi ≤ end → end ≤ length cell
+      → Laid cell size end lo hi (join P) → i ≤ j → j < length cell → get_or cell i 0 ≡ c → get_or cell j 0 ≡ d
+      → Spot N k P c h → Spot N k P d m → (h ≡ m) ⊎ (h.digit < m.digit)
+  cells_later b w l o t e f (spot_last x) (spot_last y) = inl refl
+  cells_later b w l o t e f (spot_in x) (spot_in y) = inl refl
+  cells_later b w l o t e f (spot_in x) (spot_mouth y) = inr (omega arith)
+  cells_later b w l o t e f (spot_in x) (spot_later y) = let a = spot_above O y in inr (omega arith)
+  cells_later b w l o t e f (spot_mouth {v = v} {R = R} {P = P} x) (spot_in y) =
+      absurd (not_before R (mouth v ∷ join P) b w l o t (rw e (at_head (is_under x))) (rw f y))
+  cells_later b w l o t e f (spot_mouth x) (spot_mouth y) = inl refl
+  cells_later b w l o t e f (spot_mouth x) (spot_later y) = inr (spot_above O y)
+  cells_later b w l o t e f (spot_later {v = v} {R = R} {P = P} x) (spot_in y) =
+      absurd (not_before R (mouth v ∷ join P) b w l o t (rw e (in_tail (spot_held O x))) (rw f y))
+  cells_later b w l o t e f (spot_later {v = v} {R = R} {P = P} x) (spot_mouth y) =
+      let r = laid_split R (mouth v ∷ join P) l in
+      absurd
+      (not_before (mouth v ∷ []) (join P) b w r.right o t (rw e (spot_held O x)) (rw f (at_head (is_under y))))
+  cells_later b w l o t e f (spot_later {v = v} {R = R} {P = P} x) (spot_later y) =
+      let r = laid_split R (mouth v ∷ join P) l in
+      let s = laid_split (mouth v ∷ []) (join P) r.right in
+      cells_later b w s.right o t e f x y
+
   later : {k end lo hi i j : ℕ} {P : Parts} {h m : Place} → hi ≤ end → end ≤ length cell
       → Laid cell size end lo hi (join P) → i ≤ j → j < length cell
       → Spot N k P (get_or cell i 0) h → Spot N k P (get_or cell j 0) m → (h ≡ m) ⊎ (h.digit < m.digit)
-  later b w l o t (spot_last x) (spot_last y) = inl refl
-  later b w l o t (spot_in x) (spot_in y) = inl refl
-  later b w l o t (spot_in x) (spot_mouth y) = inr (omega arith)
-  later b w l o t (spot_in x) (spot_later y) = let a = spot_above O y in inr (omega arith)
-  later b w l o t (spot_mouth {v = v} {R = R} {P = P} x) (spot_in y) =
-      absurd (not_before R (mouth v ∷ join P) b w l o t (at_head (is_under x)) y)
-  later b w l o t (spot_mouth x) (spot_mouth y) = inl refl
-  later b w l o t (spot_mouth x) (spot_later y) = inr (spot_above O y)
-  later b w l o t (spot_later {v = v} {R = R} {P = P} x) (spot_in y) =
-      absurd (not_before R (mouth v ∷ join P) b w l o t (in_tail (spot_held O x)) y)
-  later b w l o t (spot_later {v = v} {R = R} {P = P} x) (spot_mouth y) =
-      let r = laid_split R (mouth v ∷ join P) l in
-      absurd (not_before (mouth v ∷ []) (join P) b w r.right o t (spot_held O x) (at_head (is_under y)))
-  later b w l o t (spot_later {v = v} {R = R} {P = P} x) (spot_later y) =
-      let r = laid_split R (mouth v ∷ join P) l in
-      let s = laid_split (mouth v ∷ []) (join P) r.right in
-      later b w s.right o t x y
+  later b w l o t x y = cells_later b w l o t refl refl x y
 
   river_laid : (j : ℕ) → j < length cell → LaidOut cell size (river N (get_or cell j 0))
   river_laid j h = record {

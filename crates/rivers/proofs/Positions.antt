@@ -83,6 +83,7 @@ module _ {cell size : List ℕ} {count end hi : ℕ} (Y : Layout cell size count
   goes_end h (laid_mouth n l) = absurd (omega (arith, mouth_on n l))
 
   pub mouth_stands : {lo : ℕ} {R : Run} {v : ℕ} → Laid cell size end lo hi R → MouthOf R v → Stands cell lo hi v
+  mouth_stands laid_end m = elim m [ ]
   mouth_stands (laid_stem e l) (mouth_there m) = stands_later (omega arith) (mouth_stands l m)
   mouth_stands
       (laid_mouth {lo = lo} n l) mouth_here = record { at = lo; from = omega arith; to = mouth_on n l; is = refl }
@@ -90,6 +91,7 @@ module _ {cell size : List ℕ} {count end hi : ℕ} (Y : Layout cell size count
 
   module _ {N : Network} {area : List ℕ} {split least : ℕ} (L : LayoutOf N cell size area split least) where
     pub in_stands : {lo : ℕ} {R : Run} {c : ℕ} → Laid cell size end lo hi R → In N.next R c → Stands cell lo hi c
+    in_stands laid_end i = elim i [ ]
     in_stands (laid_stem {lo = lo} e l)
         (at_head h) =
         let i = laid_le l in record { at = lo; from = omega arith; to = omega arith; is = sym (has_stem h) }

@@ -3,7 +3,7 @@
 -- is [j, j + size j).
 use Rattle.std.specs.Prelude.{◌≡◌, List, [], ◌∷◌, ◌≢◌, ℕ, ◌+◌, ◌≤◌, ◌<◌, leb, length, get_or}
 use Rattle.sheet.specs.Water.{Passes}
-use Rattle.sheet.specs.River.{Network, Entry, stem, mouth, Run, river}
+use Rattle.sheet.specs.River.{Network, stem, mouth, Run, river}
 
 -- the run lies at positions lo to hi of a river whose subtree ends at `end`: a stem cell's subtree ends there too, a
 -- mouth's ends before

@@ -11,6 +11,7 @@ use Rattle.claims.specs.Dictionary.{is_before}
 use Rattle.claims.specs.Parting.{Begins, begins_none, begins_on}
 use Rattle.claims.proofs.Dictionary.{
   Earlier,
+  earlier_end,
   earlier_now,
   earlier_on,
   before_earlier,
@@ -49,13 +50,17 @@ begun_not_before (begins_on {a = a} b) = rw (eq-eqb a a refl) (begun_not_before 
 pub begins_not_before : (w x : List ℕ) → begins w x ≡ true → is_before x w ≡ false
 begins_not_before w x e = begun_not_before (true_begins w x e)
 
+-- what begins with leading digits has the first of them first, and begins with the others from there on
+begun_on : {a b : ℕ} {w x : List ℕ} → Begins (a ∷ w) (b ∷ x) → (a ≡ b) × Begins w x
+begun_on (begins_on b) = (refl, b)
+
 -- between leading digits and a label that begins with them stand only labels that do
 begun_between : {w x y : List ℕ} → Earlier w x → Earlier x y → Begins w y → Begins w x
-begun_between e f begins_none = begins_none
-begun_between (earlier_now l) (earlier_now m) (begins_on b) = absurd (omega arith)
-begun_between (earlier_now l) (earlier_on f) (begins_on b) = absurd (omega arith)
-begun_between (earlier_on e) (earlier_now m) (begins_on b) = absurd (omega arith)
-begun_between (earlier_on e) (earlier_on f) (begins_on b) = begins_on (begun_between e f b)
+begun_between earlier_end f b = begins_none
+begun_between (earlier_now l) (earlier_now m) b = absurd (omega (arith, (begun_on b).0))
+begun_between (earlier_now l) (earlier_on f) b = absurd (omega (arith, (begun_on b).0))
+begun_between (earlier_on e) (earlier_now m) b = absurd (omega (arith, (begun_on b).0))
+begun_between (earlier_on e) (earlier_on f) b = begins_on (begun_between e f (begun_on b).1)
 
 pub begins_between : (w x y : List ℕ) → is_before w x ≡ true → is_before x y ≡ true → begins w y ≡ true
     → begins w x ≡ true

@@ -1,0 +1,15 @@
+use mathlib.Core.Path.{◌≡◌}
+use Prim.Native.Nat.{◌-◌, ◌≤◌}
+use lib.ListN.{drop}
+use Rattle.sheet.specs.Record.{labels_in, units_in}
+use Rattle.lookup.specs.Lookup.{rising_from, is_rising}
+use Rattle.lookup.specs.Exactly.{entry_at}
+use Rattle.lookup.proofs.is_rising.Given as goal
+
+abbrev pub invariant-loop-i : goal.invariant-loop-i
+invariant-loop-i l =
+    let units = units_in l.basins (labels_in l.labels) in
+    (rising_from (entry_at units (l.i - 1)) (drop l.i units) ≡ is_rising units) × (1 ≤ l.i)
+
+abbrev pub decreases-loop-i : goal.decreases-loop-i
+decreases-loop-i l = l.count - l.i

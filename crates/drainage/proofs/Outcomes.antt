@@ -2,35 +2,28 @@
 use mathlib.Core.Path.{◌≡◌, refl, sym, ◌∙◌, ap}
 use mathlib.Core.Bool.{Bool, true, false, not, true≢false}
 use mathlib.Core.List.{List}
-use mathlib.Core.Logic.{◌≢◌}
-use Prim.Native.Nat.{ℕ, suc, ◌+◌, ◌*◌, ◌-◌, ◌<◌}
+use Prim.Native.Nat.{ℕ, ◌+◌, ◌*◌, ◌-◌, ◌<◌}
 use native.Mathlib.Decide.{ℕ_discrete}
-use native.Mathlib.Numerals.{add-one}
 use native.Mathlib.Omega.{arith}
-use lib.Dec.{eqb, ltb, leb}
+use lib.Dec.{eqb, ltb}
 use lib.ListN.{get_or, take, drop}
 use lib.Seq.{get_or-take, get_or-drop}
-use borrow.Author.Tests.{eqb-true, leb-true, ltb-true, lt-ltb, le-ltb, le-leb, lt-leb, eq-eqb, ne_eqb, not-false}
+use borrow.Author.Tests.{ltb-true, lt-ltb, le-ltb, lt-leb, eq-eqb, ne_eqb, not-false}
 use Rattle.sheet.specs.declared.Found.{Found}
 use Rattle.sheet.specs.declared.Found.TheVariants.{At, Nothing}
 use Rattle.sheet.specs.declared.Outcome.TheVariants.{Accepted, Refused}
 use Rattle.sheet.specs.Direction.{is_code}
-use Rattle.sheet.specs.Sheet.{Grid, cells, dir_at, inside, is_outlet, next, first}
+use Rattle.sheet.specs.Sheet.{Grid, cells, dir_at, inside, next, first}
 use Rattle.sheet.specs.Water.{reaches_outlet}
 use Rattle.sheet.specs.Refusal.{both, bad_code, undrained, refused_at, outcome_on}
-use Rattle.sheet.proofs.Cells.{inside_lt, is_outlet_lem}
-use Rattle.sheet.proofs.First.{first_same, none_first, at_first}
-use Rattle.sheet.proofs.Within.{both_true}
-use Rattle.claims.proofs.Counts.{not-true, count_less, count_mono}
-use Rattle.claims.proofs.Fuel.{reaches_ends, ends_at}
+use Rattle.sheet.proofs.Cells.{inside_lt}
+use Rattle.sheet.proofs.First.{first_same, none_first}
 use Rattle.checks.specs.declared.Target.TheVariants.{Inside, Unreached}
 use Rattle.checks.specs.Search.{is_target}
 use Rattle.drainage.specs.declared.Inspection.{Inspection}
-use Rattle.upstream.specs.Work.{ranks_part, sizes_part, queued_at, rank_of, receiver_of, is_reached, numbered, KeptFrom}
+use Rattle.upstream.specs.Work.{ranks_part, sizes_part, rank_of, KeptFrom}
 use Rattle.upstream.specs.Search.{Searched, Coded, Drained}
 use Rattle.drainage.specs.Inspect.{after_search, InspectionResult}
-use Rattle.claims.proofs.Sums.{sum_same, sum_one, count_sum}
-use Rattle.upstream.proofs.Upstream.{outlet_is, outlet_lt, way_inside}
 
 -- ---- what was looked for is what the definition looks for
 

@@ -1,0 +1,30 @@
+-- `feed` meets its contract.
+use mathlib.Core.Path.{refl, sym, ◌∙◌}
+use mathlib.Core.List.{List}
+use Prim.Native.Nat.{ℕ}
+use Rattle.intake.specs.Intake.{lent_sheet}
+use Rattle.reading.specs.declared.Reader.{Reader}
+use Rattle.reading.specs.Feed.{Reading, reading}
+use Rattle.reading.proofs.FeedLaws.{feed_end, feed_turn}
+use Rattle.reading.proofs.Reader.feed.Goals as goal
+
+abbrev at : Reader → List ℕ → List ℕ → List ℕ → Reading
+at reader line dirs weights = reading reader line (lent_sheet dirs weights)
+
+pub loop-i-init : goal.loop-i-init
+loop-i-init c = (refl, refl, refl)
+
+pub loop-i-preserved : goal.loop-i-preserved
+loop-i-preserved c =
+    let l = c.loop-i in (
+      feed_turn (at l.reader l.line l.dirs l.weights) _ l.i
+          c.loop-i-test.true
+          c.feed_byte-reader.ensures ∙ l.invariant.0,
+      c.feed_byte-reader.auto.dirs ∙ l.invariant.1,
+      c.feed_byte-reader.auto.weights ∙ l.invariant.2,
+    )
+
+pub returns : goal.returns
+returns c =
+    let l = c.loop-i in
+    sym (feed_end (at l.reader l.line l.dirs l.weights) _ l.i c.loop-i-test.false) ∙ l.invariant.0

@@ -66,7 +66,8 @@ module _ (n : ℕ) where
   pub positioned_length : (at : ℕ) (us work : List ℕ) → length (positioned n at us work) ≡ length work
   unfolding positioned
   positioned_length at [] work = refl
-  positioned_length at (u ∷ us) work = positioned_length _ us _ ∙ length-set work (positions_part * n + u) at
+  positioned_length at (u ∷ us) work =
+      positioned_length (at + size_at n work u) us _ ∙ length-set work (positions_part * n + u) at
 
   -- other places stay
   pub positioned_kept : (at : ℕ) (us work : List ℕ) (j : ℕ) → ((u : ℕ) → Memᴰ u us → j ≢ positions_part * n + u)
@@ -74,7 +75,7 @@ module _ (n : ℕ) where
   unfolding positioned
   positioned_kept at [] work j h = refl
   positioned_kept at (u ∷ us) work j h =
-      positioned_kept _ us _ j (λ v m. h v (Memᴰ.tail m)) ∙ get_or-set_other work
+      positioned_kept (at + size_at n work u) us _ j (λ v m. h v (Memᴰ.tail m)) ∙ get_or-set_other work
       (positions_part * n + u) j at 0 (h u (Memᴰ.head refl))
 
   -- the cell u has its position, and none of us writes it again

@@ -1,7 +1,6 @@
 -- `enter_all` meets its contract. The invariant: the first i queued cells stand at their positions. The measure: the
 -- cells that are left.
 use mathlib.Core.Path.{◌≡◌, refl, ◌∙◌}
-use Prim.Native.Nat.{◌-◌}
 use native.Mathlib.Omega.{arith}
 use Rattle.order.proofs.Entering.{entered_none, entered_more, cell_kept, at_kept}
 use Rattle.order.proofs.positions.enter_all.Goals as goal

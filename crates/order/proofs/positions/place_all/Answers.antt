@@ -1,7 +1,7 @@
 -- `place_all` meets its contract. The invariant: the donors of the first i cells of the queue have their positions, and
 -- so have the outlets. The measure: the cells of the queue that are left.
 use mathlib.Core.Path.{◌≡◌, refl, ◌∙◌}
-use Prim.Native.Nat.{◌-◌, ◌≤◌, ◌*◌}
+use Prim.Native.Nat.{◌≤◌, ◌*◌}
 use native.Mathlib.Omega.{arith}
 use lib.ListN.{length}
 use Rattle.sheet.specs.Sheet.{grid}

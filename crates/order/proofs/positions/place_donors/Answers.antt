@@ -1,7 +1,7 @@
 -- `place_donors` meets its contract. The invariant: the keys from the place k on, given positions from `at` on in the
 -- present work places, leave what all of them leave in those at entry. The measure: the keys that are left.
 use mathlib.Core.Path.{◌≡◌, refl}
-use Prim.Native.Nat.{◌-◌, ◌<◌, ◌+◌, ◌^◌}
+use Prim.Native.Nat.{◌<◌, ◌+◌, ◌^◌}
 use native.Mathlib.Omega.{arith}
 use native.Mathlib.Numerals.{add-one}
 use mathlib.Core.List.Memᴰ

@@ -1,6 +1,5 @@
 use mathlib.Core.Path.{◌≡◌}
 use Prim.Native.Nat.{◌-◌, ◌≤◌}
-use mathlib.Core.List.Memᴰ
 use mathlib.Core.List.{map}
 use lib.ListN.{length, drop}
 use Rattle.order.specs.Keys.{cell_of}

@@ -1,7 +1,7 @@
 -- `place_outlets` meets its contract. The invariant: the first i cells of the queue are outlets and have their
 -- positions. The measure: the cells of the queue that are left.
 use mathlib.Core.Path.{◌≡◌}
-use Prim.Native.Nat.{ℕ, ◌-◌, ◌*◌, ◌≤◌, ◌<◌}
+use Prim.Native.Nat.{ℕ, ◌*◌, ◌≤◌, ◌<◌}
 use native.Mathlib.Omega.{arith}
 use lib.ListN.{length, length-set}
 use Rattle.upstream.specs.Work.{queued_at, receiver_of}

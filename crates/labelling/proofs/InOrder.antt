@@ -6,9 +6,8 @@ use Prim.Native.Nat.{ℕ, ◌+◌, ◌<◌, ◌≤◌}
 use native.Mathlib.Nat.{zero-add}
 use native.Mathlib.Omega.{arith}
 use lib.ListN.{length, get_or}
-use Rattle.sheet.specs.declared.Label.{Label}
 use Rattle.sheet.specs.Sheet.{Sheet, inside}
-use Rattle.sheet.specs.River.{network, network_by, river}
+use Rattle.sheet.specs.River.{network, river}
 use Rattle.sheet.specs.Record.{record_of, no_digits}
 use Rattle.sheet.specs.Label.{label, label_digits, label_of}
 use Rattle.sheet.specs.Basins.{basin_of}

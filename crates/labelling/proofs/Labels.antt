@@ -1,7 +1,7 @@
 -- The labels and the basins of all inside cells, over cleared places, are those of the sheet.
 use mathlib.Core.Path.{◌≡◌, refl, sym, ap, ◌∙◌}
 use mathlib.Core.Bool.{Bool, true, false, cond}
-use mathlib.Core.List.{List, ◌++◌}
+use mathlib.Core.List.{List}
 use mathlib.Core.Logic.{◌⊎◌, inl, inr}
 use Prim.Native.Nat.{ℕ, ◌+◌, ◌*◌, ◌-◌, ◌<◌, ◌≤◌}
 use native.Mathlib.Omega.{arith}
@@ -11,7 +11,6 @@ use lib.ListN.{get_or-append}
 use lib.Seq.{get_or-drop, get_or-append-add}
 use borrow.Author.Tests.{ltb-true, ltb-false}
 use Rattle.sheet.specs.Sheet.{Sheet, Grid, cells, inside}
-use Rattle.sheet.specs.declared.Label.{Label}
 use Rattle.sheet.specs.Record.{record_of, no_digits, label_places, place_at, number_in}
 use Rattle.sheet.specs.Label.{label_digits, label_of, labels_of, list_from}
 use Rattle.sheet.specs.Basins.{basin_of, basins_of}

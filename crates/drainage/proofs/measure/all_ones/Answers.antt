@@ -1,4 +1,4 @@
--- `all_ones` meets its contract: before each turn the weights of the rows before it are 1.
+-- `all_ones` meets its contract: before each turn the weights of the rows before it are 1, and one that is not decides.
 use mathlib.Core.Path.{◌≡◌, sym}
 use native.Mathlib.Numerals.{add-one}
 use native.Mathlib.Omega.{arith}
@@ -7,7 +7,7 @@ use Rattle.drainage.proofs.Ones.{ones_none, ones_more, ones_not}
 use Rattle.drainage.proofs.measure.all_ones.Goals as goal
 
 pub loop-row-init : goal.loop-row-init
-loop-row-init c = (omega arith, ones_none _)
+loop-row-init c = (omega arith, ones_none _, λ l n. sym (ones_not _ _ _ l (ne_eqb _ _ n)))
 
 pub bounds-weights-row : goal.bounds-weights-row
 bounds-weights-row c = omega arith
@@ -16,13 +16,9 @@ pub loop-row-preserved : goal.loop-row-preserved
 loop-row-preserved c =
     let l = c.loop-row in (
       omega arith,
-      rw (add-one l.row) (ones_more _ l.row l.invariant.1 (eq-eqb _ _ c.if-weights-row-eq1.true)),
+      rw (add-one l.row) (ones_more _ l.row l.invariant.1 (eq-eqb _ _ (omega arith))),
+      λ k n. sym (ones_not _ _ _ k (ne_eqb _ _ n)),
     )
-
-pub returns-else-weights-row-eq1 : goal.returns-else-weights-row-eq1
-returns-else-weights-row-eq1 c =
-    let l = c.loop-row in
-    sym (ones_not _ _ l.row c.loop-row-test.true (ne_eqb _ _ c.if-weights-row-eq1.false))
 
 pub returns : goal.returns
 returns c =

@@ -20,6 +20,7 @@ use Rattle.claims.proofs.Dictionary.{
   after,
   compared,
 }
+use Rattle.claims.proofs.Parting.{begins_first, begins_rest}
 use Rattle.lookup.specs.Lookup.{begins}
 
 begins_true : {w x : List ℕ} → Begins w x → begins w x ≡ true
@@ -50,17 +51,13 @@ begun_not_before (begins_on {a = a} b) = rw (eq-eqb a a refl) (begun_not_before 
 pub begins_not_before : (w x : List ℕ) → begins w x ≡ true → is_before x w ≡ false
 begins_not_before w x e = begun_not_before (true_begins w x e)
 
--- what begins with leading digits has the first of them first, and begins with the others from there on
-begun_on : {a b : ℕ} {w x : List ℕ} → Begins (a ∷ w) (b ∷ x) → (a ≡ b) × Begins w x
-begun_on (begins_on b) = (refl, b)
-
 -- between leading digits and a label that begins with them stand only labels that do
 begun_between : {w x y : List ℕ} → Earlier w x → Earlier x y → Begins w y → Begins w x
 begun_between earlier_end f b = begins_none
-begun_between (earlier_now l) (earlier_now m) b = absurd (omega (arith, (begun_on b).0))
-begun_between (earlier_now l) (earlier_on f) b = absurd (omega (arith, (begun_on b).0))
-begun_between (earlier_on e) (earlier_now m) b = absurd (omega (arith, (begun_on b).0))
-begun_between (earlier_on e) (earlier_on f) b = begins_on (begun_between e f (begun_on b).1)
+begun_between (earlier_now l) (earlier_now m) b = absurd (omega (arith, begins_first b))
+begun_between (earlier_now l) (earlier_on f) b = absurd (omega (arith, begins_first b))
+begun_between (earlier_on e) (earlier_now m) b = absurd (omega (arith, begins_first b))
+begun_between (earlier_on e) (earlier_on f) b = begins_on (begun_between e f (begins_rest b))
 
 pub begins_between : (w x y : List ℕ) → is_before w x ≡ true → is_before x y ≡ true → begins w y ≡ true
     → begins w x ≡ true

@@ -19,15 +19,11 @@ use Rattle.flow.proofs.answer_by_digits.Goals.{In-At}
 abbrev places : List ℕ
 places = replicate 36 0
 
--- where q's digits start
-abbrev start_at : In-At → ℕ
-start_at c = c.in-At.start
-
 found : (c : In-At)
-    → let a = c.args in label_start a.depth a.q.label 36 ≡ At (start_at c)
+    → let a = c.args in label_start a.depth a.q.label 36 ≡ At c.in-At.start
 found c = sym c.put_label.ensures.start ∙ c.in-At.is
 
-within : (c : In-At) → start_at c ≤ 36
+within : (c : In-At) → c.in-At.start ≤ 36
 within c = found_within _ _ _ _ (found c)
 
 q-label : (c : In-At)
@@ -36,7 +32,7 @@ q-label c = found_label _ _ _ _ (found c)
 
 -- what stands in the places from there on
 q-digits : (c : In-At)
-    → take (36 - start_at c) (drop (start_at c) c.put_label.new.out)
+    → take (36 - c.in-At.start) (drop c.in-At.start c.put_label.new.out)
     ≡ digits_of c.args.q.label
 q-digits c =
     found_digits _ _ places _ _ (omega arith) (omega arith) (omega arith) (found c)

@@ -16,20 +16,16 @@ use Rattle.flow.proofs.answer_fitting.Goals.{In-At}
 abbrev places : List ℕ
 places = replicate 36 0
 
--- where p's digits start
-abbrev start_at : In-At → ℕ
-start_at c = c.in-At.start
-
 found : (c : In-At)
-    → let a = c.args in label_start a.depth a.p.label 36 ≡ At (start_at c)
+    → let a = c.args in label_start a.depth a.p.label 36 ≡ At c.in-At.start
 found c = sym c.put_label.ensures.start ∙ c.in-At.is
 
-within : (c : In-At) → start_at c ≤ 36
+within : (c : In-At) → c.in-At.start ≤ 36
 within c = found_within _ _ _ _ (found c)
 
 -- what stands in the places from there on
 p-digits : (c : In-At)
-    → take (36 - start_at c) (drop (start_at c) c.put_label.new.out)
+    → take (36 - c.in-At.start) (drop c.in-At.start c.put_label.new.out)
     ≡ digits_of c.args.p.label
 p-digits c =
     found_digits _ _ places _ _ (omega arith) (omega arith) (omega arith) (found c)

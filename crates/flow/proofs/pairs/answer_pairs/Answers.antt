@@ -3,7 +3,7 @@
 use native.Mathlib.Omega.{arith}
 use mathlib.Core.Path.{◌≡◌, ap, ◌∙◌}
 use mathlib.Core.List.{List}
-use Prim.Native.Nat.{ℕ, ◌<◌}
+use Prim.Native.Nat.{◌<◌}
 use lib.ListN.{length, get_or}
 use Rattle.sheet.specs.declared.UnitName.{UnitName}
 use Rattle.sheet.specs.Record.{labels_in, label_places, units_in}
@@ -14,12 +14,6 @@ use Rattle.flow.proofs.PairNumbers.{no_unit, count_p, count_q, SlicesFit, slices
 use Rattle.flow.proofs.PairNumbers.{answering_starts, answering_goes_on, answering_ends}
 use Rattle.flow.proofs.pairs.answer_pairs.Goals as goal
 use Rattle.flow.proofs.pairs.answer_pairs.Goals.{After-answer_number, In-loop-i, Start}
-
-abbrev place_of : In-loop-i → ℕ
-place_of c = c.loop-i.i
-
-abbrev place_of-After-answer_number : After-answer_number → ℕ
-place_of-After-answer_number c = c.loop-i.i
 
 -- the units of P and of Q
 abbrev units_of_p : Start → List UnitName
@@ -58,7 +52,7 @@ counted : (c : Start) → c.args.count ≡ pair_count (length (units_of_p c)) (l
 counted c = units_counted _ _ _ _ _ c.requires.count_value (fit c).of_p (fit c).of_q
 
 -- each pair has two labels
-p-place : (c : In-loop-i) → place_of c < label_places (length c.args.p.now)
+p-place : (c : In-loop-i) → c.loop-i.i < label_places (length c.args.p.now)
 p-place c =
     omega (
       arith,
@@ -67,7 +61,7 @@ p-place c =
     )
 
 -- each pair has two labels
-p-place-After-answer_number : (c : After-answer_number) → place_of-After-answer_number c < label_places (length c.args.p.now)
+p-place-After-answer_number : (c : After-answer_number) → c.loop-i.i < label_places (length c.args.p.now)
 p-place-After-answer_number c =
     omega (
       arith,
@@ -75,7 +69,7 @@ p-place-After-answer_number c =
       count_p (label_places (length c.args.p.now)) (label_places (length c.args.q.now)),
     )
 
-q-place : (c : In-loop-i) → place_of c < label_places (length c.args.q.now)
+q-place : (c : In-loop-i) → c.loop-i.i < label_places (length c.args.q.now)
 q-place c =
     omega (
       arith,
@@ -83,7 +77,7 @@ q-place c =
       count_q (label_places (length c.args.p.now)) (label_places (length c.args.q.now)),
     )
 
-q-place-After-answer_number : (c : After-answer_number) → place_of-After-answer_number c < label_places (length c.args.q.now)
+q-place-After-answer_number : (c : After-answer_number) → c.loop-i.i < label_places (length c.args.q.now)
 q-place-After-answer_number c =
     omega (
       arith,
@@ -92,17 +86,17 @@ q-place-After-answer_number c =
     )
 
 -- and two basins
-p-basin : (c : In-loop-i) → place_of c < length c.args.p_basins.now
+p-basin : (c : In-loop-i) → c.loop-i.i < length c.args.p_basins.now
 p-basin c = omega (arith, (fit-In-loop-i c).of_p)
 
 -- and two basins
-p-basin-After-answer_number : (c : After-answer_number) → place_of-After-answer_number c < length c.args.p_basins.now
+p-basin-After-answer_number : (c : After-answer_number) → c.loop-i.i < length c.args.p_basins.now
 p-basin-After-answer_number c = omega (arith, (fit-After-answer_number c).of_p)
 
-q-basin : (c : In-loop-i) → place_of c < length c.args.q_basins.now
+q-basin : (c : In-loop-i) → c.loop-i.i < length c.args.q_basins.now
 q-basin c = omega (arith, (fit-In-loop-i c).of_q)
 
-q-basin-After-answer_number : (c : After-answer_number) → place_of-After-answer_number c < length c.args.q_basins.now
+q-basin-After-answer_number : (c : After-answer_number) → c.loop-i.i < length c.args.q_basins.now
 q-basin-After-answer_number c = omega (arith, (fit-After-answer_number c).of_q)
 
 pub loop-i-init : goal.loop-i-init
@@ -126,19 +120,19 @@ answer_fitting-answer-requires c = c.requires.depth_value
 
 -- the number of the pair's answer
 answered : (c : After-answer_number)
-    → let i = place_of-After-answer_number c in
+    → let i = c.loop-i.i in
     c.answer_number.result
     ≡ answer_number (flow c.args.depth c.args.least (get_or (units_of_p-After-answer_number c) i no_unit) (get_or (units_of_q-After-answer_number c) i no_unit))
 answered c =
     let a = c.args in
     let p = c.unit_at-of_p in
     let q = c.unit_at-of_q in
-    let of_p = p.ensures ∙ unit_at_lem _ _ (place_of-After-answer_number c) (p-basin-After-answer_number c) (p-place-After-answer_number c) in
-    let of_q = q.ensures ∙ unit_at_lem _ _ (place_of-After-answer_number c) (q-basin-After-answer_number c) (q-place-After-answer_number c) in
+    let of_p = p.ensures ∙ unit_at_lem _ _ c.loop-i.i (p-basin-After-answer_number c) (p-place-After-answer_number c) in
+    let of_q = q.ensures ∙ unit_at_lem _ _ c.loop-i.i (q-basin-After-answer_number c) (q-place-After-answer_number c) in
     c.answer_number.ensures
     ∙ ap answer_number (c.answer_fitting-answer.ensures
     ∙ ap (λ (unit : UnitName). flow a.depth a.least unit q.result) of_p
-    ∙ ap (flow a.depth a.least (get_or (units_of_p-After-answer_number c) (place_of-After-answer_number c) no_unit)) of_q)
+    ∙ ap (flow a.depth a.least (get_or (units_of_p-After-answer_number c) c.loop-i.i no_unit)) of_q)
 
 pub overflow_cast-answers : goal.overflow_cast-answers
 overflow_cast-answers c = omega (arith, number_byte _ _ _ _ _ (answered c))

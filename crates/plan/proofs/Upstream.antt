@@ -60,6 +60,11 @@ rule_earlier : {x y : List ℕ} → Rule x y → Earlier x y
 rule_earlier (rule_now l o) = earlier_now l
 rule_earlier (rule_on r) = earlier_on (rule_earlier r)
 
+-- where the first digits are the same, the others stand so
+earlier_rest : {a b : ℕ} {x y : List ℕ} → Earlier (a ∷ x) (b ∷ y) → a ≡ b → Earlier x y
+earlier_rest (earlier_now l) e = absurd (omega arith)
+earlier_rest (earlier_on f) e = f
+
 -- and where it does and stands after x, the rule is met
 begins_rule : {x y : List ℕ} → Parted x y → Earlier x y → Begins (before_last_odd x) y → Rule x y
 unfolding before_last_odd
@@ -69,9 +74,8 @@ begins_rule (parted_now {a = a} {b = b} {x = x} {y = y} n) (earlier_now l) h = g
     go true e h = rule_now l e
     go false e h = absurd (n (begins_first h))
 begins_rule (parted_now n) (earlier_on e) h = absurd (n refl)
-begins_rule (parted_on p) (earlier_now l) h = absurd (omega arith)
-begins_rule (parted_on {a = a} {x = x} {y = y} p) (earlier_on e) h =
-    rule_on (begins_rule p e (go (all_odd (a ∷ x)) refl h))
+begins_rule (parted_on {a = a} {x = x} {y = y} p) e h =
+    rule_on (begins_rule p (earlier_rest e refl) (go (all_odd (a ∷ x)) refl h))
   where
     go : (s : Bool) → all_odd (a ∷ x) ≡ s → Begins (cond s [] (a ∷ before_last_odd x)) (a ∷ y)
         → Begins (before_last_odd x) y

@@ -41,7 +41,7 @@ end_most c =
     rw (c.end_of-end.ensures, c.requires.work_len)
     (end_after_lem (labels_at-After-end_of-end c) c.args.p c.args.place c.requires.judged c.requires.p_value).1
 
--- what the tests showed
+-- what `all_come` answers
 come : (c : After-all_come)
     → c.all_come.result ≡ all_come (suc c.args.place) (end_of (labels_at-After-all_come c) c.args.p) c.args.work.now
 come c =

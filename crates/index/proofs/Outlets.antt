@@ -9,7 +9,7 @@ use lib.ListN.{length, get_or}
 use Rattle.sheet.specs.declared.Next.{Next}
 use Rattle.sheet.specs.declared.Next.TheVariants.{Outlet, To}
 use Rattle.sheet.specs.declared.Outcome.TheVariants.{Accepted}
-use Rattle.sheet.specs.Sheet.{Sheet, cells, inside, next}
+use Rattle.sheet.specs.Sheet.{Sheet, cells, next}
 use Rattle.sheet.specs.Water.{here, there, Drains, drained, drains_on, DrainsTo, onward}
 use Rattle.sheet.specs.River.{network}
 use Rattle.sheet.specs.Record.{digits_of, same_label, label_at}

@@ -1,5 +1,5 @@
 -- What the index as the call wrote it says of an accepted sheet.
-use Rattle.std.specs.Prelude.{◌≡◌, true, List, ℕ, ◌+◌, ◌≤◌, ◌<◌, get_or, take}
+use Rattle.std.specs.Prelude.{◌≡◌, true, List, ℕ, ◌<◌, get_or, take}
 -- some of these only must-fail edits need
 use Rattle.sheet.specs.Sheet.{Sheet, cells, inside, next}
 use Rattle.sheet.specs.Water.{DrainsTo}

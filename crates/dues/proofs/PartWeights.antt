@@ -67,7 +67,8 @@ module _ (unit : ℕ → UnitName) where
         let apart = unlike (unit_entry (unit c) c (suc e.count)) es refl r in
         let first = ap (λ (ws : List ℕ). get_or ws 0 0) h in
         let own : f c + sum f (take e.count cs) ≡ weight_in f (c ∷ cs) (unit_entry (unit c) c (suc e.count)) =
-        rw (same_is (unit c) (unit c) refl, q) (ap (λ (n : ℕ). f c + n) first) in
+        rw (same_is (unit c) (unit c) refl) (ap (λ (n : ℕ). f c + n)
+        (first ∙ ap (λ (u : UnitName). summed (λ (d : ℕ). same_unit (unit d) u) f cs) (sym q))) in
         let rest = ap (λ (ws : List ℕ). drop 1 ws) h ∙ others es apart in
         λ i. own i ∷ rest i
 

@@ -7,12 +7,15 @@ use programs::{
     CELLS, Input, LABEL_NUMBERS, REPORT_BYTES, ROWS, WORK_PLACES, complain, print_text, read_input,
 };
 use report::{Verdict, verdict_of};
+use std::io;
 
 // The most pages that the cells of the largest sheet fill, 59 cells a page. Later pages have no byte.
 const PAGES: usize = 35;
 
 // Prints the pages of a verdict, one after the other.
-fn print_pages(
+fn print_pages<W: io::Write, E: io::Write>(
+    output: &mut W,
+    errors: &mut E,
     verdict: Verdict,
     dirs: &[u8],
     areas: &[u32],
@@ -22,14 +25,14 @@ fn print_pages(
 ) {
     for page in 1..=PAGES {
         let answer = write_verdict_page(verdict, dirs, areas, labels, basins, page, out);
-        if print_text(b"atlas", answer, out) {
+        if print_text(output, errors, b"atlas", answer, out) {
             continue;
         }
         return;
     }
 }
 
-fn main() {
+fn main(rt: HostRuntime) {
     let mut dirs = [0u8; CELLS];
     let mut weights = [0u16; ROWS];
     let mut areas = [0u32; CELLS];
@@ -37,7 +40,7 @@ fn main() {
     let mut basins = [0u32; CELLS];
     let mut work = [0u32; WORK_PLACES];
     let mut out = [0u8; REPORT_BYTES];
-    match read_input(&mut dirs, &mut weights) {
+    match read_input(&mut rt.stdin(), &mut dirs, &mut weights) {
         Input::File(read) => {
             let verdict = verdict_of(
                 read,
@@ -48,8 +51,21 @@ fn main() {
                 &mut basins,
                 &mut work,
             );
-            print_pages(verdict, &dirs, &areas, &labels, &basins, &mut out);
+            print_pages(
+                &mut rt.stdout(),
+                &mut rt.stderr(),
+                verdict,
+                &dirs,
+                &areas,
+                &labels,
+                &basins,
+                &mut out,
+            );
         }
-        Input::Failed => complain(b"atlas", b": standard input cannot be read\n"),
+        Input::Failed => complain(
+            &mut rt.stderr(),
+            b"atlas",
+            b": standard input cannot be read\n",
+        ),
     }
 }

@@ -7,7 +7,7 @@ use programs::{
 };
 use report::write_report;
 
-fn main() {
+fn main(rt: HostRuntime) {
     let mut dirs = [0u8; CELLS];
     let mut weights = [0u16; ROWS];
     let mut areas = [0u32; CELLS];
@@ -15,7 +15,7 @@ fn main() {
     let mut basins = [0u32; CELLS];
     let mut work = [0u32; WORK_PLACES];
     let mut out = [0u8; REPORT_BYTES];
-    match read_input(&mut dirs, &mut weights) {
+    match read_input(&mut rt.stdin(), &mut dirs, &mut weights) {
         Input::File(read) => {
             let answer = write_report(
                 read,
@@ -27,8 +27,18 @@ fn main() {
                 &mut work,
                 &mut out,
             );
-            print_text(b"pfafstetter", answer, &out);
+            print_text(
+                &mut rt.stdout(),
+                &mut rt.stderr(),
+                b"pfafstetter",
+                answer,
+                &out,
+            );
         }
-        Input::Failed => complain(b"pfafstetter", b": standard input cannot be read\n"),
+        Input::Failed => complain(
+            &mut rt.stderr(),
+            b"pfafstetter",
+            b": standard input cannot be read\n",
+        ),
     }
 }

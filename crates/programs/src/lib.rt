@@ -5,6 +5,8 @@
 use lines::LINE_BYTES;
 use listing::Listing;
 use reading::{Read, Reader};
+use std::io;
+use std::io::ErrorKind;
 
 // The cells of the largest sheet that a program takes. A direction byte, an area, a label and a basin are lent for
 // each.
@@ -22,9 +24,6 @@ pub const WORK_PLACES: usize = 16384;
 // 60 bytes of text a cell, beside the heading.
 pub const REPORT_BYTES: usize = 122905;
 
-// The number of the error of a call that a signal interrupted.
-const INTERRUPTED: i32 = 4;
-
 // A file that was read, or that standard input could not be read.
 #[derive(Clone, Copy)]
 pub enum Input {
@@ -41,37 +40,43 @@ enum Chunk {
 }
 
 // Reads once and feeds what came. Reading ends with the file, or when a line was refused.
-fn read_once(
+fn read_once<R: io::Read>(
+    input: &mut R,
     reader: Reader,
     line: &mut [u8; LINE_BYTES],
     dirs: &mut [u8],
     weights: &mut [u16],
 ) -> Chunk {
     let mut chunk = [0u8; 4096];
-    let got = libc::read(0, &mut chunk);
-    if got < 0 {
-        if os::errno() == INTERRUPTED {
-            return Chunk::More(reader);
+    match input.read(&mut chunk) {
+        Ok(0) => Chunk::End(reader),
+        Ok(n) => {
+            let next = reader.feed(&chunk[..n], line, dirs, weights);
+            if next.is_refused() {
+                return Chunk::End(next);
+            }
+            Chunk::More(next)
         }
-        return Chunk::Failed;
+        Err(error) => {
+            if error.kind() == ErrorKind::Interrupted {
+                return Chunk::More(reader);
+            }
+            Chunk::Failed
+        }
     }
-    if got == 0 {
-        return Chunk::End(reader);
-    }
-    let n = io::count(got, &chunk);
-    let next = reader.feed(&chunk[..n], line, dirs, weights);
-    if next.is_refused() {
-        return Chunk::End(next);
-    }
-    Chunk::More(next)
 }
 
 // Reads to the end of the input, or until a line was refused.
-fn read_all(line: &mut [u8; LINE_BYTES], dirs: &mut [u8], weights: &mut [u16]) -> Chunk {
+fn read_all<R: io::Read>(
+    input: &mut R,
+    line: &mut [u8; LINE_BYTES],
+    dirs: &mut [u8],
+    weights: &mut [u16],
+) -> Chunk {
     let mut reader = Reader::new();
     let mut turns = u64::MAX;
     while turns > 0 {
-        match read_once(reader, line, dirs, weights) {
+        match read_once(input, reader, line, dirs, weights) {
             Chunk::More(next) => {
                 reader = next;
                 turns -= 1;
@@ -83,10 +88,10 @@ fn read_all(line: &mut [u8; LINE_BYTES], dirs: &mut [u8], weights: &mut [u16]) -
     Chunk::Failed
 }
 
-// Reads the file on standard input.
-pub fn read_input(dirs: &mut [u8], weights: &mut [u16]) -> Input {
+// Reads the file on the input.
+pub fn read_input<R: io::Read>(input: &mut R, dirs: &mut [u8], weights: &mut [u16]) -> Input {
     let mut line = [0u8; LINE_BYTES];
-    match read_all(&mut line, dirs, weights) {
+    match read_all(input, &mut line, dirs, weights) {
         Chunk::End(reader) => Input::File(reader.finish(&line, dirs, weights)),
         Chunk::More(_) => Input::Failed,
         Chunk::Failed => Input::Failed,
@@ -94,31 +99,37 @@ pub fn read_input(dirs: &mut [u8], weights: &mut [u16]) -> Input {
 }
 
 // Prints a line on standard error: the name of the program, and what went wrong.
-pub fn complain(program: &[u8], what: &[u8]) {
-    io::write_all(2, program);
-    io::write_all(2, what);
+pub fn complain<E: io::Write>(errors: &mut E, program: &[u8], what: &[u8]) {
+    let _ = errors.write_all(program);
+    let _ = errors.write_all(what);
 }
 
 // Prints the first n bytes of a buffer on standard output; false if that failed.
-fn print(out: &[u8], n: usize) -> bool {
+fn print<W: io::Write>(output: &mut W, out: &[u8], n: usize) -> bool {
     if n <= out.len() {
-        return io::write_all(1, &out[..n]);
+        return output.write_all(&out[..n]).is_ok();
     }
     false
 }
 
 // Prints the text that a call wrote to the start of a buffer; false, with a line on standard error, if that failed.
-pub fn print_text(program: &[u8], answer: Listing, out: &[u8]) -> bool {
+pub fn print_text<W: io::Write, E: io::Write>(
+    output: &mut W,
+    errors: &mut E,
+    program: &[u8],
+    answer: Listing,
+    out: &[u8],
+) -> bool {
     match answer {
         Listing::Bytes(n) => {
-            if print(out, n) {
+            if print(output, out, n) {
                 return true;
             }
-            complain(program, b": standard output cannot be written\n");
+            complain(errors, program, b": standard output cannot be written\n");
             false
         }
         Listing::Refused(_) => {
-            complain(program, b": the text does not fit its buffer\n");
+            complain(errors, program, b": the report does not fit its buffer\n");
             false
         }
     }

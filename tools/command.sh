@@ -43,24 +43,23 @@ crates_below() {
 build() {
   local log="$top/target/build-$name.log" crates done=0
   crates=$(crates_below "$name")
-  mkdir -p "$top/target"
+  mkdir -p "$top/target/bin"
   echo "$name: building the program; this takes some minutes" >&2
   : > "$log"
   while read -r line; do
     echo "$line" >> "$log"
     case "$line" in
-      'rt: ok'*) ;;
-      'rt: '*' proved'*)
+      'crate '*': modules '*)
         done=$((done + 1))
-        line=${line#rt: }
-        echo "$name: $done of $crates: ${line%% *}" >&2
+        line=${line#crate }
+        echo "$name: $done of $crates: ${line%%:*}" >&2
         ;;
     esac
-  done < <(cd "$top" && rt check "$name" 2>&1 < /dev/null)
-  if tail -n 1 "$log" | grep -q '^rt: ok'; then
-    touch "$program"
+  done < <(cd "$top/crates/$name" && rt run 2>&1 < /dev/null)
+  if wait $!; then
+    cp "$top/crates/$name/out/$name" "$program"
   else
-    tail -n 20 "$log" >&2
+    grep -vE '^(statements|library|logic|note|checked) ' "$log" | tail -n 20 >&2
     fail "the program could not be built"
   fi
 }
@@ -68,8 +67,8 @@ build() {
 # stale: whether a source is newer than the program
 stale() {
   [ ! -x "$program" ] ||
-    [ -n "$(find "$top/crates" "$top/crates.txt" \( -name '*.rt' -o -name '*.antt' -o -name crates.txt \) \
-      -newer "$program" -print -quit)" ]
+    [ -n "$(find "$top/crates" "$top/crates.txt" -name out -prune -o \
+      \( -name '*.rt' -o -name '*.antt' -o -name crates.txt \) -newer "$program" -print -quit)" ]
 }
 
 [ $# -le 1 ] || { usage >&2; exit 2; }

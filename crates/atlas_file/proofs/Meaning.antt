@@ -7,7 +7,6 @@ use Prim.Native.Nat.{ℕ, ◌^◌, ◌<◌}
 use native.Mathlib.Omega.{arith}
 use lib.Dec.{eqb}
 use lib.ListN.{length}
-use Rattle.sheet.specs.Sheet.{grid}
 use Rattle.sheet.specs.Refusal.{Lent, lent_after}
 use Rattle.claims.proofs.Sheets.{accepted_passed}
 use Rattle.faults.specs.declared.Sizes.{Sizes}

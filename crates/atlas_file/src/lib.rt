@@ -10,6 +10,7 @@ use pages::write_page;
 use report::Verdict;
 
 // Writes the two lines after a refusal, which are its only page.
+#[tactic(auto, unfolding(crate::specs::Atlas::refusal_page_into))]
 fn write_refusal_page(number: u8, place: usize, page: usize, out: &mut [u8]) -> Listing
     ensures { record { answer = result; buffer = out.new }
         ≡ refusal_page_into number place page out.old }

@@ -105,7 +105,7 @@ pub fn complain<E: io::Write>(errors: &mut E, program: &[u8], what: &[u8]) {
 }
 
 // Prints the first n bytes of a buffer on standard output; false if that failed.
-fn print<W: io::Write>(output: &mut W, out: &[u8], n: usize) -> bool {
+pub fn print<W: io::Write>(output: &mut W, out: &[u8], n: usize) -> bool {
     if n <= out.len() {
         return output.write_all(&out[..n]).is_ok();
     }

@@ -48,7 +48,7 @@ def main():
         shared = re.match(r"crates/\w+/(specs|proofs)/\w+\.antt$", path)
         for line in text.split("\n"):
             m = HEAD.match(line)
-            if m and len(m.group(1)) in (0, 2, 4) and not line.strip().startswith("--"):
+            if m and len(m.group(1)) % 2 == 0 and not line.strip().startswith("--"):
                 if shared:
                     declared[m.group(3)].add(path)
         for m in re.finditer(r"^use ([^\s{]+?)\.?\{([^}]*)\}", text, re.M):

@@ -16,7 +16,7 @@ use Rattle.listing.specs.Writing.{accepted, refusal_into}
 use Rattle.listing.proofs.Answers.{text_into_lem, none_fails, refusal_accepted}
 use Rattle.pages.specs.Page.{page_text}
 use Rattle.pages.specs.Line.{line_columns, names}
-use Rattle.pages.proofs.Answers.{page-into, page_most}
+use Rattle.pages.proofs.Answers.{page_into_lem, page_most}
 use Rattle.pages.proofs.Meaning.{pages_meaning}
 use Rattle.pages.proofs.OneLine.{names_one_line}
 use Rattle.reading.specs.Feed.{largest_count}
@@ -76,17 +76,17 @@ module _ (T : LentSheet) (L : Lent) (bytes : List ℕ) where
 
   module _ (few : length bytes < largest_count) where
     module _ (lent : length T.dirs ≡ program_cells) where
-      few-pages : (v : Verdict) → file_verdict T L bytes ≡ v → Few program_pages v
-      few-pages (Refused number place) e = tt
-      few-pages (Labelled z) e = omega (arith, cells_lent T L bytes few z e)
+      few_pages : (v : Verdict) → file_verdict T L bytes ≡ v → Few program_pages v
+      few_pages (Refused number place) e = tt
+      few_pages (Labelled z) e = omega (arith, cells_lent T L bytes few z e)
 
-      file-printed : file_pages T L bytes program_pages ≡ file_atlas T L bytes
+      file_printed : file_pages T L bytes program_pages ≡ file_atlas T L bytes
       unfolding file_pages file_atlas
-      file-printed =
+      file_printed =
           let v = file_verdict T L bytes in
           verdict_pages_lem (read_file T bytes).lent.dirs (file_lent T L bytes) v program_pages
           (verdict_few (read_file T bytes).lent.dirs (file_lent T L bytes) v program_pages (omega arith)
-          (few-pages v refl))
+          (few_pages v refl))
 
     module _ (buffer : List ℕ) (room : length buffer ≡ program_bytes) (k : ℕ) where
       -- a page of a verdict in the buffer
@@ -95,10 +95,10 @@ module _ (T : LentSheet) (L : Lent) (bytes : List ℕ) where
           verdict_page_into v (read_file T bytes).lent.dirs K.areas K.labels K.basins k buffer
           ≡ accepted (verdict_page v (read_file T bytes).lent.dirs K k) buffer
 
-      refused-in : (number place : ℕ) → number < 256 → place < 2 ^ 64
+      refused_in : (number place : ℕ) → number < 256 → place < 2 ^ 64
           → InBuffer (Refused number place) (file_lent T L bytes)
       unfolding verdict_page_into refusal_page_into verdict_page
-      refused-in number place h g = go (eqb k 1)
+      refused_in number place h g = go (eqb k 1)
         where
           go : (t : Bool)
               → cond t (refusal_into number place buffer) (accepted [] buffer)
@@ -106,28 +106,28 @@ module _ (T : LentSheet) (L : Lent) (bytes : List ℕ) where
           go true = refusal_accepted number place buffer h g (omega arith)
           go false = refl
 
-      labelled-in : (z : Sizes) → file_verdict T L bytes ≡ Labelled z
+      labelled_in : (z : Sizes) → file_verdict T L bytes ≡ Labelled z
           → InBuffer (Labelled z) (lent_after (file_sheet T bytes z) L)
       unfolding verdict_page_into verdict_page
-      labelled-in z e =
+      labelled_in z e =
           let S = file_sheet T bytes z in
           let a = file_accepted T L bytes z e in
           let K = lent_after S L in
           let fits = (numbers_fit S L a).pages k in
           let none = none_fails z.rows z.cols S.grid.dirs K.areas K.labels K.basins
           (accepted_passed S L a).sizes (dirs_long S L a) (areas_long S L a) (labels_long S L a) (basins_long S L a) in
-          page-into S.grid K.areas K.labels K.basins k buffer none fits
+          page_into_lem S.grid K.areas K.labels K.basins k buffer none fits
           ∙ text_into_lem (page_text S.grid K.areas K.labels K.basins k) buffer
           (omega (arith, page_most S.grid K.areas K.labels K.basins k fits, room))
 
       in_buffer : (v : Verdict) → file_verdict T L bytes ≡ v → InBuffer v (file_lent T L bytes)
       in_buffer (Refused number place) e =
           let small = refusal_small T L bytes few number place e in
-          refused-in number place (omega (arith, small.0)) small.1
-      in_buffer (Labelled z) e = rw (file_lent_lem T L bytes z e) (labelled-in z e)
+          refused_in number place (omega (arith, small.0)) small.1
+      in_buffer (Labelled z) e = rw (file_lent_lem T L bytes z e) (labelled_in z e)
 
-      file-written : InBuffer (file_verdict T L bytes) (file_lent T L bytes)
-      file-written = in_buffer (file_verdict T L bytes) refl
+      file_written : InBuffer (file_verdict T L bytes) (file_lent T L bytes)
+      file_written = in_buffer (file_verdict T L bytes) refl
 
 pub atlas_meaning : AtlasMeaning
 unfolding file_page file_pages file_atlas file_verdict file_lent
@@ -140,6 +140,6 @@ atlas_meaning = record {
   pages = λ T L bytes k e.
       verdict_pages_lem (read_file T bytes).lent.dirs (file_lent T L bytes) (file_verdict T L bytes) k e;
   written = λ pieces line buffer T L k long few room.
-      rw (read_in_pieces.as_lines pieces line T long few) (file-written T L (joined pieces) few buffer room k);
-  printed = file-printed;
+      rw (read_in_pieces.as_lines pieces line T long few) (file_written T L (joined pieces) few buffer room k);
+  printed = file_printed;
 }

@@ -122,13 +122,13 @@ module _ {N : Network} {inside : ℕ → Type 0} {outlet : ℕ} (B : Basin N ins
     labels_part = λ p q i j d. elim (named_rule depth p q i j) [ inl e ↦ absurd (d e) | inr r ↦ parted_at r.0 ];
     passed_meets = passes_rule depth;
     cell_rule = λ one p q i j short k at.
-        elim (cell_rule O outlet depth p q (drain p i) (drain q j) (no-mouth (all one)))
+        elim (cell_rule O outlet depth p q (drain p i) (drain q j) (no_mouth (all one)))
         [ inl e ↦ absurd (part_differs at e) | inr r ↦ both_ways (r.1 short) at ];
     one_outlet = units_drain depth;
   }
     where
-      no-mouth : ((v : ℕ) → inside v → N.counted v ≡ true) → (R : Run) → Headed N.next (heavier N) R
+      no_mouth : ((v : ℕ) → inside v → N.counted v ≡ true) → (R : Run) → Headed N.next (heavier N) R
           → finished N R ≡ true → (v : ℕ) → MouthOf R v → ⊥
-      no-mouth counts R w e v m =
+      no_mouth counts R w e v m =
           let g = mouth_goes w m in
           true≢false (sym (counts v (B.forest.from_inside v g.0 g.1)) ∙ finished_none N R e v m)

@@ -39,6 +39,9 @@ earlier_unlike earlier_end e = cc
 earlier_unlike (earlier_now {a = a} {b = b} l) e = let same : a ≡ b = cc in omega arith
 earlier_unlike (earlier_on r) e = earlier_unlike r (cc)
 
+earlier_irreflexive : {x : List ℕ} → Earlier x x → ⊥
+earlier_irreflexive e = earlier_unlike e refl
+
 earlier_transitive : {x y z : List ℕ} → Earlier x y → Earlier y z → Earlier x z
 earlier_transitive earlier_end (earlier_now m) = earlier_end
 earlier_transitive earlier_end (earlier_on f) = earlier_end
@@ -51,7 +54,7 @@ pub before_irreflexive : (x : List ℕ) → is_before x x ≡ false
 before_irreflexive x = go (is_before x x) refl
   where
     go : (t : Bool) → is_before x x ≡ t → t ≡ false
-    go true e = absurd (earlier_unlike (before_earlier x x e) refl)
+    go true e = absurd (earlier_irreflexive (before_earlier x x e))
     go false e = refl
 
 pub before_transitive : (x y z : List ℕ) → is_before x y ≡ true → is_before y z ≡ true → is_before x z ≡ true

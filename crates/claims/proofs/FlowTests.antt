@@ -42,10 +42,10 @@ module _ (x y : List ℕ) (k : ℕ) where
   unfolding rule_at
   rule_true e =
       let r = both_true (ltb (get_or x k 0) (get_or y k 0)) (every is_odd (drop k x)) e in
-      record { smaller = ltb-true (get_or x k 0) (get_or y k 0) r.0; odd = odd-from r.1 }
+      record { smaller = ltb-true (get_or x k 0) (get_or y k 0) r.0; odd = odd_from r.1 }
     where
-      odd-from : every is_odd (drop k x) ≡ true → (j : ℕ) → k ≤ j → j < length x → is_odd (get_or x j 0) ≡ true
-      odd-from f j l m =
+      odd_from : every is_odd (drop k x) ≡ true → (j : ℕ) → k ≤ j → j < length x → is_odd (get_or x j 0) ≡ true
+      odd_from f j l m =
           let s : k + (j - k) ≡ j = omega arith in
           let d : is_odd (get_or (drop k x) (j - k) 0) ≡ true = all_odd_at (drop k x) f (j - k)
           (rw (length-drop k x) (omega arith)) in

@@ -63,10 +63,10 @@ module _ (G : Grid) where
       go a x b y = rw (x, y)
 
   pub undrained_is : (c : ℕ) → (undrained G c ≡ true) ↔ NeverComes G c
-  undrained_is c = (there-way, back-way)
+  undrained_is c = (there_way, back_way)
     where
-      there-way : undrained G c ≡ true → NeverComes G c
-      there-way e =
+      there_way : undrained G c ≡ true → NeverComes G c
+      there_way e =
           let u = undrained_parts c e in
           record {
             is_inside_lem = u.0;
@@ -76,8 +76,8 @@ module _ (G : Grid) where
                 true≢false (sym (ends_reaches w) ∙ u.1);
           }
 
-      back-way : NeverComes G c → undrained G c ≡ true
-      back-way n =
+      back_way : NeverComes G c → undrained G c ≡ true
+      back_way n =
           undrained_made c n.is_inside_lem
           (not-true (reaches_outlet (next G) (cells G) c)
           (λ r. n.never (ends_comes c n.is_inside_lem (reaches_ends (next G) (cells G) c r))))

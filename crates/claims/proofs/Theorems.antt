@@ -203,12 +203,12 @@ module _ (S : Sheet) (L : Lent) (accepted : outcome S L ≡ Accepted) where
   area_bounds = record {
     least = least_area;
     most = area_most S;
-    most_of_all = all-weights;
+    most_of_all = all_weights;
     donors_add = area_adds S (the_forest S L accepted);
   }
     where
-      all-weights : sum_over (cells S.grid) (inside S.grid) (weight S) ≤ most_area
-      all-weights =
+      all_weights : sum_over (cells S.grid) (inside S.grid) (weight S) ≤ most_area
+      all_weights =
           let m = rows_cols_most S.grid.rows S.grid.cols (checks S L accepted).sizes in
           omega (
             arith,

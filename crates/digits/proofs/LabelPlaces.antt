@@ -101,31 +101,31 @@ module _ (label : Label) where
       pub first_counted : first + length (decimal_digits label.first) ≡ rest
       first_counted = omega (arith, first_found.1, fits_short label.first first_found.0, rest_room.0)
 
-      pub counts-short : (rest - first ≤ 18) × (places - rest ≤ 18)
-      counts-short = (
+      pub counts_short : (rest - first ≤ 18) × (places - rest ≤ 18)
+      counts_short = (
         omega (arith, first_counted, fits_short label.first first_found.0),
         omega (arith, rest_counted, fits_short label.rest rest_found.0),
       )
 
-      label-counted : (depth : ℕ) → is_label depth label ≡ counts_fit depth (rest - first) (places - rest)
-      label-counted depth =
+      label_counted : (depth : ℕ) → is_label depth label ≡ counts_fit depth (rest - first) (places - rest)
+      label_counted depth =
           let a : length (decimal_digits label.first) ≡ rest - first = omega (arith, first_counted) in
           let b : length (decimal_digits label.rest) ≡ places - rest = omega (arith, rest_counted) in
           label_by_counts depth label fits first_found.0 rest_found.0 ∙ rw (a, b)
 
-      pub counts-refused : (depth : ℕ) → counts_fit depth (rest - first) (places - rest) ≡ false
+      pub counts_refused : (depth : ℕ) → counts_fit depth (rest - first) (places - rest) ≡ false
           → Nothing ≡ label_start depth label places
       unfolding label_start
-      counts-refused depth c = rw (label-counted depth ∙ c)
+      counts_refused depth c = rw (label_counted depth ∙ c)
 
-      pub counts-accepted : (depth : ℕ) → counts_fit depth (rest - first) (places - rest) ≡ true
+      pub counts_accepted : (depth : ℕ) → counts_fit depth (rest - first) (places - rest) ≡ true
           → At first ≡ label_start depth label places
       unfolding label_start digits_of
-      counts-accepted depth c =
+      counts_accepted depth c =
           let count = length-append (decimal_digits label.first) (decimal_digits label.rest) in
           let start : first ≡ places - length (decimal_digits label.first ++ decimal_digits label.rest) =
           omega (arith, first_counted, rest_counted) in
-          rw (label-counted depth ∙ c) (ap At start)
+          rw (label_counted depth ∙ c) (ap At start)
 
 -- ---- found in the last places
 

@@ -153,11 +153,11 @@ module _ {G : Grid} {work : List ℕ} {queued : ℕ} (d : Drained G work queued)
   own_gathers each small room = record {
     queue = d.searched.upstream.queue;
     room = omega (arith, filled_long (own_values G.dirs f) (cells G) old room);
-    fits = omega (arith, sum_each (cells G) 1000 (value_at own) own-each);
+    fits = omega (arith, sum_each (cells G) 1000 (value_at own) own_each);
   }
     where
-      own-each : (q : ℕ) → q < cells G → value_at own q ≤ 1000
-      own-each q l =
+      own_each : (q : ℕ) → q < cells G → value_at own q ≤ 1000
+      own_each q l =
           omega (
             arith,
             filled_at (own_values G.dirs f) (cells G) old q l,

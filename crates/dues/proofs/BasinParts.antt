@@ -211,9 +211,9 @@ module _ (G : Grid) (P : PassedOn G) {areas work : List ℕ} {queued : ℕ} (sma
     unfolding basin_size basin_start end_of_basins network_by
     part_all c i = go basin
       where
-        by-outlet : (k : ℕ) → end_of_basins sz k < queued → basin_of G c ≡ suc k
+        by_outlet : (k : ℕ) → end_of_basins sz k < queued → basin_of G c ≡ suc k
             → Passes (next G) c (get_or cs (end_of_basins sz k) 0)
-        by-outlet k l e =
+        by_outlet k l e =
             let b = begins k l in
             let o = get_or cs (end_of_basins sz k) 0 in
             let own = outlet_number G P o b.is_outlet_lem ∙ b.numbered in
@@ -226,7 +226,7 @@ module _ (G : Grid) (P : PassedOn G) {areas work : List ℕ} {queued : ℕ} (sma
         go zero e = absurd (omega (arith, e, basin_some G P c i))
         go (suc k) e = elim (dec_lt (end_of_basins sz k) queued) [
           | yes l ↦ (arranged.layout_of 1 1).covering c (end_of_basins sz k) (omega (arith, l, arranged.long))
-              (by-outlet k l e)
+              (by_outlet k l e)
           | no l ↦
               let p = arranged.all_stand c i in
               absurd (omega (arith, e, before k p.0 (omega (arith, p.1)), ap (basin_of G) p.2))

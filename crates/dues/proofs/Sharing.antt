@@ -114,39 +114,39 @@ module _ (total whole cols : ℕ) (weights cells labels basins D : List ℕ) whe
       ends : first + count ≡ last + 1
       ends = omega (arith, g.from)
 
-      pub weight-most : weight + sum f part ≤ most_area
-      weight-most = omega (arith, weighed_part f cells first weight count h.weighed, s.weighed.small)
+      pub weight_most : weight + sum f part ≤ most_area
+      weight_most = omega (arith, weighed_part f cells first weight count h.weighed, s.weighed.small)
 
-      pub product-fits : total * (weight + sum f part) ≤ 6553600000000000000
-      product-fits = product_most s.total_most weight-most
+      pub product_fits : total * (weight + sum f part) ≤ 6553600000000000000
+      product_fits = product_most s.total_most weight_most
 
-      pub together-more : together ≤ owed total whole (weight + sum f part)
-      together-more = rw h.together_is (owed_more total whole s.whole_some weight (sum f part))
+      pub together_more : together ≤ owed total whole (weight + sum f part)
+      together_more = rw h.together_is (owed_more total whole s.whole_some weight (sum f part))
 
-      pub place-left : at < length D'
-      place-left = omega (arith, h.left, h.same_length, s.room, one_more cells labels basins g)
+      pub place_left : at < length D'
+      place_left = omega (arith, h.left, h.same_length, s.room, one_more cells labels basins g)
 
       -- a unit has a cell, so that there are no more places than cells
-      pub place-few : at < length cells
-      place-few = omega (arith, h.left, one_more cells labels basins g, groups_few cells labels basins)
+      pub place_few : at < length cells
+      place_few = omega (arith, h.left, one_more cells labels basins g, groups_few cells labels basins)
 
-      to-do-at : dues_by total whole weight (weights_from first)
+      to_do_at : dues_by total whole weight (weights_from first)
           ≡ (owed total whole (weight + sum f part) - together)
           ∷ dues_by total whole (weight + sum f part) (weights_from (last + 1))
       unfolding part_weights dues_by
-      to-do-at =
+      to_do_at =
           let same : last - first + 1 ≡ count = omega (arith, g.from) in
           rw (h.together_is, g.is, same, drop-drop count first cells, ends) refl
 
-      pub sharing-goes-on : Sharing (set D' at (owed total whole (weight + sum f part) - together)) (at + 1)
+      pub sharing_goes_on : Sharing (set D' at (owed total whole (weight + sum f part) - together)) (at + 1)
           (last + 1) (weight + sum f part) (owed total whole (weight + sum f part))
-      sharing-goes-on = record {
+      sharing_goes_on = record {
         within = omega (arith, g.to);
         left = omega (arith, h.left, one_more cells labels basins g);
         weighed = rw ends at (weighed_part f cells first weight count h.weighed);
         together_is = refl;
         same_length = length-set D' at _ ∙ h.same_length;
-        to_do = rw (add-one at) (rw to-do-at at h.to_do);
+        to_do = rw (add-one at) (rw to_do_at at h.to_do);
       }
 
     parts_length : (ns cs : List ℕ) → length (part_weights f ns cs) ≡ length ns

@@ -226,8 +226,8 @@ module _ (S : Sheet) (L : Lent) (accepted : outcome S L ≡ Accepted) (basin : �
     unfolding drains_into is_of_basin
     all_drain q = go (inside S.grid q) refl (eqb (basin_of S.grid q) basin) refl
       where
-        to-outlet : inside S.grid q ≡ true → basin_of S.grid q ≡ basin → Passes (next S.grid) q o
-        to-outlet i e =
+        to_outlet : inside S.grid q ≡ true → basin_of S.grid q ≡ basin → Passes (next S.grid) q o
+        to_outlet i e =
             let own = outlet_number S.grid P o is ∙ numbered in
             let same = same_outlet S.grid P q o i outlet_inside (e ∙ sym own) ∙ outlet_own S.grid P o is in
             rw same at (outlet_of_is S.grid P q i).1
@@ -235,7 +235,7 @@ module _ (S : Sheet) (L : Lent) (accepted : outcome S L ≡ Accepted) (basin : �
         go : (a : Bool) → inside S.grid q ≡ a → (b : Bool) → eqb (basin_of S.grid q) basin ≡ b
             → cond a (passes (next S.grid) (cells S.grid) q o) false ≡ both a b
         go true i true e =
-            (passes_is S.grid q o i).1 (to-outlet i (eqb-true (basin_of S.grid q) basin e))
+            (passes_is S.grid q o i).1 (to_outlet i (eqb-true (basin_of S.grid q) basin e))
         go true i false e =
             not-true _
             (λ h. eqb-false (basin_of S.grid q) basin e

@@ -29,14 +29,14 @@ module _ (depth least : ℕ) (p q : UnitName) where
     p_refused e = rw (fits.0, fits.1, e)
 
     module _ (p-label : is_label depth p.label ≡ true) where
-      pub q-refused : is_label depth q.label ≡ false → Refused 11 ≡ flow depth least p q
+      pub q_refused : is_label depth q.label ≡ false → Refused 11 ≡ flow depth least p q
       unfolding flow outlet_flow
-      q-refused e = rw (fits.0, fits.1, p-label, e)
+      q_refused e = rw (fits.0, fits.1, p-label, e)
 
       module _ (q-label : is_label depth q.label ≡ true) where
-        pub other-basin : (p.basin ≡ q.basin → ⊥) → No ≡ flow depth least p q
+        pub other_basin : (p.basin ≡ q.basin → ⊥) → No ≡ flow depth least p q
         unfolding flow outlet_flow
-        other-basin e = rw (fits.0, fits.1, p-label, q-label, ne_eqb p.basin q.basin e)
+        other_basin e = rw (fits.0, fits.1, p-label, q-label, ne_eqb p.basin q.basin e)
 
         module _ (basin : p.basin ≡ q.basin) where
           pub same : same_label p.label q.label ≡ true → Same ≡ flow depth least p q

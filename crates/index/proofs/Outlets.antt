@@ -96,14 +96,14 @@ module _ (S : Sheet) (L : Lent) (accepted : outcome S L ≡ Accepted) where
   unfolding leaves_unit onward
   stays x o c i e d (drained s) = absurd (d refl)
   stays x o c i e d (drains_on {r = r} s g h) =
-      let t = first-shares h in
+      let t = first_shares h in
       let q = begins_same c r i t.is_inside_lem (rw e t.begins) in
       rw (g, of_unit S r x t.is_inside_lem (q ∙ e))
     where
-      first-shares : {y z : ℕ} → Drains (next S.grid) (Shares (Inside S) (basin_digits S) x) y z
+      first_shares : {y z : ℕ} → Drains (next S.grid) (Shares (Inside S) (basin_digits S) x) y z
           → Shares (Inside S) (basin_digits S) x y
-      first-shares (drained k) = k
-      first-shares (drains_on k a b) = k
+      first_shares (drained k) = k
+      first_shares (drains_on k a b) = k
 
   pub outlet_is : (x : List ℕ) (o : ℕ) → basin_digits S o ≡ x
       → DrainsTo (next S.grid) (Shares (Inside S) (basin_digits S) x) o → outlet_cell S x ≡ o

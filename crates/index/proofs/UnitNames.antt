@@ -11,7 +11,7 @@ use Rattle.sheet.specs.declared.Label.{Label}
 use Rattle.sheet.specs.declared.UnitName.{UnitName}
 use Rattle.sheet.specs.Record.{Digits, record_of, digits_of, same_label, unit_name, same_unit, basin_and_digits}
 use Rattle.sheet.proofs.Within.{both_true}
-use Rattle.sheet.proofs.Records.{digits_record, same_true as label-true, same_is as Label-is}
+use Rattle.sheet.proofs.Records.{digits_record, same_true as label-true, same_is as label_is}
 use Rattle.index.specs.Units.{unit_of}
 
 -- units with the same basin and the same label
@@ -30,7 +30,7 @@ module _ (p q : UnitName) where
   same_is e =
       rw (
         eq-eqb p.basin q.basin (ap (λ (u : UnitName). u.basin) e),
-        Label-is p.label q.label (ap (λ (u : UnitName). u.label) e),
+        label_is p.label q.label (ap (λ (u : UnitName). u.label) e),
       )
 
   pub same_false : same_unit p q ≡ false → p ≢ q

@@ -84,7 +84,7 @@ module _ (z : Sizes) (x : Cell) (on : on_sheet z x ≡ true) where
       elim (ℕ_discrete x.row row) [
         | no d ↦ other (λ e. d (row_same e)) ∙ rw (ne_eqb _ _ d)
         | yes same ↦ elim (ℕ_discrete x.col col) [
-          | no d ↦ other (λ e. d (col-same e)) ∙ rw (eq-eqb _ _ same, ne_eqb _ _ d)
+          | no d ↦ other (λ e. d (col_same e)) ∙ rw (eq-eqb _ _ same, ne_eqb _ _ d)
           | yes too ↦ own same too ∙ rw (eq-eqb _ _ same, eq-eqb _ _ too)
         ]
       ]
@@ -92,8 +92,8 @@ module _ (z : Sizes) (x : Cell) (on : on_sheet z x ≡ true) where
       row_same : cell_number z.cols row col ≡ place → x.row ≡ row
       row_same e = sym (cell_row x.row (on_sheet_both z x on).1) ∙ ap (λ (n : ℕ). n / z.cols) (sym e) ∙ cell_row row l
 
-      col-same : cell_number z.cols row col ≡ place → x.col ≡ col
-      col-same e = sym (cell_col x.row (on_sheet_both z x on).1) ∙ ap (λ (n : ℕ). n % z.cols) (sym e) ∙ cell_col row l
+      col_same : cell_number z.cols row col ≡ place → x.col ≡ col
+      col_same e = sym (cell_col x.row (on_sheet_both z x on).1) ∙ ap (λ (n : ℕ). n % z.cols) (sym e) ∙ cell_col row l
 
       other : (cell_number z.cols row col ≡ place → ⊥)
           → byte_of z row col (set dirs place dir) ≡ byte_of z row col dirs

@@ -214,15 +214,15 @@ module _ (S : Sheet) (L : Lent) (accepted : outcome S L ≡ Accepted) {areas wor
     key_shares : (x : ℕ) → Shares (Inside S) (basin_digits S) (basin_digits S (cell_at i)) x
         → Shares (λ c. Passes (next G) c outlet_at) (digits_from outlet_at) (digits_from outlet_at (cell_at i)) x
     key_shares x s =
-        let b = begins-parts (rw (key_of (cell_at i), key_of x) at s.begins) in
+        let b = begins_parts (rw (key_of (cell_at i), key_of x) at s.begins) in
         let same = same_outlet G P x (cell_at i) s.is_inside_lem (r.are_inside i l) (sym b.0) ∙ sym t.is in
         record {
           is_inside_lem = rw same at (outlet_of_is G P x s.is_inside_lem).1;
           begins = rw (own, digits_from_lem outlet_at x same) at b.1;
         }
       where
-        begins-parts : {a b : ℕ} {w y : List ℕ} → Begins (a ∷ w) (b ∷ y) → (a ≡ b) × Begins w y
-        begins-parts (begins_on h) = (refl, h)
+        begins_parts : {a b : ℕ} {w y : List ℕ} → Begins (a ∷ w) (b ∷ y) → (a ≡ b) × Begins w y
+        begins_parts (begins_on h) = (refl, h)
 
     first_is_outlet : ((k : ℕ) → 0 ≤ k → suc k ≡ i → basin_digits S (cell_at k) ≢ basin_digits S (cell_at i))
         → DrainsTo (next G) (Shares (Inside S) (basin_digits S) (basin_digits S (cell_at i))) (cell_at i)

@@ -238,14 +238,14 @@ module _ (S : Sheet) where
       → InspectionResult S.grid work work' r → InspectedAs S work' r
   unfolding outcome_from17
   inspected {r = r} fit i =
-      let same : r.outcome ≡ outcome_from17 S = i.outcome ∙ sym (on-fit fit) in
+      let same : r.outcome ≡ outcome_from17 S = i.outcome ∙ sym (on_fit fit) in
       record {
         outcome = same;
         passed = λ h. record { accepted = sym same ∙ h; drained = i.drained h };
       }
     where
-      on-fit : weights_fit S.grid.rows S.weights ≡ true → outcome_from17 S ≡ outcome_on S.grid
-      on-fit e = rw e
+      on_fit : weights_fit S.grid.rows S.weights ≡ true → outcome_from17 S ≡ outcome_on S.grid
+      on_fit e = rw e
 
   -- weights that do not: 17
   pub refused_17 : {work : List ℕ} → weights_fit S.grid.rows S.weights ≡ false

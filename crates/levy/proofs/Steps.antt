@@ -170,9 +170,9 @@ module _ (S : Sheet) (L : Lent) (passed : first_checks S L ≡ Accepted) (fit : 
             };
           }
 
-      pub in-order-levy : LevyInOrder (cells S.grid) queued basin total S.grid.cols S.weights L'.areas
+      pub in_order_levy : LevyInOrder (cells S.grid) queued basin total S.grid.cols S.weights L'.areas
           L'.labels L'.basins L'.work D
-      in-order-levy =
+      in_order_levy =
           let p = ordered_sizes_part * cells S.grid in
           record {
             ordered = record {

@@ -102,9 +102,9 @@ module _ (b : ℕ) (other : is_value_byte b ≡ false) where
   pub values_other_byte : (b ≡ comma → ⊥) → (c : Columns) (s : List ℕ) (i : ℕ) → i < length s → get_or s i 0 ≡ b
       → values_line c s ≡ BadValues
   unfolding values_line
-  values_other_byte no-comma c s i h e =
+  values_other_byte no_comma c s i h e =
       rw (values_from_other c 0 (fields s) no_values
-      (sym (fields_contain b s no-comma) ∙ contains_at b s i h e)) (either_way (fits_line s) BadValues)
+      (sym (fields_contain b s no_comma) ∙ contains_at b s i h e)) (either_way (fits_line s) BadValues)
 
 -- A line feed.
 pub values_line_feed : (c : Columns) (s : List ℕ) (i : ℕ) → i < length s → get_or s i 0 ≡ line_feed

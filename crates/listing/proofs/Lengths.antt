@@ -135,8 +135,8 @@ module _ (G : Grid) (areas labels basins : List ℕ) where
   module _ (rows_most : G.rows ≤ 256) (cols_most : G.cols ≤ 256) where
     -- any areas and basins of 32 bits and any labels
     module _ (small : (c : ℕ) → get_or areas c 0 < 2 ^ 32) (low : (c : ℕ) → get_or basins c 0 < 2 ^ 32) where
-      bounded-any : Bounded G areas labels basins 10 40 10
-      bounded-any = record {
+      bounded_any : Bounded G areas labels basins 10 40 10
+      bounded_any = record {
         rows_most = rows_most;
         cols_most = cols_most;
         area_digits = omega arith;
@@ -147,14 +147,14 @@ module _ (G : Grid) (areas labels basins : List ℕ) where
       }
 
       pub lines_fit : (n : ℕ) → n ≤ cells G → length (lines_below G (line_of G areas labels basins) n) ≤ 4653056
-      lines_fit n h = omega (arith, bounded_lines bounded-any n, cells_most rows_most cols_most)
+      lines_fit n h = omega (arith, bounded_lines bounded_any n, cells_most rows_most cols_most)
 
     -- areas of up to 8 digits, labels of up to 36 and basins of up to 5: at most 60 bytes a line
     module _ (small : (c : ℕ) → inside G c ≡ true → get_or areas c 0 < 10 ^ 8)
         (short : (c : ℕ) → inside G c ≡ true → length (digits_of (label_at labels c)) ≤ 36)
         (low : (c : ℕ) → inside G c ≡ true → get_or basins c 0 < 10 ^ 5) where
-      bounded-36-digits : Bounded G areas labels basins 8 36 5
-      bounded-36-digits = record {
+      bounded_36_digits : Bounded G areas labels basins 8 36 5
+      bounded_36_digits = record {
         rows_most = rows_most;
         cols_most = cols_most;
         area_digits = omega arith;
@@ -164,8 +164,8 @@ module _ (G : Grid) (areas labels basins : List ℕ) where
         basins_below = low;
       }
 
-      pub listing-most-36-digits : length (listing_text G areas labels basins) ≤ 25 + cells G * 60
-      listing-most-36-digits = omega (arith, listing_length, bounded_lines bounded-36-digits (cells G))
+      pub listing_most_36_digits : length (listing_text G areas labels basins) ≤ 25 + cells G * 60
+      listing_most_36_digits = omega (arith, listing_length, bounded_lines bounded_36_digits (cells G))
 
 -- ---- the text depends on what stands for the inside cells alone
 

@@ -42,19 +42,19 @@ module _ (leading : UnitName) (labels : List Label) (basins : List ℕ) where
     answer_11 e = answered (Refused 11) (rw (fit, e))
 
     module _ (label : is_label greatest_depth leading.label ≡ true) where
-      pub entries-11 : every (is_label greatest_depth) labels ≡ false → Answered leading labels basins (Refused 11)
+      pub entries_11 : every (is_label greatest_depth) labels ≡ false → Answered leading labels basins (Refused 11)
       unfolding lookup_answer
-      entries-11 e = answered (Refused 11) (rw (fit, label, e))
+      entries_11 e = answered (Refused 11) (rw (fit, label, e))
 
       module _ (entries : every (is_label greatest_depth) labels ≡ true) where
-        pub answer-16 : is_rising (units_in basins labels) ≡ false → Answered leading labels basins (Refused 16)
+        pub answer_16 : is_rising (units_in basins labels) ≡ false → Answered leading labels basins (Refused 16)
         unfolding lookup_answer
-        answer-16 e = answered (Refused 16) (rw (fit, label, entries, e))
+        answer_16 e = answered (Refused 16) (rw (fit, label, entries, e))
 
-        pub answer-part : is_rising (units_in basins labels) ≡ true → (a : LookupAnswer)
+        pub answer_part : is_rising (units_in basins labels) ≡ true → (a : LookupAnswer)
             → a ≡ part_found leading (units_in basins labels) → Answered leading labels basins a
         unfolding lookup_answer
-        answer-part e a f = answered a (f ∙ rw (fit, label, entries, e))
+        answer_part e a f = answered a (f ∙ rw (fit, label, entries, e))
 
 -- ---- what is handed back
 

@@ -84,11 +84,11 @@ module _ (b : ℕ) (n : contains b (ascii "rows,cols,depth,least,split,row,col,d
       → names_line expected s ≡ BadNames
   unfolding names_line contains
   names_other_byte expected s i h e =
-      rw (names_from_other 0 (fields s) no_columns (sym (fields_contain b s no-comma) ∙ contains_at b s i h e))
+      rw (names_from_other 0 (fields s) no_columns (sym (fields_contain b s no_comma) ∙ contains_at b s i h e))
       (either_way (fits_line s) BadNames)
     where
-      no-comma : b ≡ comma → ⊥
-      no-comma e =
+      no_comma : b ≡ comma → ⊥
+      no_comma e =
           false≢true
           (sym n ∙ ap (λ (x : ℕ). contains x (ascii "rows,cols,depth,least,split,row,col,dir,weight")) e)
 

@@ -162,9 +162,9 @@ module _ {G : Grid} {areas work now later : List ℕ} {queued : ℕ} (W : Survey
             let s = standing j l in
             rw s.1.cell_is s.1.size_is;
         kept = λ j e.
-            E.kept j (λ k h. e.no_cell _ (queue-below k h)) (λ k h. e.no_size _ (queue-below k h))
+            E.kept j (λ k h. e.no_cell _ (queue_below k h)) (λ k h. e.no_size _ (queue_below k h))
             ∙ P.kept j e.no_position;
       }
     where
-      queue-below : (k : ℕ) → k < queued → position_at n now (queued_at now k) < queued
-      queue-below k h = rw (queue_kept W same P k h) (below (queued_at work k) (queue_inside W k h))
+      queue_below : (k : ℕ) → k < queued → position_at n now (queued_at now k) < queued
+      queue_below k h = rw (queue_kept W same P k h) (below (queued_at work k) (queue_inside W k h))

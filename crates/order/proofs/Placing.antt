@@ -130,22 +130,22 @@ module _ {n queued : ℕ} {start : List ℕ} (A : OutletsFit n queued start) whe
       cell_kept : queued_at work i ≡ cell
       cell_kept = P.kept i (omega (arith, A.most))
 
-      pub cell-on : queued_at work i < n
-      cell-on = rw cell_kept (A.on i l)
+      pub cell_on : queued_at work i < n
+      cell_on = rw cell_kept (A.on i l)
 
-      receiver-kept : receiver_of n work (queued_at work i) ≡ receiver_of n start cell
-      receiver-kept = rw cell_kept (P.kept (receivers_part * n + cell) (omega (arith, A.on i l)))
+      receiver_kept : receiver_of n work (queued_at work i) ≡ receiver_of n start cell
+      receiver_kept = rw cell_kept (P.kept (receivers_part * n + cell) (omega (arith, A.on i l)))
 
       split : drop i (take queued start) ≡ cell ∷ drop (i + 1) (take queued start)
       split =
           drop-cons (take queued start) i 0 (omega (arith, queue_length)) ∙ rw (get_or-take queued start i 0 l, add-one i)
 
       -- the cell has a receiver: those before it are all outlets
-      pub outlets-end : 0 < receiver_of n work (queued_at work i)
+      pub outlets_end : 0 < receiver_of n work (queued_at work i)
           → work ≡ positioned n 0 (first_outlets n start (take queued start)) start
       unfolding positioned first_outlets
-      outlets-end h =
-          rw (split, ne_eqb (receiver_of n start cell) 0 (λ e. omega (arith, receiver-kept))) at P.rest
+      outlets_end h =
+          rw (split, ne_eqb (receiver_of n start cell) 0 (λ e. omega (arith, receiver_kept))) at P.rest
 
       -- the cell is an outlet
       module _ (none-on : receiver_of n work (queued_at work i) ≡ 0) where
@@ -154,7 +154,7 @@ module _ {n queued : ℕ} {start : List ℕ} (A : OutletsFit n queued start) whe
 
         first_is : first_outlets n start (drop i (take queued start)) ≡ queued_at work i ∷ more
         unfolding first_outlets
-        first_is = rw (split, eq-eqb (receiver_of n start cell) 0 (sym receiver-kept ∙ none-on), cell_kept)
+        first_is = rw (split, eq-eqb (receiver_of n start cell) 0 (sym receiver_kept ∙ none-on), cell_kept)
 
         fitted : PositionsFit n at (queued_at work i ∷ more) work
         fitted = rw first_is at P.fit
@@ -164,15 +164,15 @@ module _ {n queued : ℕ} {start : List ℕ} (A : OutletsFit n queued start) whe
         later = set work (positions_part * n + queued_at work i) at
 
         size_kept : size_at n later (queued_at work i) ≡ size_at n work (queued_at work i)
-        size_kept = size_stays n work (queued_at work i) at cell-on
+        size_kept = size_stays n work (queued_at work i) at cell_on
 
         pub next_fits : at + size_at n later (queued_at work i) < 2 ^ 32
         unfolding sum
         next_fits = omega (arith, fitted.fits, size_kept)
 
-        pub outlets-more : OutletsPlaced n queued start later (at + size_at n later (queued_at work i)) (i + 1)
+        pub outlets_more : OutletsPlaced n queued start later (at + size_at n later (queued_at work i)) (i + 1)
         unfolding positioned
-        outlets-more = rw size_kept (record {
+        outlets_more = rw size_kept (record {
           same = length-set work (positions_part * n + queued_at work i) at ∙ P.same;
           kept = λ j h.
               get_or-set_other work (positions_part * n + queued_at work i) j at 0 (λ e. omega arith) ∙ P.kept j h;

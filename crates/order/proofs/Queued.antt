@@ -153,28 +153,28 @@ module _ {G : Grid} {areas work : List ℕ} {queued : ℕ} (W : Surveyed G areas
           D.kept (positions_part * n + u)
           (λ v m e. let s : u ≡ v = omega arith in d (rw s (donor_goes G areas cell v m)))
 
-      queue-stays : (j : ℕ) → j < i + 1 → position_at n later (queued_at work j) ≡ position_at n now (queued_at work j)
-      queue-stays j h = stays (queued_at work j) (λ e. let k = donor_later j i (omega arith) l e in omega arith)
+      queue_stays : (j : ℕ) → j < i + 1 → position_at n later (queued_at work j) ≡ position_at n now (queued_at work j)
+      queue_stays j h = stays (queued_at work j) (λ e. let k = donor_later j i (omega arith) l e in omega arith)
 
-      donor-stays : (j : ℕ) → j < i → (u : ℕ) → Memᴰ u (donors_in G areas (queued_at work j))
+      donor_stays : (j : ℕ) → j < i → (u : ℕ) → Memᴰ u (donors_in G areas (queued_at work j))
           → position_at n later u ≡ position_at n now u
-      donor-stays j h u m =
+      donor_stays j h u m =
           let d = donor_goes G areas (queued_at work j) u m in
           stays u (λ e. let s : queued_at work j ≡ cell = cc in let k = queue_once j i (omega arith) l s in omega arith)
 
-      pub placed-more : Placed G areas work later queued (i + 1)
-      placed-more = record {
+      pub placed_more : Placed G areas work later queued (i + 1)
+      placed_more = record {
         kept = λ j d. D.kept j (λ u m. d u (next_goes G u (donor_goes G areas cell u m)).from_inside) ∙ P.kept j d;
         first =
             moved P.first
             (λ o m. stays o
             (λ e. outlet_not_to (sym (outlet_is G o (listed_outlet W.drained.searched o m)).1 ∙ e)));
         follow =
-            step_cases i (λ j h. rw (queue-stays j (omega arith)) (moved (P.follow j h) (donor-stays j h)))
-            (rw (queue-stays i (omega arith)) D.follow);
+            step_cases i (λ j h. rw (queue_stays j (omega arith)) (moved (P.follow j h) (donor_stays j h)))
+            (rw (queue_stays i (omega arith)) D.follow);
         within =
-            step_cases i (λ j h. omega (arith, queue-stays j (omega arith), P.within j h))
-            (omega (arith, queue-stays i (omega arith), within_cell (next G cell) refl));
+            step_cases i (λ j h. omega (arith, queue_stays j (omega arith), P.within j h))
+            (omega (arith, queue_stays i (omega arith), within_cell (next G cell) refl));
       }
 
 -- ---- all queued cells have their positions

@@ -90,7 +90,7 @@ module _ (G : Grid) (areas labels basins : List ℕ) (k : ℕ) where
       too_wide_lem e = rw (eq-eqb (listing_fault G areas labels basins) 0 none, e)
 
       -- all checks but that of the buffer are passed
-      pub page-into : page_fits G areas labels basins k ≡ true
+      pub page_into_lem : page_fits G areas labels basins k ≡ true
           → page_into G areas labels basins k buffer ≡ text_into (page_text G areas labels basins k) buffer
       unfolding page_into
-      page-into e = rw (eq-eqb (listing_fault G areas labels basins) 0 none, e)
+      page_into_lem e = rw (eq-eqb (listing_fault G areas labels basins) 0 none, e)

@@ -89,19 +89,19 @@ module _ (G : Grid) (areas labels basins : List ℕ) (k : ℕ) where
       unfolding atlas_line
       line_long = page_line_length (texts c) (cell_fits fits)
 
-      lines-here : cell_lines line (page (c + 1)) ≡ cell_lines line (page c) ++ line c
-      lines-here =
+      lines_here : cell_lines line (page (c + 1)) ≡ cell_lines line (page c) ++ line c
+      lines_here =
           ap (cell_lines line) here
           ∙ lines_join line (page c) (c ∷ [])
           ∙ ap (λ (s : List ℕ). cell_lines line (page c) ++ s) (lines_of_one line c)
 
       lines_room : at + length (cell_lines line (page c) ++ line c) ≤ length a
-      lines_room = rw lines-here at (so_far_room (c + 1) (omega arith) fits at room)
+      lines_room = rw lines_here at (so_far_room (c + 1) (omega arith) fits at room)
 
       -- its line has room after those before it
       pub cell_room : mid + 73 ≤ length b
       cell_room = omega (arith, put_room p (line c) lines_room, line_long)
 
-      pub put-here : {d : List ℕ} {next : ℕ} → Put b d mid next (line c)
+      pub put_here : {d : List ℕ} {next : ℕ} → Put b d mid next (line c)
           → Put a d at next (cell_lines line (page (c + 1)))
-      put-here q = rw lines-here (put_then p q lines_room)
+      put_here q = rw lines_here (put_then p q lines_room)

@@ -56,18 +56,18 @@ module _ (index plan : List Label) (work : List ℕ) where
         answered (Refused 3 0) work (rw (e, f)) (rw (e, f))
 
     module _ (enough : length index ≤ length work) where
-      answer-of-plan : plan_from index [] 0 plan ≡ plan_answer index plan (length work)
+      answer_of_plan : plan_from index [] 0 plan ≡ plan_answer index plan (length work)
       unfolding plan_answer
-      answer-of-plan =
+      answer_of_plan =
           rw (eq-eqb (index_fault index) 0 none, le-leb (length index) (length work) enough)
 
       -- the first work places, as many as it has labels, were lent on, and then set to 0
-      pub answer-plan : (answer : PlanAnswer) → answer ≡ plan_from index [] 0 plan → (count : ℕ) → count ≡ length index
+      pub answer_plan : (answer : PlanAnswer) → answer ≡ plan_from index [] 0 plan → (count : ℕ) → count ≡ length index
           → (lent : List ℕ) → length lent ≡ count
           → Answered index plan work answer (written (replicate count 0) (lent ++ drop count work))
       unfolding work_after
-      answer-plan answer e count f lent g =
-          answered answer (written (replicate count 0) (lent ++ drop count work)) (e ∙ answer-of-plan)
+      answer_plan answer e count f lent g =
+          answered answer (written (replicate count 0) (lent ++ drop count work)) (e ∙ answer_of_plan)
           (rw (
             eq-eqb (index_fault index) 0 none,
             le-leb (length index) (length work) enough,

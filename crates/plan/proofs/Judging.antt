@@ -302,15 +302,15 @@ module _ (index plan : List Label) (k : ℕ) (work : List ℕ) where
 
   module _ (h : k < length plan) (step : PlaceJudged) (judged : step ≡ place_judged index (get_or plan k no_digits) work)
     where
-      pub plan-refused : (step.number ≡ 0 → ⊥)
+      pub plan_refused : (step.number ≡ 0 → ⊥)
           → plan_judged index k (drop k plan) work
           ≡ record { answer = Refused step.number (k + 1); work = step.work }
       unfolding plan_judged
-      plan-refused some =
+      plan_refused some =
           rw (drop-cons plan k no_digits h, ← judged, ne_eqb step.number 0 some, add-one k)
 
-      pub plan-turn : step.number ≡ 0
+      pub plan_turn : step.number ≡ 0
           → plan_judged index (k + 1) (drop (k + 1) plan) step.work ≡ plan_judged index k (drop k plan) work
       unfolding plan_judged
-      plan-turn none =
+      plan_turn none =
           rw (add-one k, drop-cons plan k no_digits h, ← judged, eq-eqb step.number 0 none)

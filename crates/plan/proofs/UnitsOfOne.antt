@@ -59,11 +59,11 @@ module _ (labels : List Label) where
       → get_or labels i no_digits ≢ get_or labels j no_digits
   places_differ rises i j h l n e =
       elim (dec_lt i j) [
-        | yes k ↦ earlier-differs i j k l e
-        | no k ↦ earlier-differs j i (omega arith) h (sym e)
+        | yes k ↦ earlier_differs i j k l e
+        | no k ↦ earlier_differs j i (omega arith) h (sym e)
       ]
     where
-      earlier-differs : (i j : ℕ) → i < j → j < length labels → get_or labels i no_digits ≢ get_or labels j no_digits
-      earlier-differs i j k l e =
+      earlier_differs : (i j : ℕ) → i < j → j < length labels → get_or labels i no_digits ≢ get_or labels j no_digits
+      earlier_differs i j k l e =
           let before = rw e at (rising_of_one rises i j k l) in
           true≢false (sym before ∙ before_irreflexive (digits_of (get_or labels j no_digits)))

@@ -30,7 +30,7 @@ use Rattle.lines.specs.Fields.{longer}
 use Rattle.listing.specs.Writing.{text_into, accepted}
 use Rattle.sheet.proofs.Within.{rows_cols_most, depth_most}
 use Rattle.listing.proofs.Answers.{text_into_lem}
-use Rattle.listing.proofs.Lengths.{refusal_most, listing-most-36-digits}
+use Rattle.listing.proofs.Lengths.{refusal_most, listing_most_36_digits}
 use Rattle.reading.specs.Lines.{lines_of}
 use Rattle.reading.specs.Feed.{largest_count}
 use Rattle.report.specs.declared.Verdict.{Verdict}
@@ -116,7 +116,7 @@ module _ (S : Sheet) (L : Lent) (accepted : outcome S L ≡ Accepted) where
 
   pub listed_most : length (sheet_listing S) ≤ 25 + cells S.grid * 60
   listed_most =
-      listing-most-36-digits S.grid (basin_areas S) (basin_labels S) (basins_of S.grid) rows_and_cols.0
+      listing_most_36_digits S.grid (basin_areas S) (basin_labels S) (basins_of S.grid) rows_and_cols.0
       rows_and_cols.1 area_listed label_short basin_listed
 
 -- ---- the report

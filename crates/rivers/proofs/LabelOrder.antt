@@ -199,8 +199,8 @@ module _ {cell size area : List ℕ} {count split least : ℕ} {N : Network} (Y 
       drained = named_outlet O (λ c. Passes N.next c (get_or cell m 0)) (get_or cell m 0) depth (λ c h. h) (λ c h. h)
           (get_or cell i 0) (inside_at i a b)
 
-      outlet-label : along N cell depth m i ≡ digits_in N (get_or cell m 0) depth unit_outlet_lem
-      outlet-label =
+      outlet_label : along N cell depth m i ≡ digits_in N (get_or cell m 0) depth unit_outlet_lem
+      outlet_label =
           let own = drained.among.is_inside_lem in
           elim (outlet_rule O (get_or cell m 0) depth (get_or cell i 0) unit_outlet_lem (inside_at i a b) own) [
             | inl e ↦ e
@@ -208,8 +208,8 @@ module _ {cell size area : List ℕ} {count split least : ℕ} {N : Network} (Y 
           ]
 
       -- it stands at a position up to i
-      outlet-stands : (k : ℕ) × (m ≤ k) × (k ≤ i) × (get_or cell k 0 ≡ unit_outlet_lem)
-      outlet-stands =
+      outlet_stands : (k : ℕ) × (m ≤ k) × (k ≤ i) × (get_or cell k 0 ≡ unit_outlet_lem)
+      outlet_stands =
           let k = L.covering unit_outlet_lem m on drained.among.is_inside_lem in
           let within = Y.within m on in
           let on-k : k.0 < length cell = omega (arith, k.2) in
@@ -222,7 +222,7 @@ module _ {cell size area : List ℕ} {count split least : ℕ} {N : Network} (Y 
       first_is_outlet : ((k : ℕ) → m ≤ k → suc k ≡ i
           → along N cell depth m k ≢ along N cell depth m i)
           → unit_outlet_lem ≡ get_or cell i 0
-      first_is_outlet f = go outlet-stands
+      first_is_outlet f = go outlet_stands
         where
           go : (k : ℕ) × (m ≤ k) × (k ≤ i) × (get_or cell k 0 ≡ unit_outlet_lem) → unit_outlet_lem ≡ get_or cell i 0
           go k = elim (ℕ_discrete k.0 i) [
@@ -230,7 +230,7 @@ module _ {cell size area : List ℕ} {count split least : ℕ} {N : Network} (Y 
             | no d ↦
                 let low = k.1 in
                 let high = k.2 in
-                let same = ap (λ (c : ℕ). digits_in N (get_or cell m 0) depth c) k.3 ∙ sym outlet-label in
+                let same = ap (λ (c : ℕ). digits_in N (get_or cell m 0) depth c) k.3 ∙ sym outlet_label in
                 let before = side_by_side k.0 (i - 1) i low (omega arith) (omega arith) b same in
                 absurd (f (i - 1) (omega arith) (omega arith) (before ∙ same))
           ]

@@ -150,9 +150,9 @@ module _ {N : Network} {R : Run} {floor : ℕ} where
         go (met e f) = met e f
 
     module _ {v k : ℕ} (counts : N.counted v ≡ leb floor (key_by N.area v)) (key : k ≡ key_by N.area v) where
-      pub largest-skip : k < d → Largest N R (mouth v ∷ B) floor done a b c d → Largest N R B floor done a b c d
+      pub largest_skip : k < d → Largest N R (mouth v ∷ B) floor done a b c d → Largest N R B floor done a b c d
       unfolding chosen finished
-      largest-skip h l =
+      largest_skip h l =
           record {
             low_a = l.low_a;
             low_b = l.low_b;
@@ -167,11 +167,11 @@ module _ {N : Network} {R : Run} {floor : ℕ} where
           go (not_yet e f g) = not_yet e f (rw (counts, lt-leb floor (key_by N.area v) (omega arith)) at g)
           go (met e f) = met e f
 
-      pub largest-with : {done' : Bool} {a' b' c' d' : ℕ} → d ≤ k → done' ≡ false
+      pub largest_with : {done' : Bool} {a' b' c' d' : ℕ} → d ≤ k → done' ≡ false
           → a' ≡ max a k → b' ≡ max b (min a k) → c' ≡ max c (min b k) → d' ≡ max d (min c k)
           → Largest N R (mouth v ∷ B) floor done a b c d → Largest N R B floor done' a' b' c' d'
       unfolding chosen finished
-      largest-with h s aa bb cc' dd l =
+      largest_with h s aa bb cc' dd l =
           record {
             low_a = rw aa (low_max _ l.low_a);
             low_b = rw bb (low_max _ l.low_b);
@@ -280,25 +280,25 @@ module _ {cell size area : List ℕ} {count split least end lo hi : ℕ} (Y : La
         record { left = g.rest; laid = g.laid; largest = largest_stem (rw g.is at p.largest) }
 
     module _ {k : ℕ} (key : k ≡ key_at cell area j) (q : j + get_or size j 0 ≡ end → ⊥) where
-      pub passed-skip : k < d → Passed u j done a b c d → Passed u (j + get_or size j 0) done a b c d
-      passed-skip l p =
+      pub passed_skip : k < d → Passed u j done a b c d → Passed u (j + get_or size j 0) done a b c d
+      passed_skip l p =
           let g = goes_mouth h q p.laid in
           record {
             left = g.rest;
             laid = g.laid;
-            largest = largest-skip (counts_at j h) (key ∙ key_is u j h) l
+            largest = largest_skip (counts_at j h) (key ∙ key_is u j h) l
                 (rw g.is at p.largest);
           }
 
-      pub passed-with : {done' : Bool} {a' b' c' d' : ℕ} → d ≤ k → done' ≡ false
+      pub passed_with : {done' : Bool} {a' b' c' d' : ℕ} → d ≤ k → done' ≡ false
           → a' ≡ max a k → b' ≡ max b (min a k) → c' ≡ max c (min b k) → d' ≡ max d (min c k)
           → Passed u j done a b c d → Passed u (j + get_or size j 0) done' a' b' c' d'
-      passed-with l s aa bb cc' dd p =
+      passed_with l s aa bb cc' dd p =
           let g = goes_mouth h q p.laid in
           record {
             left = g.rest;
             laid = g.laid;
-            largest = largest-with (counts_at j h)
+            largest = largest_with (counts_at j h)
                 (key ∙ key_is u j h) l s aa bb cc' dd (rw g.is at p.largest);
           }
 

@@ -175,33 +175,33 @@ module _ {cell size area : List ℕ} {count split least end lo hi : ℕ} (Y : La
             rw (e, in-it) at p.todo_is ∙ prepends_part p.begun (get_or cell j 0) _
 
         -- a digit for the run, one for the tributary and one for the next run are left
-        pub progress-room : digit + 2 ≤ 9
+        pub progress_room : digit + 2 ≤ 9
         unfolding chosen
-        progress-room =
+        progress_room =
             let g = goes_mouth h q p.laid_left in
             let in-it : taken u.of.network u.run (get_or cell j 0) ≡ true = taken_at ∙ le-leb cut k l in
             let f = rw (g.is, in-it) at p.few in
             omega (arith, p.digit_is)
 
         -- the run under way is a unit
-        pub progress-unit : UnitAt cell size area split least end start j
-        progress-unit =
+        pub progress_unit : UnitAt cell size area split least end start j
+        progress_unit =
             let g = goes_mouth h q p.laid_left in
             record {
               of = u.of;
               run = p.begun;
-              headed = first-headed (rw (after g.rest g.is) at p.headed);
+              headed = first_headed (rw (after g.rest g.is) at p.headed);
               laid = p.laid_begun;
               before_end = omega (arith, u.before_end);
               end_within = u.end_within;
             }
           where
-            first-headed : {A : Run} {v : ℕ} {P : Parts}
+            first_headed : {A : Run} {v : ℕ} {P : Parts}
                 → AllHeaded u.of.network.next (heavier u.of.network) (part A v P) → Headed
                 u.of.network.next (heavier u.of.network) A
-            first-headed (all_cut a b) = a
+            first_headed (all_cut a b) = a
 
-        pub progress-take : {first second : List ℕ}
+        pub progress_take : {first second : List ℕ}
             → ((w : UnitAt cell size area split least end start j) → first ≡ unit_labelled w.of.network
             w.run digits (gathered ++ (digit ∷ [])) labels)
             → ((n : NetworkOf cell size area split least)
@@ -209,8 +209,8 @@ module _ {cell size area : List ℕ} {count split least end lo hi : ℕ} (Y : La
             (gathered ++ ((digit + 1) ∷ [])) first)
             → Progress u.of.network u.run cell size end hi digits gathered whole second (digit + 2)
             (j + get_or size j 0) (j + get_or size j 0)
-        unfolding chosen prepends progress-unit
-        progress-take {first} {second} f s =
+        unfolding chosen prepends progress_unit
+        progress_take {first} {second} f s =
             let g = goes_mouth h q p.laid_left in
             let e = after g.rest g.is in
             let in-it : taken u.of.network u.run (get_or cell j 0) ≡ true = taken_at ∙ le-leb cut k l in
@@ -219,7 +219,7 @@ module _ {cell size area : List ℕ} {count split least end lo hi : ℕ} (Y : La
             let by_one : digit + 1 ≡ suc (suc p.used) = omega (arith, p.digit_is) in
             let first_is : first ≡ unit_labelled u.of.network p.begun digits
             (gathered ++ (suc p.used ∷ [])) labels =
-            f progress-unit ∙ ap
+            f progress_unit ∙ ap
             (λ (a : ℕ). unit_labelled u.of.network p.begun digits (gathered ++ (a ∷ [])) labels) p.digit_is in
             let second_is : second ≡ unit_labelled u.of.network (river u.of.network (get_or cell j 0)) digits
             (gathered ++ (suc (suc p.used) ∷ [])) first =
@@ -235,7 +235,7 @@ module _ {cell size area : List ℕ} {count split least end lo hi : ℕ} (Y : La
               todo = cut_at (taken u.of.network u.run) g.rest;
               todo_is = refl;
               ordered = ordered_right (mouth (get_or cell j 0) ∷ []) _ (ordered_right p.begun _ o);
-              headed = rest-headed (rw e at p.headed);
+              headed = rest_headed (rw e at p.headed);
               used = suc (suc p.used);
               digit_is = omega (arith, p.digit_is);
               few = omega arith;
@@ -245,10 +245,10 @@ module _ {cell size area : List ℕ} {count split least end lo hi : ℕ} (Y : La
                   ∙ rw e at p.rest;
             }
           where
-            rest-headed : {A : Run} {v : ℕ} {P : Parts}
+            rest_headed : {A : Run} {v : ℕ} {P : Parts}
                 → AllHeaded u.of.network.next (heavier u.of.network) (part A v P) → AllHeaded
                 u.of.network.next (heavier u.of.network) P
-            rest-headed (all_cut a b) = b
+            rest_headed (all_cut a b) = b
 
     -- the last run
     module _ (h : hi ≤ j)
@@ -257,32 +257,32 @@ module _ {cell size area : List ℕ} {count split least end lo hi : ℕ} (Y : La
       unfolding cut_at
       only = rw (goes_end Y u.before_end u.end_within h p.laid_left) at p.todo_is ∙ prepends_last p.begun
 
-      pub progress-last-room : digit ≤ 9
-      progress-last-room = omega (arith, p.digit_is, p.few)
+      pub progress_last_room : digit ≤ 9
+      progress_last_room = omega (arith, p.digit_is, p.few)
 
-      pub progress-last-unit : UnitAt cell size area split least end start hi
-      progress-last-unit =
+      pub progress_last_unit : UnitAt cell size area split least end start hi
+      progress_last_unit =
           let same : j ≡ hi = omega (arith, laid_le p.laid_left) in
           record {
             of = u.of;
             run = p.begun;
-            headed = last-headed (rw only at p.headed);
+            headed = last_headed (rw only at p.headed);
             laid = rw same at p.laid_begun;
             before_end = u.before_end;
             end_within = u.end_within;
           }
         where
-          last-headed : {A : Run} → AllHeaded u.of.network.next (heavier u.of.network) (last A)
+          last_headed : {A : Run} → AllHeaded u.of.network.next (heavier u.of.network) (last A)
               → Headed u.of.network.next (heavier u.of.network) A
-          last-headed (all_last a) = a
+          last_headed (all_last a) = a
 
-      pub progress-last : {final : List ℕ}
+      pub progress_last : {final : List ℕ}
           → ((w : UnitAt cell size area split least end start hi) → final ≡ unit_labelled w.of.network
           w.run digits (gathered ++ (digit ∷ [])) labels)
           → final ≡ whole
-      unfolding progress-last-unit
-      progress-last f =
-          f progress-last-unit
+      unfolding progress_last_unit
+      progress_last f =
+          f progress_last_unit
           ∙ ap (λ (a : ℕ). unit_labelled u.of.network p.begun digits (gathered ++ (a ∷ [])) labels) p.digit_is
           ∙ sym (parts_last u.of.network digits gathered p.used p.begun labels)
           ∙ rw only at p.rest

@@ -20,7 +20,7 @@ use Rattle.upstream.specs.Growth.{Grown}
 -- ---- the three stores of a push
 
 module _ (n : ℕ) (work : List ℕ) (end cell receiver : ℕ) (room : sizes_part * n ≤ length work) (end_on : end < n)
-    (cell-on : cell < n) where
+    (cell_on : cell < n) where
   pub push_long : length (pushed n work end cell receiver) ≡ length work
   unfolding pushed
   push_long = simp length-set
@@ -119,7 +119,7 @@ pub item_at : (n : ℕ) (work : List ℕ) (i c : ℕ) → queued_at work i ≡ c
 item_at n work i c e l r b =
     record { on = rw e l; rank = rw e r; before = λ s k. b s (ap (receiver_of n work) (sym e) ∙ k) }
 
-module _ {n : ℕ} {work : List ℕ} {end : ℕ} (q : Queue n work end) (cell : ℕ) (cell-on : cell < n)
+module _ {n : ℕ} {work : List ℕ} {end : ℕ} (q : Queue n work end) (cell : ℕ) (cell_on : cell < n)
     (free : rank_of n work cell ≡ 0) where
   pub end_on : end < n
   end_on =
@@ -127,7 +127,7 @@ module _ {n : ℕ} {work : List ℕ} {end : ℕ} (q : Queue n work end) (cell : 
         arith,
         q.counted,
         count_le n (λ c. true),
-        count_less n (λ c. true) (is_reached n work) (λ c e. refl) cell refl (reached_no n work cell free) cell-on,
+        count_less n (λ c. true) (is_reached n work) (λ c e. refl) cell refl (reached_no n work cell free) cell_on,
       )
 
   other : (c : ℕ) → 0 < rank_of n work c → c ≢ cell
@@ -138,44 +138,44 @@ module _ {n : ℕ} {work : List ℕ} {end : ℕ} (q : Queue n work end) (cell : 
     after = pushed n work end cell receiver
 
     rank_kept : (c : ℕ) → c < n → 0 < rank_of n work c → rank_of n after c ≡ rank_of n work c
-    rank_kept c l h = push_rank_other n work end cell receiver q.room end_on cell-on c l (other c h)
+    rank_kept c l h = push_rank_other n work end cell receiver q.room end_on cell_on c l (other c h)
 
     pub grown_push : Grown n work end after (end + 1)
     grown_push = record {
       more = omega arith;
       ranks = rank_kept;
       places =
-          λ i l. push_place_other n work end cell receiver q.room end_on cell-on i (omega (arith, end_on))
+          λ i l. push_place_other n work end cell receiver q.room end_on cell_on i (omega (arith, end_on))
           (λ e. omega arith);
-      kept = push_kept n work end cell receiver q.room end_on cell-on;
+      kept = push_kept n work end cell receiver q.room end_on cell_on;
     }
 
     module _ (before : (r : ℕ) → receiver ≡ r + 1 → Before n work end r) where
-      new-item : Item n after end
-      new-item =
-          item_at n after end cell (push_place n work end cell receiver q.room end_on cell-on) cell-on
-          (push_rank n work end cell receiver q.room end_on cell-on)
+      new_item : Item n after end
+      new_item =
+          item_at n after end cell (push_place n work end cell receiver q.room end_on cell_on) cell_on
+          (push_rank n work end cell receiver q.room end_on cell_on)
           (λ r e. before_kept rank_kept
-          (before r (sym (push_receiver n work end cell receiver q.room end_on cell-on) ∙ e)))
+          (before r (sym (push_receiver n work end cell receiver q.room end_on cell_on) ∙ e)))
 
-      old-item : (i : ℕ) → i < end → Item n after i
-      old-item i l =
+      old_item : (i : ℕ) → i < end → Item n after i
+      old_item i l =
           let t = q.item i l in
           let c = queued_at work i in
           let h : 0 < rank_of n work c = omega (arith, t.rank) in
           item_at n after i c (grown_push.places i l) t.on (rank_kept c t.on h ∙ t.rank)
           (λ r e. before_kept rank_kept
-          (t.before r (sym (push_receiver_other n work end cell receiver q.room end_on cell-on c (other c h)) ∙ e)))
+          (t.before r (sym (push_receiver_other n work end cell receiver q.room end_on cell_on c (other c h)) ∙ e)))
 
-      new-stands : Stands n after (end + 1) cell
-      new-stands =
-          let r = push_rank n work end cell receiver q.room end_on cell-on in
+      new_stands : Stands n after (end + 1) cell
+      new_stands =
+          let r = push_rank n work end cell receiver q.room end_on cell_on in
           let e : rank_of n after cell - 1 ≡ end = omega arith in
-          record { most = omega arith; place = rw e (push_place n work end cell receiver q.room end_on cell-on) }
+          record { most = omega arith; place = rw e (push_place n work end cell receiver q.room end_on cell_on) }
 
-      old-stands : (c : ℕ) → c < n → c ≢ cell → 0 < rank_of n after c → Stands n after (end + 1) c
-      old-stands c l d h =
-          let e = push_rank_other n work end cell receiver q.room end_on cell-on c l d in
+      old_stands : (c : ℕ) → c < n → c ≢ cell → 0 < rank_of n after c → Stands n after (end + 1) c
+      old_stands c l d h =
+          let e = push_rank_other n work end cell receiver q.room end_on cell_on c l d in
           let s = q.stands c l (omega arith) in
           record {
             most = omega (arith, s.most);
@@ -183,15 +183,15 @@ module _ {n : ℕ} {work : List ℕ} {end : ℕ} (q : Queue n work end) (cell : 
                 (grown_push.places (rank_of n work c - 1) (omega (arith, s.most)) ∙ s.place);
           }
 
-      pub queue-push : Queue n after (end + 1)
-      queue-push = record {
-        room = omega (arith, q.room, push_long n work end cell receiver q.room end_on cell-on);
+      pub queue_push : Queue n after (end + 1)
+      queue_push = record {
+        room = omega (arith, q.room, push_long n work end cell receiver q.room end_on cell_on);
         counted =
             ap (λ (k : ℕ). k + 1) q.counted
-            ∙ sym (count_more n (is_reached n work) (is_reached n after) cell cell-on (reached_no n work cell free)
-            (reached_yes n after cell (omega (arith, push_rank n work end cell receiver q.room end_on cell-on)))
+            ∙ sym (count_more n (is_reached n work) (is_reached n after) cell cell_on (reached_no n work cell free)
+            (reached_yes n after cell (omega (arith, push_rank n work end cell receiver q.room end_on cell_on)))
             (λ c l d. ap (λ (r : ℕ). ltb 0 r)
-            (push_rank_other n work end cell receiver q.room end_on cell-on c l d)));
-        item = λ i l. elim (ℕ_discrete i end) [ yes e ↦ rw e new-item | no d ↦ old-item i (omega arith) ];
-        stands = λ c l h. elim (ℕ_discrete c cell) [ yes e ↦ rw e new-stands | no d ↦ old-stands c l d h ];
+            (push_rank_other n work end cell receiver q.room end_on cell_on c l d)));
+        item = λ i l. elim (ℕ_discrete i end) [ yes e ↦ rw e new_item | no d ↦ old_item i (omega arith) ];
+        stands = λ c l h. elim (ℕ_discrete c cell) [ yes e ↦ rw e new_stands | no d ↦ old_stands c l d h ];
       }

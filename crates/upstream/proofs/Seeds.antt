@@ -64,8 +64,8 @@ module _ (G : Grid) where
 
     module _ (on : cell < cells G) (is : is_outlet G cell ≡ true) where
       -- the cell is not queued yet
-      pub seed-free : rank_of (cells G) work cell ≡ 0
-      seed-free = elim (ℕ_discrete (rank_of (cells G) work cell) 0) [
+      pub seed_free : rank_of (cells G) work cell ≡ 0
+      seed_free = elim (ℕ_discrete (rank_of (cells G) work cell) 0) [
         | yes e ↦ e
         | no d ↦
             let t = s.upstream.queue.stands cell on (omega arith) in
@@ -81,41 +81,41 @@ module _ (G : Grid) where
       after = pushed (cells G) work end cell 0
 
       at_end_lem : end < cells G
-      at_end_lem = end_on s.upstream.queue cell on seed-free
+      at_end_lem = end_on s.upstream.queue cell on seed_free
 
-      pub seed-grown : Grown (cells G) work end after (end + 1)
-      seed-grown = grown_push s.upstream.queue cell on seed-free 0
+      pub seed_grown : Grown (cells G) work end after (end + 1)
+      seed_grown = grown_push s.upstream.queue cell on seed_free 0
 
       new_place : queued_at after end ≡ cell
       new_place = push_place (cells G) work end cell 0 s.upstream.queue.room at_end_lem on
 
-      pushed-on : Upstream G after (end + 1)
-      pushed-on =
+      pushed_on : Upstream G after (end + 1)
+      pushed_on =
           let o = outlet_is G cell is in
           subst (λ (r : ℕ). Upstream G (pushed (cells G) work end cell r) (end + 1)) (ap numbered o.1)
-          (upstream_push s.upstream cell on seed-free o.0 (λ r e. absurd (outlet_not_to (sym o.1 ∙ e))))
+          (upstream_push s.upstream cell on seed_free o.0 (λ r e. absurd (outlet_not_to (sym o.1 ∙ e))))
 
-      pub seeded-push : Seeded G after (end + 1) (cell + 1)
-      seeded-push = record {
-        upstream = pushed-on;
+      pub seeded_push : Seeded G after (end + 1) (cell + 1)
+      seeded_push = record {
+        upstream = pushed_on;
         counted = ap (λ (k : ℕ). k + 1) s.counted ∙ sym (count_yes cell (is_outlet G) is);
         outlets = λ c l o. elim (ℕ_discrete c cell) [
           | yes e ↦ rw e (omega (arith, push_rank (cells G) work end cell 0 s.upstream.queue.room at_end_lem on))
-          | no d ↦ let h = s.outlets c (omega arith) o in omega (arith, seed-grown.ranks c (omega arith) h)
+          | no d ↦ let h = s.outlets c (omega arith) o in omega (arith, seed_grown.ranks c (omega arith) h)
         ];
         are_outlets = λ i l. elim (ℕ_discrete i end) [
           | yes e ↦ rw (e, new_place) is
-          | no d ↦ let l' : i < end = omega arith in rw (seed-grown.places i l') (s.are_outlets i l')
+          | no d ↦ let l' : i < end = omega arith in rw (seed_grown.places i l') (s.are_outlets i l')
         ];
         before = λ i l. elim (ℕ_discrete i end) [
           | yes e ↦ rw (e, new_place) (omega arith)
-          | no d ↦ let l' : i < end = omega arith in rw (seed-grown.places i l') (omega (arith, s.before i l'))
+          | no d ↦ let l' : i < end = omega arith in rw (seed_grown.places i l') (omega (arith, s.before i l'))
         ];
         rising = λ i j l k. elim (ℕ_discrete j end) [
-          | yes e ↦ let l' : i < end = omega arith in rw (e, new_place, seed-grown.places i l') (s.before i l')
+          | yes e ↦ let l' : i < end = omega arith in rw (e, new_place, seed_grown.places i l') (s.before i l')
           | no d ↦
               let k' : j < end = omega arith in
               let l' : i < end = omega arith in
-              rw (seed-grown.places j k', seed-grown.places i l') (s.rising i j l k')
+              rw (seed_grown.places j k', seed_grown.places i l') (s.rising i j l k')
         ];
       }

@@ -60,8 +60,8 @@ module _ {G : Grid} {work : List ℕ} {end row col : ℕ} (ready : Ready G work 
       same_cell {q = q} l h f = let e : At p ≡ At q = sym found ∙ ap (neighbour_against G row col)
           (sym (same_step l h)) ∙ f in cc
 
-      pub donors-old : 0 < rank_of (cells G) work p → DonorsPushed G work end work end row col k (k + 1)
-      donors-old r =
+      pub donors_old : 0 < rank_of (cells G) work p → DonorsPushed G work end work end row col k (k + 1)
+      donors_old r =
           record {
             upstream = ready.upstream;
             grown = grown_none _ _ _;
@@ -69,9 +69,9 @@ module _ {G : Grid} {work : List ℕ} {end row col : ℕ} (ready : Ready G work 
                 (← same_cell l h f) r;
           }
 
-      pub donors-new : k < 8 → rank_of (cells G) work p ≡ 0
+      pub donors_new : k < 8 → rank_of (cells G) work p ≡ 0
           → DonorsPushed G work end (pushed (cells G) work end p (cell + 1)) (end + 1) row col k (k + 1)
-      donors-new kl free =
+      donors_new kl free =
           let e = found_next kl found in
           let p-on = neighbour_lt G row col k found in
           let queue = ready.upstream.queue in

@@ -13,7 +13,7 @@ use Rattle.sheet.specs.Water.{Passes, here, there}
 use Rattle.sheet.proofs.Cells.{inside_lt, next_goes, next_to_lt}
 use Rattle.upstream.specs.Work.{queued_at, rank_of, receiver_of, numbered, pushed}
 use Rattle.upstream.specs.Search.{Before, Upstream}
-use Rattle.upstream.proofs.Queues.{place_on, end_on, grown_push, queue-push, push_place, push_receiver}
+use Rattle.upstream.proofs.Queues.{place_on, end_on, grown_push, queue_push, push_place, push_receiver}
 use Rattle.upstream.proofs.Queues.{push_receiver_other}
 
 -- ---- receivers as numbers
@@ -71,7 +71,7 @@ module _ {G : Grid} {work : List ℕ} {queued : ℕ} (u : Upstream G work queued
 
 -- ---- a push
 
-module _ {G : Grid} {work : List ℕ} {end : ℕ} (u : Upstream G work end) (cell : ℕ) (cell-on : cell < cells G)
+module _ {G : Grid} {work : List ℕ} {end : ℕ} (u : Upstream G work end) (cell : ℕ) (cell_on : cell < cells G)
     (free : rank_of (cells G) work cell ≡ 0)
     (is-in : inside G cell ≡ true) (before : (r : ℕ) → next G cell ≡ To r → Before (cells G) work end r) where
   abbrev receiver : ℕ
@@ -81,22 +81,22 @@ module _ {G : Grid} {work : List ℕ} {end : ℕ} (u : Upstream G work end) (cel
   after = pushed (cells G) work end cell receiver
 
   new_place : queued_at after end ≡ cell
-  new_place = push_place (cells G) work end cell receiver u.queue.room (end_on u.queue cell cell-on free) cell-on
+  new_place = push_place (cells G) work end cell receiver u.queue.room (end_on u.queue cell cell_on free) cell_on
 
   old_place : (i : ℕ) → i < end → queued_at after i ≡ queued_at work i
-  old_place i l = (grown_push u.queue cell cell-on free receiver).places i l
+  old_place i l = (grown_push u.queue cell cell_on free receiver).places i l
 
   old_receiver : (i : ℕ) → i < end
       → receiver_of (cells G) after (queued_at work i) ≡ receiver_of (cells G) work (queued_at work i)
   old_receiver i l =
       push_receiver_other (cells G) work end cell receiver u.queue.room
-      (end_on u.queue cell cell-on free) cell-on (queued_at work i)
+      (end_on u.queue cell cell_on free) cell_on (queued_at work i)
       (λ e. let z : rank_of (cells G) work (queued_at work i) ≡ 0 = ap (rank_of (cells G) work) e ∙ free in omega
       (arith, (u.queue.item i l).rank))
 
   pub upstream_push : Upstream G after (end + 1)
   upstream_push = record {
-    queue = queue-push u.queue cell cell-on free receiver (λ r e. before r (numbered_to (next G cell) r e));
+    queue = queue_push u.queue cell cell_on free receiver (λ r e. before r (numbered_to (next G cell) r e));
     is_inside_lem = λ i l. elim (ℕ_discrete i end) [
       | yes e ↦ rw (e, new_place) is-in
       | no d ↦ let l' : i < end = omega arith in rw (old_place i l') (u.is_inside_lem i l')
@@ -104,7 +104,7 @@ module _ {G : Grid} {work : List ℕ} {end : ℕ} (u : Upstream G work end) (cel
     receiver = λ i l. elim (ℕ_discrete i end) [
       | yes e ↦ rw (e, new_place)
           (push_receiver (cells G) work end cell receiver u.queue.room
-          (end_on u.queue cell cell-on free) cell-on)
+          (end_on u.queue cell cell_on free) cell_on)
       | no d ↦ let l' : i < end = omega arith in rw (old_place i l') (old_receiver i l' ∙ u.receiver i l')
     ];
   }

@@ -7,7 +7,7 @@ use lib.ListN.{length}
 use Rattle.sheet.specs.declared.Found.TheVariants.{At}
 use Rattle.digits.specs.LastPlaces.{number_start, end_digits_of, written_last}
 use Rattle.digits.proofs.LabelPlaces.{rest_put, rest_refused, first_refused, rest_room, both_put}
-use Rattle.digits.proofs.LabelPlaces.{counts-short, counts-refused, counts-accepted, first_counted}
+use Rattle.digits.proofs.LabelPlaces.{counts_short, counts_refused, counts_accepted, first_counted}
 use Rattle.digits.proofs.put_label.Goals as goal
 use Rattle.digits.proofs.put_label.Goals.{After-put_number-in-At, In-At, In-At-put_number}
 
@@ -39,7 +39,7 @@ short : (c : In-At-put_number)
     → (c.in-At.rest - c.in-At-put_number.first ≤ 18)
     × (length c.args.out.now - c.in-At.rest ≤ 18)
 short c =
-    counts-short c.args.label _ _ c.requires (rest_found-In-At-put_number c) (rest_fits-In-At-put_number c) _ (first_found c)
+    counts_short c.args.label _ _ c.requires (rest_found-In-At-put_number c) (rest_fits-In-At-put_number c) _ (first_found c)
 
 -- what stands in the places
 places : (c : After-put_number-in-At)
@@ -69,7 +69,7 @@ counts_fit-requires c = short c
 pub returns-then-counts_fit : goal.returns-then-counts_fit
 returns-then-counts_fit c =
     let fits = sym c.counts_fit.ensures ∙ c.if-counts_fit.true in record {
-      start = counts-accepted c.args.label _ _ c.requires (rest_found (goal.at.returns-then-counts_fit c).In-At) (rest_fits (goal.at.returns-then-counts_fit c).In-At) _
+      start = counts_accepted c.args.label _ _ c.requires (rest_found (goal.at.returns-then-counts_fit c).In-At) (rest_fits (goal.at.returns-then-counts_fit c).In-At) _
           (first_found (goal.at.returns-then-counts_fit c).In-At-put_number) _ fits;
       places = places (goal.at.returns-then-counts_fit c).After-put_number-in-At;
     }
@@ -92,7 +92,7 @@ returns-in-Nothing-put_number c =
 pub returns-else-counts_fit : goal.returns-else-counts_fit
 returns-else-counts_fit c =
     let unfit = sym c.counts_fit.ensures ∙ c.if-counts_fit.false in record {
-      start = counts-refused c.args.label _ _ c.requires (rest_found (goal.at.returns-else-counts_fit c).In-At) (rest_fits (goal.at.returns-else-counts_fit c).In-At) _
+      start = counts_refused c.args.label _ _ c.requires (rest_found (goal.at.returns-else-counts_fit c).In-At) (rest_fits (goal.at.returns-else-counts_fit c).In-At) _
           (first_found (goal.at.returns-else-counts_fit c).In-At-put_number) _ unfit;
       places = places (goal.at.returns-else-counts_fit c).After-put_number-in-At;
     }

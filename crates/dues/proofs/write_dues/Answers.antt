@@ -3,8 +3,8 @@
 use Prim.Native.Nat.{◌+◌, ◌-◌}
 use native.Mathlib.Omega.{arith}
 use Rattle.index.specs.Steps.{Group}
-use Rattle.dues.proofs.Sharing.{sharing_starts, weight-most, product-fits, together-more, place-left}
-use Rattle.dues.proofs.Sharing.{place-few, part_weighed, sharing-goes-on, sharing_ends}
+use Rattle.dues.proofs.Sharing.{sharing_starts, weight_most, product_fits, together_more, place_left}
+use Rattle.dues.proofs.Sharing.{place_few, part_weighed, sharing_goes_on, sharing_ends}
 use Rattle.dues.proofs.write_dues.Goals as goal
 use Rattle.dues.proofs.write_dues.Goals.{After-last_of_group-end}
 
@@ -46,31 +46,31 @@ weight_of-weight-requires c =
 
 pub overflow_add-weight : goal.overflow_add-weight
 overflow_add-weight c =
-    let m = weight-most _ _ _ _ _ _ _ _ c.requires c.loop-first.invariant (group (goal.at.overflow_add-weight c).After-last_of_group-end) in
+    let m = weight_most _ _ _ _ _ _ _ _ c.requires c.loop-first.invariant (group (goal.at.overflow_add-weight c).After-last_of_group-end) in
     omega (arith, c.weight_of-weight.ensures, m)
 
 pub overflow_mul-together : goal.overflow_mul-together
 overflow_mul-together c =
-    let m = product-fits _ _ _ _ _ _ _ _ c.requires c.loop-first.invariant (group (goal.at.overflow_mul-together c).After-last_of_group-end) in
+    let m = product_fits _ _ _ _ _ _ _ _ c.requires c.loop-first.invariant (group (goal.at.overflow_mul-together c).After-last_of_group-end) in
     rw c.weight_of-weight.ensures (omega (arith, m))
 
 pub overflow_sub-dues : goal.overflow_sub-dues
 overflow_sub-dues c =
     rw c.weight_of-weight.ensures
-    (together-more _ _ _ _ _ _ _ _ c.requires c.loop-first.invariant (group (goal.at.overflow_sub-dues c).After-last_of_group-end))
+    (together_more _ _ _ _ _ _ _ _ c.requires c.loop-first.invariant (group (goal.at.overflow_sub-dues c).After-last_of_group-end))
 
 pub offset_bounds-dues-at : goal.offset_bounds-dues-at
 offset_bounds-dues-at c =
-    let m = place-few _ _ _ _ _ _ _ _ c.requires c.loop-first.invariant (group (goal.at.offset_bounds-dues-at c).After-last_of_group-end) in
+    let m = place_few _ _ _ _ _ _ _ _ c.requires c.loop-first.invariant (group (goal.at.offset_bounds-dues-at c).After-last_of_group-end) in
     omega (arith, m, c.requires.labelled.few)
 
 pub bounds-dues-at : goal.bounds-dues-at
 bounds-dues-at c =
-    omega (arith, place-left _ _ _ _ _ _ _ _ c.requires c.loop-first.invariant (group (goal.at.bounds-dues-at c).After-last_of_group-end))
+    omega (arith, place_left _ _ _ _ _ _ _ _ c.requires c.loop-first.invariant (group (goal.at.bounds-dues-at c).After-last_of_group-end))
 
 pub overflow_add-at : goal.overflow_add-at
 overflow_add-at c =
-    let m = place-few _ _ _ _ _ _ _ _ c.requires c.loop-first.invariant (group (goal.at.overflow_add-at c).After-last_of_group-end) in
+    let m = place_few _ _ _ _ _ _ _ _ c.requires c.loop-first.invariant (group (goal.at.overflow_add-at c).After-last_of_group-end) in
     omega (arith, m, c.requires.labelled.few)
 
 pub loop-first-smaller : goal.loop-first-smaller
@@ -80,7 +80,7 @@ loop-first-smaller c =
 pub loop-first-preserved : goal.loop-first-preserved
 loop-first-preserved c =
     rw c.weight_of-weight.ensures
-    (sharing-goes-on _ _ _ _ _ _ _ _ c.requires c.loop-first.invariant (group (goal.at.loop-first-preserved c).After-last_of_group-end))
+    (sharing_goes_on _ _ _ _ _ _ _ _ c.requires c.loop-first.invariant (group (goal.at.loop-first-preserved c).After-last_of_group-end))
 
 pub shape_of-dues : goal.shape_of-dues
 shape_of-dues c = c.loop-first.invariant.same_length

@@ -11,7 +11,7 @@ use Rattle.sheet.specs.Record.{digits_of}
 use Rattle.sheet.specs.Flow.{is_label}
 use Rattle.digits.specs.LastPlaces.{label_start}
 use Rattle.digits.proofs.LabelPlaces.{found_label, found_within, found_digits, found_none}
-use Rattle.flow.proofs.Judged.{q-refused, other-basin, same, unequal}
+use Rattle.flow.proofs.Judged.{q_refused, other_basin, same, unequal}
 use Rattle.flow.proofs.answer_by_digits.Goals as goal
 use Rattle.flow.proofs.answer_by_digits.Goals.{In-At}
 
@@ -44,7 +44,7 @@ put_label-requires c = omega arith
 pub returns-then-p-q : goal.returns-then-p-q
 returns-then-p-q c =
     let asked = c.requires in
-    other-basin _ _ _ _ asked.depth_value asked.label_value (q-label (goal.at.returns-then-p-q c).In-At) c.if-p-q.true
+    other_basin _ _ _ _ asked.depth_value asked.label_value (q-label (goal.at.returns-then-p-q c).In-At) c.if-p-q.true
 
 pub returns-then-same_label : goal.returns-then-same_label
 returns-then-same_label c =
@@ -61,7 +61,7 @@ slice_bounds-answer_at-start c = within (goal.at.slice_bounds-answer_at-start c)
 pub returns-in-Nothing : goal.returns-in-Nothing
 returns-in-Nothing c =
     let none = found_none _ _ _ (sym c.put_label.ensures.start ∙ c.in-Nothing.is) in
-    q-refused _ _ _ _ c.requires.depth_value c.requires.label_value none
+    q_refused _ _ _ _ c.requires.depth_value c.requires.label_value none
 
 pub returns-else-same_label : goal.returns-else-same_label
 returns-else-same_label c =

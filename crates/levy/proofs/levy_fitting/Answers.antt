@@ -8,7 +8,7 @@ use Rattle.sheet.specs.Record.{label_places}
 use Rattle.sheet.specs.Refusal.{Lent}
 use Rattle.sheet.proofs.Cells.{cells_most}
 use Rattle.labelling.specs.Labelling.{sheet, lent}
-use Rattle.levy.proofs.Steps.{Lengths, in-order-levy, levied_fitting}
+use Rattle.levy.proofs.Steps.{Lengths, in_order_levy, levied_fitting}
 use Rattle.levy.proofs.levy_fitting.Goals as goal
 use Rattle.levy.proofs.levy_fitting.Goals.{After-label_in_order-found}
 
@@ -42,7 +42,7 @@ overflow_mul-rows c =
 pub levy_in_order-answer-requires : goal.levy_in_order-answer-requires
 levy_in_order-answer-requires c =
     λ e.
-    in-order-levy _ _ c.requires.work_value c.requires.fitting c.label_in_order-found.ensures (long (goal.at.levy_in_order-answer-requires c).After-label_in_order-found) _ _ e c.requires.total_le_greatest_total _
+    in_order_levy _ _ c.requires.work_value c.requires.fitting c.label_in_order-found.ensures (long (goal.at.levy_in_order-answer-requires c).After-label_in_order-found) _ _ e c.requires.total_le_greatest_total _
 
 pub returns : goal.returns
 returns c =

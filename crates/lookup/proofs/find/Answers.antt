@@ -9,7 +9,7 @@ use Rattle.sheet.specs.declared.Label.{Label}
 use Rattle.sheet.specs.Record.{labels_in, units_in}
 use Rattle.sheet.specs.Flow.{every, is_label}
 use Rattle.lookup.specs.Lookup.{greatest_depth, is_rising}
-use Rattle.lookup.proofs.Answers.{answer_3, answer_11, entries-11, answer-16, answer-part}
+use Rattle.lookup.proofs.Answers.{answer_3, answer_11, entries_11, answer_16, answer_part}
 use Rattle.lookup.proofs.Counted.{labels_counted}
 use Rattle.lookup.proofs.find.Goals as goal
 use Rattle.lookup.proofs.find.Goals.{Else-basins-label_count, Then-all_labels, Then-is_label, Then-is_rising}
@@ -57,19 +57,19 @@ part_found-requires c = record {
 
 pub returns-then-is_rising : goal.returns-then-is_rising
 returns-then-is_rising c =
-    let both = answer-part _ _ _ (enough (goal.at.returns-then-is_rising c).Else-basins-label_count) (label-known (goal.at.returns-then-is_rising c).Then-is_label) (entries-known (goal.at.returns-then-is_rising c).Then-all_labels) (rises-known (goal.at.returns-then-is_rising c).Then-is_rising)
+    let both = answer_part _ _ _ (enough (goal.at.returns-then-is_rising c).Else-basins-label_count) (label-known (goal.at.returns-then-is_rising c).Then-is_label) (entries-known (goal.at.returns-then-is_rising c).Then-all_labels) (rises-known (goal.at.returns-then-is_rising c).Then-is_rising)
     _ c.part_found.ensures in
     record { answer = both.0; values = both.1 }
 
 pub returns-then-all_labels : goal.returns-then-all_labels
 returns-then-all_labels c =
-    let both = answer-16 _ _ _ (enough (goal.at.returns-then-all_labels c).Else-basins-label_count) (label-known (goal.at.returns-then-all_labels c).Then-is_label) (entries-known (goal.at.returns-then-all_labels c).Then-all_labels)
+    let both = answer_16 _ _ _ (enough (goal.at.returns-then-all_labels c).Else-basins-label_count) (label-known (goal.at.returns-then-all_labels c).Then-is_label) (entries-known (goal.at.returns-then-all_labels c).Then-all_labels)
     (sym c.is_rising.ensures ∙ c.if-is_rising.false) in
     record { answer = both.0; values = both.1 }
 
 pub returns-then-is_label : goal.returns-then-is_label
 returns-then-is_label c =
-    let both = entries-11 _ _ _ (enough (goal.at.returns-then-is_label c).Else-basins-label_count) (label-known (goal.at.returns-then-is_label c).Then-is_label) (sym c.all_labels.ensures ∙ c.if-all_labels.false) in
+    let both = entries_11 _ _ _ (enough (goal.at.returns-then-is_label c).Else-basins-label_count) (label-known (goal.at.returns-then-is_label c).Then-is_label) (sym c.all_labels.ensures ∙ c.if-all_labels.false) in
     record { answer = both.0; values = both.1 }
 
 pub returns : goal.returns

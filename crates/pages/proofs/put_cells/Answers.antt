@@ -13,7 +13,7 @@ use Rattle.pages.specs.Line.{texts_fit, value_texts, cell_texts}
 use Rattle.pages.specs.Page.{inside_below, inside_cells, page_cells, cell_lines, atlas_line}
 use Rattle.pages.proofs.PageLaws.{below_few, none_before, seen_outside, seen_inside, page_outside, page_off}
 use Rattle.pages.proofs.PageLaws.{page_on}
-use Rattle.pages.proofs.Putting.{columns_of, so_far_room, cell_fits, cell_room, put-here}
+use Rattle.pages.proofs.Putting.{columns_of, so_far_room, cell_fits, cell_room, put_here}
 use Rattle.pages.proofs.put_cells.Goals as goal
 use Rattle.pages.proofs.put_cells.Goals.{After-label_at-label, At-loop-cell, Else-seen-page, Start}
 
@@ -139,7 +139,7 @@ loop-cell-preserved c =
     let on = c.loop-cell-test.true in (
       omega arith,
       seen_inside (G (goal.at.loop-cell-preserved c).Start) a.page c.loop-cell.cell on c.if-code-eq0.false c.loop-cell.invariant.1,
-      put-here (G (goal.at.loop-cell-preserved c).Start) a.areas.now a.labels.now a.basins.now a.page c.loop-cell.cell on (page-here (goal.at.loop-cell-preserved c).Else-seen-page)
+      put_here (G (goal.at.loop-cell-preserved c).Start) a.areas.now a.labels.now a.basins.now a.page c.loop-cell.cell on (page-here (goal.at.loop-cell-preserved c).Else-seen-page)
           c.requires.1 c.requires.2 c.loop-cell.invariant.2 (rw (this-cell (goal.at.loop-cell-preserved c).After-label_at-label) at c.put_cell-next.ensures),
     )
 

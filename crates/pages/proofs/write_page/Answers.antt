@@ -19,7 +19,7 @@ use Rattle.pages.specs.Page.{inside_cells, page_cells, cell_lines, atlas_line, p
 use Rattle.pages.specs.Writing.{page_fits, page_into}
 use Rattle.pages.proofs.PageLaws.{page_few, below_few}
 use Rattle.pages.proofs.Answers.{names_length, page_parts, no_page, page_length, refused_fault, too_wide_lem}
-use Rattle.pages.proofs.Answers.{page-into}
+use Rattle.pages.proofs.Answers.{page_into_lem}
 use Rattle.pages.proofs.write_page.Goals as goal
 use Rattle.pages.proofs.write_page.Goals.{After-count_on_page-count, After-put_line-at, Else-count-eq0, Else-fault-ne0, Else-out-count, Else-page_fits, Start, Then-page_fits}
 
@@ -140,7 +140,7 @@ into : (c : After-count_on_page-count)
     ≡ text_into (text-After-count_on_page-count c) a.out.now
 into c =
     let a = c.args in
-    page-into (G-After-count_on_page-count c) a.areas.now a.labels.now a.basins.now a.page a.out.now (no-fault-at-After-count_on_page-count c)
+    page_into_lem (G-After-count_on_page-count c) a.areas.now a.labels.now a.basins.now a.page a.out.now (no-fault-at-After-count_on_page-count c)
     (fits-After-count_on_page-count c)
 
 -- few cells are counted

@@ -8,7 +8,7 @@ use Rattle.sheet.specs.declared.Label.{Label}
 use Rattle.sheet.specs.Record.{labels_in}
 use Rattle.lookup.proofs.Counted.{labels_counted}
 use Rattle.plan.specs.Plan.{index_fault}
-use Rattle.plan.proofs.Answers.{index_judged, answer_fault, answer_3, answer-plan}
+use Rattle.plan.proofs.Answers.{index_judged, answer_fault, answer_3, answer_plan}
 use Rattle.plan.proofs.check_plan.Goals as goal
 use Rattle.plan.proofs.check_plan.Goals.{After-label_count-count, Else-fault-ne0, Else-work-count, Start}
 
@@ -61,7 +61,7 @@ judge_from_start-answer-requires c = record {
 
 pub returns : goal.returns
 returns c =
-    let all = answer-plan (labels_at (goal.at.returns c).Start) (plan_at (goal.at.returns c).Start) c.args.work.now (no_fault (goal.at.returns c).Else-fault-ne0)
+    let all = answer_plan (labels_at (goal.at.returns c).Start) (plan_at (goal.at.returns c).Start) c.args.work.now (no_fault (goal.at.returns c).Else-fault-ne0)
     (omega (arith, counted (goal.at.returns c).After-label_count-count, c.if-work-count.false)) c.judge_from_start-answer.result
     c.judge_from_start-answer.ensures.answer c.label_count-count.result (counted (goal.at.returns c).After-label_count-count) c.judge_from_start-answer.new.work
     (c.judge_from_start-answer.auto.work ∙ lent (goal.at.returns c).Else-work-count) in

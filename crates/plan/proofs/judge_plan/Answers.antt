@@ -10,7 +10,7 @@ use Rattle.sheet.specs.Record.{labels_in, label_at, label_places}
 use Rattle.lookup.proofs.Counted.{labels_counted}
 use Rattle.plan.specs.declared.PlanAnswer.{PlanAnswer}
 use Rattle.plan.specs.Steps.{PlaceJudged, PlanJudged, place_judged}
-use Rattle.plan.proofs.Judging.{WorkFor, judged_work_for, plan_end, plan-refused, plan-turn}
+use Rattle.plan.proofs.Judging.{WorkFor, judged_work_for, plan_end, plan_refused, plan_turn}
 use Rattle.plan.proofs.judge_plan.Goals as goal
 use Rattle.plan.proofs.judge_plan.Goals.{After-judge_place-number, At-loop-k, In-loop-k}
 
@@ -71,7 +71,7 @@ shape_of-work-then-number-ne0 c =
 
 pub returns-then-number-ne0 : goal.returns-then-number-ne0
 returns-then-number-ne0 c =
-    sym (plan-refused _ _ _ _ (inside (goal.at.returns-then-number-ne0 c).In-loop-k) (step (goal.at.returns-then-number-ne0 c).After-judge_place-number) (judged (goal.at.returns-then-number-ne0 c).After-judge_place-number) c.if-number-ne0.true) ∙ c.loop-k.invariant.0
+    sym (plan_refused _ _ _ _ (inside (goal.at.returns-then-number-ne0 c).In-loop-k) (step (goal.at.returns-then-number-ne0 c).After-judge_place-number) (judged (goal.at.returns-then-number-ne0 c).After-judge_place-number) c.if-number-ne0.true) ∙ c.loop-k.invariant.0
 
 pub overflow_add-k : goal.overflow_add-k
 overflow_add-k c = omega arith
@@ -81,7 +81,7 @@ loop-k-smaller c = omega arith
 
 pub loop-k-preserved : goal.loop-k-preserved
 loop-k-preserved c = (
-  plan-turn _ _ _ _ (inside (goal.at.loop-k-preserved c).In-loop-k) (step (goal.at.loop-k-preserved c).After-judge_place-number) (judged (goal.at.loop-k-preserved c).After-judge_place-number) c.if-number-ne0.false ∙ c.loop-k.invariant.0,
+  plan_turn _ _ _ _ (inside (goal.at.loop-k-preserved c).In-loop-k) (step (goal.at.loop-k-preserved c).After-judge_place-number) (judged (goal.at.loop-k-preserved c).After-judge_place-number) c.if-number-ne0.false ∙ c.loop-k.invariant.0,
   work_for (goal.at.loop-k-preserved c).After-judge_place-number,
 )
 

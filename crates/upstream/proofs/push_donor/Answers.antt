@@ -8,7 +8,7 @@ use Rattle.directions.specs.Steps.{neighbour_against}
 use Rattle.sheet.proofs.Cells.{cells_most, cell_lt}
 use Rattle.directions.proofs.Neighbours.{neighbour_lt}
 use Rattle.upstream.proofs.Queues.{end_on}
-use Rattle.upstream.proofs.Spreading.{donors_off, donors-old, donors-new}
+use Rattle.upstream.proofs.Spreading.{donors_off, donors_old, donors_new}
 use Rattle.upstream.proofs.push_donor.Goals as goal
 use Rattle.upstream.proofs.push_donor.Goals.{In-At, Start}
 
@@ -101,12 +101,12 @@ returns-then-work-n-eq0 c =
     rw (
       c.push.ensures.0,
       c.push.ensures.1,
-    ) (donors-new c.requires.0 _
+    ) (donors_new c.requires.0 _
     (found (goal.at.returns-then-work-n-eq0 c).In-At)
     c.requires.1
     c.if-work-n-eq0.true)
 
 pub returns-else-work-n-eq0 : goal.returns-else-work-n-eq0
 returns-else-work-n-eq0 c =
-    donors-old c.requires.0 _ (found (goal.at.returns-else-work-n-eq0 c).In-At)
+    donors_old c.requires.0 _ (found (goal.at.returns-else-work-n-eq0 c).In-At)
     (omega (arith, c.if-work-n-eq0.false))

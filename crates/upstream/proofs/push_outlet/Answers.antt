@@ -6,7 +6,7 @@ use native.Mathlib.Omega.{arith}
 use Rattle.sheet.specs.Sheet.{grid, is_outlet}
 use Rattle.sheet.proofs.Cells.{cells_most, cell_lt}
 use Rattle.upstream.proofs.Queues.{end_on}
-use Rattle.upstream.proofs.Seeds.{seed-free, seed-grown, seeded_none, seeded-push}
+use Rattle.upstream.proofs.Seeds.{seed_free, seed_grown, seeded_none, seeded_push}
 use Rattle.upstream.proofs.push_outlet.Goals as goal
 use Rattle.upstream.proofs.push_outlet.Goals.{Start, Then-is_outlet}
 
@@ -50,7 +50,7 @@ push-requires c =
     let on = on_sheet_lem (goal.at.push-requires c).Start in (
       s.upstream.queue.room,
       cells_fit (goal.at.push-requires c).Start,
-      end_on s.upstream.queue _ on (seed-free _ s on (is (goal.at.push-requires c).Then-is_outlet)),
+      end_on s.upstream.queue _ on (seed_free _ s on (is (goal.at.push-requires c).Then-is_outlet)),
       on,
       omega arith,
     )
@@ -63,8 +63,8 @@ returns-then-is_outlet c =
       c.push.ensures.0,
       c.push.ensures.1,
     ) (
-      seeded-push _ s on (is (goal.at.returns-then-is_outlet c).Then-is_outlet),
-      (seed-grown _ s on (is (goal.at.returns-then-is_outlet c).Then-is_outlet)).kept,
+      seeded_push _ s on (is (goal.at.returns-then-is_outlet c).Then-is_outlet),
+      (seed_grown _ s on (is (goal.at.returns-then-is_outlet c).Then-is_outlet)).kept,
     )
 
 pub returns-else-is_outlet : goal.returns-else-is_outlet

@@ -7,7 +7,7 @@ use lib.ListN.{length}
 use Rattle.sheet.specs.Sheet.{grid}
 use Rattle.sheet.proofs.Cells.{cells_most}
 use Rattle.order.specs.Places.{outlets_in, positioned, Placed}
-use Rattle.order.proofs.Queued.{queue_most, outlets_first, outlets_fit, placed_none, standing, placed-more}
+use Rattle.order.proofs.Queued.{queue_most, outlets_first, outlets_fit, placed_none, standing, placed_more}
 use Rattle.order.proofs.positions.place_all.Goals as goal
 use Rattle.order.proofs.positions.place_all.Goals.{At-loop-i, Start}
 
@@ -77,7 +77,7 @@ loop-i-preserved c =
     let l = c.loop-i in (
       omega arith,
       c.place_upstream.auto.work ∙ l.invariant.1,
-      λ w s e. placed-more s (l.invariant.2 w s e) c.loop-i-test.true
+      λ w s e. placed_more s (l.invariant.2 w s e) c.loop-i-test.true
           c.place_upstream.ensures,
     )
 

@@ -5,8 +5,8 @@ use Prim.Native.Nat.{ℕ, ◌*◌, ◌≤◌, ◌<◌}
 use native.Mathlib.Omega.{arith}
 use lib.ListN.{length, length-set}
 use Rattle.upstream.specs.Work.{queued_at, receiver_of}
-use Rattle.order.proofs.Placing.{outlets_none, outlets_all, cell-on, outlets-end, next_fits}
-use Rattle.order.proofs.Placing.{outlets-more}
+use Rattle.order.proofs.Placing.{outlets_none, outlets_all, cell_on, outlets_end, next_fits}
+use Rattle.order.proofs.Placing.{outlets_more}
 use Rattle.order.proofs.positions.place_outlets.Goals as goal
 use Rattle.order.proofs.positions.place_outlets.Goals.{Else-work-n-gt0, In-loop-i}
 
@@ -24,7 +24,7 @@ places c =
     let l = c.loop-i in
     record {
       small = p.fit.small;
-      on = cell-on p l.invariant.1 c.loop-i-test.true;
+      on = cell_on p l.invariant.1 c.loop-i-test.true;
       fits = omega (arith, p.fit.room, l.invariant.1.same);
     }
 
@@ -65,7 +65,7 @@ pub returns-then-work-n-gt0 : goal.returns-then-work-n-gt0
 returns-then-work-n-gt0 c =
     let p = c.requires in
     let l = c.loop-i in
-    outlets-end p l.invariant.1 c.loop-i-test.true c.if-work-n-gt0.true
+    outlets_end p l.invariant.1 c.loop-i-test.true c.if-work-n-gt0.true
 
 pub overflow_mul-work : goal.overflow_mul-work
 overflow_mul-work c = let p = places (goal.at.overflow_mul-work c).In-loop-i in omega (arith, p.on, p.small, p.fits)
@@ -103,7 +103,7 @@ overflow_add-at-in-loop-i c = record {
 pub loop-i-preserved : goal.loop-i-preserved
 loop-i-preserved c = (
   omega arith,
-  outlets-more c.requires
+  outlets_more c.requires
       c.loop-i.invariant.1 c.loop-i-test.true
       (none-on (goal.at.loop-i-preserved c).Else-work-n-gt0),
 )

@@ -1,7 +1,7 @@
 -- `rivers::heaviest::heaviest` meets its contract. Invariant: the largest keys of the mouths passed, whatever unit lies
 -- at these positions.
 use native.Mathlib.Omega.{arith}
-use Rattle.rivers.proofs.Largest.{passed_none, passed_stem, passed-skip, passed-with, passed_all}
+use Rattle.rivers.proofs.Largest.{passed_none, passed_stem, passed_skip, passed_with, passed_all}
 use Rattle.rivers.proofs.heaviest.heaviest.Goals as goal
 
 pub overflow_cast-floor : goal.overflow_cast-floor
@@ -65,7 +65,7 @@ loop-j-smaller-then-key-top c =
 
 pub loop-j-preserved-then-key-top : goal.loop-j-preserved-then-key-top
 loop-j-preserved-then-key-top c =
-    λ u. passed-skip c.requires.layout u
+    λ u. passed_skip c.requires.layout u
     c.loop-j-test.true c.key_at-key.ensures
     c.if-j-s.false (omega (arith, c.if-key-top.true))
     (c.loop-j.invariant u)
@@ -90,7 +90,7 @@ pub loop-j-preserved : goal.loop-j-preserved
 loop-j-preserved c =
     let e = c.with-top.ensures in
     λ u.
-    passed-with c.requires.layout u
+    passed_with c.requires.layout u
     c.loop-j-test.true c.key_at-key.ensures
     c.if-j-s.false c.if-key-top.false
     e.met e.first e.second e.third e.fourth

@@ -3,8 +3,8 @@ use Rattle.std.proofs.Common.{◌∙◌, ◌<◌, arith, length, refl}
 use Rattle.rivers.proofs.Prefixes.{prefix_more}
 use Rattle.rivers.proofs.Labelling.{filled_zero, filled_finished}
 use Rattle.rivers.proofs.Progress.{river_unit, progress_none, progress_stem, progress_skip}
-use Rattle.rivers.proofs.Progress.{progress-take, progress-room, progress-unit}
-use Rattle.rivers.proofs.Progress.{progress-last, progress-last-room, progress-last-unit}
+use Rattle.rivers.proofs.Progress.{progress_take, progress_room, progress_unit}
+use Rattle.rivers.proofs.Progress.{progress_last, progress_last_room, progress_last_unit}
 use Rattle.rivers.proofs.Bounds.{measure_digit, measure_length, places_at}
 use Rattle.rivers.proofs.units.+label_river_label_run.Goals as goal
 
@@ -56,7 +56,7 @@ pub label_run-with_digit-run-requires-clause-le_digit :
 label_run-with_digit-run-requires-clause-le_digit t c =
     let u = c.requires.unit_at in
     let now = c.loop-j.invariant.1 u c.requires.prefix in
-    let most = progress-room c.requires.places.for_areas u (c.heaviest-cut.ensures u) c.loop-j-test.true
+    let most = progress_room c.requires.places.for_areas u (c.heaviest-cut.ensures u) c.loop-j-test.true
     c.if-j-s.false c.key_at.ensures now c.if-key_at-key.false in
     (omega (arith, now.digit_is), omega (arith, most))
 
@@ -66,12 +66,12 @@ label_run-label_run-requires t c =
     let p = c.requires.prefix in
     let y = c.requires.places in
     let now = c.loop-j.invariant.1 u p in
-    let most = progress-room y.for_areas u (c.heaviest-cut.ensures u) c.loop-j-test.true c.if-j-s.false
+    let most = progress_room y.for_areas u (c.heaviest-cut.ensures u) c.loop-j-test.true c.if-j-s.false
     c.key_at.ensures now c.if-key_at-key.false in
     let on : c.loop-j.j < length c.args.cell.now = omega (arith, u.before_end, u.end_within) in (
       rw (← c.decreases) (measure_digit _ _ _ _ (omega arith) (omega arith)),
       (
-        progress-unit y.for_areas u (c.heaviest-cut.ensures u) c.loop-j-test.true c.if-j-s.false c.key_at.ensures now
+        progress_unit y.for_areas u (c.heaviest-cut.ensures u) c.loop-j-test.true c.if-j-s.false c.key_at.ensures now
             c.if-key_at-key.false,
         (
           places_at c.loop-j.invariant.0 y,
@@ -84,7 +84,7 @@ label_run-label_run-requires t c =
 pub label_run-overflow_add-digit : goal.label_run-overflow_add-digit
 label_run-overflow_add-digit t c =
     let u = c.requires.unit_at in
-    let most = progress-room c.requires.places.for_areas u (c.heaviest-cut.ensures u) c.loop-j-test.true
+    let most = progress_room c.requires.places.for_areas u (c.heaviest-cut.ensures u) c.loop-j-test.true
     c.if-j-s.false c.key_at.ensures (c.loop-j.invariant.1 u c.requires.prefix) c.if-key_at-key.false in
     omega (arith, most)
 
@@ -92,7 +92,7 @@ pub label_run-with_digit-tributary-requires-clause-le_digit :
     goal.label_run-with_digit-tributary-requires-clause-le_digit
 label_run-with_digit-tributary-requires-clause-le_digit t c =
     let u = c.requires.unit_at in
-    let most = progress-room c.requires.places.for_areas u (c.heaviest-cut.ensures u) c.loop-j-test.true
+    let most = progress_room c.requires.places.for_areas u (c.heaviest-cut.ensures u) c.loop-j-test.true
     c.if-j-s.false c.key_at.ensures (c.loop-j.invariant.1 u c.requires.prefix) c.if-key_at-key.false in
     (omega arith, omega (arith, most))
 
@@ -101,7 +101,7 @@ label_run-label_river-requires t c =
     let u = c.requires.unit_at in
     let p = c.requires.prefix in
     let y = c.requires.places in
-    let most = progress-room y.for_areas u (c.heaviest-cut.ensures u) c.loop-j-test.true c.if-j-s.false
+    let most = progress_room y.for_areas u (c.heaviest-cut.ensures u) c.loop-j-test.true c.if-j-s.false
     c.key_at.ensures (c.loop-j.invariant.1 u p) c.if-key_at-key.false in
     let on : c.loop-j.j < length c.args.cell.now = omega (arith, u.before_end, u.end_within) in
     let within = y.for_areas.within c.loop-j.j on in (
@@ -123,7 +123,7 @@ pub label_run-overflow_add-digit-else-key_at-key :
     goal.label_run-overflow_add-digit-else-key_at-key
 label_run-overflow_add-digit-else-key_at-key t c =
     let u = c.requires.unit_at in
-    let most = progress-room c.requires.places.for_areas u (c.heaviest-cut.ensures u) c.loop-j-test.true
+    let most = progress_room c.requires.places.for_areas u (c.heaviest-cut.ensures u) c.loop-j-test.true
     c.if-j-s.false c.key_at.ensures (c.loop-j.invariant.1 u c.requires.prefix) c.if-key_at-key.false in
     omega (arith, most)
 
@@ -135,8 +135,8 @@ label_run-loop-j-preserved t c =
       λ u p.
           let by = c.heaviest-cut.ensures u in
           let now = c.loop-j.invariant.1 u p in
-          let most = progress-room y u by c.loop-j-test.true c.if-j-s.false c.key_at.ensures now c.if-key_at-key.false in
-          progress-take y u by c.loop-j-test.true c.if-j-s.false c.key_at.ensures now c.if-key_at-key.false
+          let most = progress_room y u by c.loop-j-test.true c.if-j-s.false c.key_at.ensures now c.if-key_at-key.false in
+          progress_take y u by c.loop-j-test.true c.if-j-s.false c.key_at.ensures now c.if-key_at-key.false
           (λ w. c.label_run.ensures w
           (prefix_more p (omega arith) (omega (arith, now.digit_is)) (omega (arith, most))
           (c.with_digit-run.ensures p.gathered p.one_to_nine p.held)))
@@ -151,7 +151,7 @@ pub label_run-with_digit-run-requires-2-clause-le_digit :
 label_run-with_digit-run-requires-2-clause-le_digit t c =
     let u = c.requires.unit_at in
     let now = c.loop-j.invariant.1 u c.requires.prefix in
-    (omega (arith, now.digit_is), progress-last-room c.requires.places.for_areas u c.loop-j-test.false now)
+    (omega (arith, now.digit_is), progress_last_room c.requires.places.for_areas u c.loop-j-test.false now)
 
 pub label_run-label_run-requires-2 : goal.label_run-label_run-requires-2
 label_run-label_run-requires-2 t c =
@@ -161,11 +161,11 @@ label_run-label_run-requires-2 t c =
     let now = c.loop-j.invariant.1 u p in (
       rw (← c.decreases) (measure_digit _ _ _ _ (omega arith) (omega arith)),
       (
-        progress-last-unit y.for_areas u c.loop-j-test.false now,
+        progress_last_unit y.for_areas u c.loop-j-test.false now,
         (
           places_at c.loop-j.invariant.0 y,
           prefix_more p (omega arith) (omega (arith, now.digit_is))
-              (progress-last-room y.for_areas u c.loop-j-test.false now)
+              (progress_last_room y.for_areas u c.loop-j-test.false now)
               (c.with_digit-run-2.ensures p.gathered p.one_to_nine p.held),
         ),
       ),
@@ -177,7 +177,7 @@ label_run-returns t c =
     let y = c.requires.places.for_areas in
     λ u p.
     let now = c.loop-j.invariant.1 u p in
-    progress-last y u c.loop-j-test.false now
+    progress_last y u c.loop-j-test.false now
     (λ w. c.label_run-2.ensures w
-    (prefix_more p (omega arith) (omega (arith, now.digit_is)) (progress-last-room y u c.loop-j-test.false now)
+    (prefix_more p (omega arith) (omega (arith, now.digit_is)) (progress_last_room y u c.loop-j-test.false now)
     (c.with_digit-run-2.ensures p.gathered p.one_to_nine p.held)))

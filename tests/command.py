@@ -107,7 +107,7 @@ def streams(command):
              'a text that is cut short after a page': 'trap "" XFSZ; ulimit -f 5; "$0" "$2"'}
     for what, line in lines.items():
         got = run(['bash', '-c', line, command.path(), SAMPLE, LARGEST])
-        told = command.begins(got.stderr) and b': standard ' in got.stderr and got.stderr.count(b'\n') == 1
+        told = got.stderr.startswith(b'%s: standard ' % command.name.encode()) and got.stderr.count(b'\n') == 1
         command.expect(what, got.status == 2 and got.stdout == b'' and told)
 
 

@@ -3,10 +3,12 @@
 #![tactic(auto)]
 
 use atlas_file::write_verdict_page;
+use faults::Sizes;
 use programs::{
-    CELLS, Input, LABEL_NUMBERS, REPORT_BYTES, ROWS, WORK_PLACES, complain, print_text, read_input,
+    CELLS, LABEL_NUMBERS, REPORT_BYTES, ROWS, WORK_PLACES, complain, print_text, read_input,
 };
-use report::{Verdict, verdict_of};
+use report::verdict_of;
+use sheet::Refusal;
 use std::io;
 
 // The most pages that the cells of the largest sheet fill, 59 cells a page. Later pages have no byte.
@@ -16,7 +18,7 @@ const PAGES: usize = 35;
 fn print_pages<W: io::Write, E: io::Write>(
     output: &mut W,
     errors: &mut E,
-    verdict: Verdict,
+    verdict: Result<Sizes, Refusal>,
     dirs: &[u8],
     areas: &[u32],
     labels: &[u64],
@@ -25,10 +27,9 @@ fn print_pages<W: io::Write, E: io::Write>(
 ) {
     for page in 1..=PAGES {
         let answer = write_verdict_page(verdict, dirs, areas, labels, basins, page, out);
-        if print_text(output, errors, b"atlas", answer, out) {
-            continue;
+        if !print_text(output, errors, b"atlas", answer, out) {
+            return;
         }
-        return;
     }
 }
 
@@ -40,32 +41,31 @@ fn main(rt: HostRuntime) {
     let mut basins = [0u32; CELLS];
     let mut work = [0u32; WORK_PLACES];
     let mut out = [0u8; REPORT_BYTES];
-    match read_input(&mut rt.stdin(), &mut dirs, &mut weights) {
-        Input::File(read) => {
-            let verdict = verdict_of(
-                read,
-                &dirs,
-                &weights,
-                &mut areas,
-                &mut labels,
-                &mut basins,
-                &mut work,
-            );
-            print_pages(
-                &mut rt.stdout(),
-                &mut rt.stderr(),
-                verdict,
-                &dirs,
-                &areas,
-                &labels,
-                &basins,
-                &mut out,
-            );
-        }
-        Input::Failed => complain(
+    let Some(read) = read_input(&mut rt.stdin(), &mut dirs, &mut weights) else {
+        complain(
             &mut rt.stderr(),
             b"atlas",
             b": standard input cannot be read\n",
-        ),
-    }
+        );
+        return;
+    };
+    let verdict = verdict_of(
+        read,
+        &dirs,
+        &weights,
+        &mut areas,
+        &mut labels,
+        &mut basins,
+        &mut work,
+    );
+    print_pages(
+        &mut rt.stdout(),
+        &mut rt.stderr(),
+        verdict,
+        &dirs,
+        &areas,
+        &labels,
+        &basins,
+        &mut out,
+    );
 }

@@ -9,7 +9,6 @@ use borrow.Author.Tests.{le-leb}
 use lib.ListN.{length, get_or}
 use Rattle.decimal.specs.Text.{decimal_text}
 use Rattle.decimal.proofs.TextLaws.{text_few}
-use Rattle.sheet.specs.declared.Outcome.TheVariants.{Accepted}
 use Rattle.sheet.specs.Record.{label_at}
 use Rattle.sheet.specs.Sheet.{Sheet}
 use Rattle.sheet.specs.Basins.{basin_areas, basin_labels, basins_of}
@@ -30,6 +29,7 @@ use Rattle.reading.specs.Pieces.{NoFeed}
 use Rattle.report.proofs.ReportLaws.{areas_length, labels_length, basins_length}
 use Rattle.report.proofs.Lengths.{area_listed, label_short, basin_listed, rows_and_cols}
 use Rattle.atlas_file.specs.Meaning.{written_texts, NumbersFit, sheet_atlas}
+use Rattle.sheet.specs.Answer.{Accepted}
 
 pub no_feed_in : (s : List ℕ) → OneLine s → NoFeed s
 no_feed_in [] o = tt

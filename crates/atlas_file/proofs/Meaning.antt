@@ -23,8 +23,6 @@ use Rattle.reading.specs.Feed.{largest_count}
 use Rattle.reading.specs.Lines.{read_file}
 use Rattle.reading.specs.Pieces.{joined}
 use Rattle.reading.proofs.Whole.{read_in_pieces}
-use Rattle.report.specs.declared.Verdict.{Verdict}
-use Rattle.report.specs.declared.Verdict.TheVariants.{Refused, Labelled}
 use Rattle.report.specs.Report.{file_verdict, file_lent, report}
 use Rattle.report.specs.Demand.{file_sheet, program_cells, program_bytes}
 use Rattle.report.proofs.Endings.{listing_no_refusal}
@@ -36,6 +34,9 @@ use Rattle.atlas_file.specs.Atlas.{file_atlas, file_page, file_pages}
 use Rattle.atlas_file.specs.Meaning.{sheet_atlas, program_pages, AtlasMeaning}
 use Rattle.atlas_file.proofs.Fit.{no_feed_in, numbers_fit, sheet_atlas_lem}
 use Rattle.atlas_file.proofs.Pages.{Few, verdict_pages_lem, verdict_few, atlas_no_refusal}
+use Rattle.report.specs.Answer.{Verdict}
+use Rattle.sheet.specs.Answer.{Refused}
+use Rattle.std.specs.Prelude.{Err, Ok}
 
 module _ (T : LentSheet) (L : Lent) (bytes : List ℕ) where
   -- ---- the atlas, by the verdict
@@ -50,12 +51,12 @@ module _ (T : LentSheet) (L : Lent) (bytes : List ℕ) where
   unfolding verdict_atlas
   atlas_refused number place e = atlas_is e
 
-  atlas_labelled : (z : Sizes) → file_verdict T L bytes ≡ Labelled z
+  atlas_labelled : (z : Sizes) → file_verdict T L bytes ≡ Ok z
       → file_atlas T L bytes ≡ sheet_atlas (file_sheet T bytes z)
   unfolding verdict_atlas
   atlas_labelled z e =
       atlas_is e
-      ∙ ap (λ (K : Lent). verdict_atlas (Labelled z) (read_file T bytes).lent.dirs K) (file_lent_lem T L bytes z e)
+      ∙ ap (λ (K : Lent). verdict_atlas (Ok z) (read_file T bytes).lent.dirs K) (file_lent_lem T L bytes z e)
       ∙ sheet_atlas_lem (file_sheet T bytes z) L (file_accepted T L bytes z e)
 
   alike : (number place : ℕ)
@@ -64,10 +65,10 @@ module _ (T : LentSheet) (L : Lent) (bytes : List ℕ) where
     where
       go : (v : Verdict) → file_verdict T L bytes ≡ v
           → (file_atlas T L bytes ≡ refusal_text number place) ↔ (report T L bytes ≡ refusal_text number place)
-      go (Refused n p) e =
-          let same = file_refused T L bytes n p e ∙ sym (atlas_refused n p e) in
+      go (Err refusal) e =
+          let same = file_refused T L bytes refusal.number refusal.place e ∙ sym (atlas_refused refusal.number refusal.place e) in
           (λ h. same ∙ h, λ h. sym same ∙ h)
-      go (Labelled z) e = (
+      go (Ok z) e = (
         λ h. absurd (atlas_no_refusal _ _ z number place (sym (atlas_is e) ∙ h)),
         λ h. absurd (listing_no_refusal _ _ _ _ number place (sym (file_listed T L bytes z e) ∙ h)),
       )
@@ -77,8 +78,8 @@ module _ (T : LentSheet) (L : Lent) (bytes : List ℕ) where
   module _ (few : length bytes < largest_count) where
     module _ (lent : length T.dirs ≡ program_cells) where
       few_pages : (v : Verdict) → file_verdict T L bytes ≡ v → Few program_pages v
-      few_pages (Refused number place) e = tt
-      few_pages (Labelled z) e = omega (arith, cells_lent T L bytes few z e)
+      few_pages (Err refusal) e = tt
+      few_pages (Ok z) e = omega (arith, cells_lent T L bytes few z e)
 
       file_printed : file_pages T L bytes program_pages ≡ file_atlas T L bytes
       unfolding file_pages file_atlas
@@ -106,8 +107,8 @@ module _ (T : LentSheet) (L : Lent) (bytes : List ℕ) where
           go true = refusal_accepted number place buffer h g (omega arith)
           go false = refl
 
-      labelled_in : (z : Sizes) → file_verdict T L bytes ≡ Labelled z
-          → InBuffer (Labelled z) (lent_after (file_sheet T bytes z) L)
+      labelled_in : (z : Sizes) → file_verdict T L bytes ≡ Ok z
+          → InBuffer (Ok z) (lent_after (file_sheet T bytes z) L)
       unfolding verdict_page_into verdict_page
       labelled_in z e =
           let S = file_sheet T bytes z in
@@ -121,10 +122,10 @@ module _ (T : LentSheet) (L : Lent) (bytes : List ℕ) where
           (omega (arith, page_most S.grid K.areas K.labels K.basins k fits, room))
 
       in_buffer : (v : Verdict) → file_verdict T L bytes ≡ v → InBuffer v (file_lent T L bytes)
-      in_buffer (Refused number place) e =
-          let small = refusal_small T L bytes few number place e in
-          refused_in number place (omega (arith, small.0)) small.1
-      in_buffer (Labelled z) e = rw (file_lent_lem T L bytes z e) (labelled_in z e)
+      in_buffer (Err refusal) e =
+          let small = refusal_small T L bytes few refusal.number refusal.place e in
+          refused_in refusal.number refusal.place (omega (arith, small.0)) small.1
+      in_buffer (Ok z) e = rw (file_lent_lem T L bytes z e) (labelled_in z e)
 
       file_written : InBuffer (file_verdict T L bytes) (file_lent T L bytes)
       file_written = in_buffer (file_verdict T L bytes) refl

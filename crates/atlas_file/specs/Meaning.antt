@@ -1,7 +1,6 @@
 -- What the atlas of an accepted sheet and of a file is.
-use Rattle.std.specs.Prelude.{◌≡◌, true, List, [], ◌↔◌, ℕ, suc, ◌<◌, length}
+use Rattle.std.specs.Prelude.{◌≡◌, true, List, [], ◌↔◌, ℕ, suc, ◌<◌, length, Ok}
 use Rattle.lines.specs.Fields.{line_bytes}
-use Rattle.sheet.specs.declared.Outcome.TheVariants.{Accepted}
 use Rattle.sheet.specs.Sheet.{Sheet}
 use Rattle.sheet.specs.Basins.{basin_areas, basin_labels, basins_of}
 use Rattle.sheet.specs.Refusal.{Lent, outcome, lent_after}
@@ -15,10 +14,10 @@ use Rattle.pages.specs.Page.{atlas_text}
 use Rattle.pages.specs.Writing.{page_fits}
 use Rattle.reading.specs.Feed.{largest_count}
 use Rattle.reading.specs.Pieces.{NoFeed, joined, read_pieces}
-use Rattle.report.specs.declared.Verdict.TheVariants.{Refused, Labelled}
 use Rattle.report.specs.Report.{verdict_of, read_lent, file_verdict, report}
 use Rattle.report.specs.Demand.{file_sheet, program_cells, program_bytes}
 use Rattle.atlas_file.specs.Atlas.{verdict_page_into, file_atlas, file_page, file_pages}
+use Rattle.sheet.specs.Answer.{Accepted, Refused}
 
 -- the texts of a cell's values, with the areas, labels and basins that labelling wrote
 abbrev pub written_texts : Sheet → Lent → ℕ → Texts
@@ -51,7 +50,7 @@ pub record AtlasMeaning : Type 0 where
   pub refused : (T : LentSheet) (L : Lent) (bytes : List ℕ) (number place : ℕ)
       → file_verdict T L bytes ≡ Refused number place → file_atlas T L bytes ≡ refusal_text number place
   -- that of a labelled one is the atlas of its sheet
-  pub labelled : (T : LentSheet) (L : Lent) (bytes : List ℕ) (z : Sizes) → file_verdict T L bytes ≡ Labelled z
+  pub labelled : (T : LentSheet) (L : Lent) (bytes : List ℕ) (z : Sizes) → file_verdict T L bytes ≡ Ok z
       → file_atlas T L bytes ≡ sheet_atlas (file_sheet T bytes z)
   -- "its two lines after a refusal": refused exactly when its listing is, with the same number and place
   pub as_listing : (T : LentSheet) (L : Lent) (bytes : List ℕ) (number place : ℕ)

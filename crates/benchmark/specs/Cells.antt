@@ -1,9 +1,8 @@
 -- What check 4 finds, as the benchmark is told it.
-use Rattle.std.specs.Prelude.{Bool, cond, List, ℕ, ◌*◌, leb, length}
-use Rattle.sheet.specs.declared.Found.{Found}
-use Rattle.sheet.specs.declared.Found.TheVariants.{At, Nothing}
+use Rattle.std.specs.Prelude.{Bool, cond, List, ℕ, ◌*◌, leb, length, None, Some}
 use Rattle.sheet.specs.Sheet.{grid, first}
 use Rattle.sheet.specs.Refusal.{both, sizes_fit, bad_code}
+use Rattle.sheet.specs.Answer.{Found}
 
 -- 1 to 256 rows and columns, and a byte for each cell
 unfoldable pub has_cells : ℕ → ℕ → List ℕ → Bool
@@ -12,8 +11,8 @@ has_cells rows cols dirs = both (sizes_fit rows cols) (leb (rows * cols) (length
 
 -- the cell that was found, or n
 unfoldable pub cell_or : ℕ → Found → ℕ
-cell_or n (At c) = c
-cell_or n Nothing = n
+cell_or n (Some c) = c
+cell_or n None = n
 
 -- the first cell whose byte is none of the nine codes, or how many cells there are; 0 where sizes are outside 1 to 256
 -- or bytes are missing

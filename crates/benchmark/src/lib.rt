@@ -4,26 +4,22 @@
 ghost use Rattle.std.specs.Prelude.{◌≡◌};
 ghost use Rattle.benchmark.specs.Cells.{has_cells, cell_or, first_bad_cell};
 
-use sheet::Found;
+use directions::Grid;
 
 // Whether rows and columns are 1 to 256 each and there is a byte for each cell.
+#[tactic(auto, unfolding(crate::specs::Cells::has_cells))]
 fn has_cells(rows: usize, cols: usize, dirs: &[u8]) -> bool
     ensures { result ≡ has_cells rows cols dirs.now }
 {
-    if checks::sizes_fit(rows, cols) {
-        return rows * cols <= dirs.len();
-    }
-    false
+    checks::sizes_fit(rows, cols) && rows * cols <= dirs.len()
 }
 
 // The cell that was found, or n.
-fn cell_or(n: usize, found: Found) -> usize
+#[tactic(auto, unfolding(crate::specs::Cells::cell_or))]
+fn cell_or(n: usize, found: Option<usize>) -> usize
     ensures { result ≡ cell_or n found }
 {
-    match found {
-        Found::At(c) => c,
-        Found::Nothing => n,
-    }
+    found.unwrap_or(n)
 }
 
 // Check 4 as labelling does it.
@@ -32,7 +28,8 @@ pub extern "C" fn bench_codes_by_words(rows: usize, cols: usize, dirs: &[u8]) ->
     ensures { result ≡ first_bad_cell rows cols dirs.now }
 {
     if has_cells(rows, cols, dirs) {
-        return cell_or(rows * cols, checks::codes::first_bad_code(dirs, rows, cols));
+        let grid = Grid { rows, cols, dirs };
+        return cell_or(rows * cols, checks::codes::first_bad_code(grid));
     }
     0
 }
@@ -43,10 +40,8 @@ pub extern "C" fn bench_codes_by_bytes(rows: usize, cols: usize, dirs: &[u8]) ->
     ensures { result ≡ first_bad_cell rows cols dirs.now }
 {
     if has_cells(rows, cols, dirs) {
-        return cell_or(
-            rows * cols,
-            checks::codes::first_bad_from(dirs, rows, cols, 0),
-        );
+        let grid = Grid { rows, cols, dirs };
+        return cell_or(rows * cols, checks::codes::first_bad_from(grid, 0));
     }
     0
 }

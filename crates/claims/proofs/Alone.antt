@@ -8,8 +8,6 @@ use native.Mathlib.Nat.{zero-add}
 use lib.Dec.{eqb}
 use lib.ListN.{get_or}
 use borrow.Author.Tests.{eq-eqb}
-use Rattle.sheet.specs.declared.Outcome.TheVariants.{Accepted}
-use Rattle.sheet.specs.declared.Next.TheVariants.{To}
 use Rattle.sheet.specs.declared.Label.{Label}
 use Rattle.sheet.specs.Sheet.{Grid, Sheet, cells, dir_at, next}
 use Rattle.sheet.specs.Area.{area}
@@ -24,6 +22,8 @@ use Rattle.claims.specs.Alone.{AloneIsDirect, BasinsMeaning}
 use Rattle.claims.proofs.Sheets.{PassedOn, passed_on, outlet_is}
 use Rattle.claims.proofs.BasinNumbers.{basin_stays, outlets_rise, basin_some, basin_most, basin_outside, outlet_number}
 use Rattle.claims.proofs.BasinGrids.{area_same, label_same}
+use Rattle.sheet.specs.Answer.{Accepted}
+use Rattle.std.specs.Prelude.{Some}
 
 list_same : {A : Type 0} (f g : ℕ → A) (i m : ℕ) → ((c : ℕ) → f c ≡ g c) → list_from f i m ≡ list_from g i m
 unfolding list_from
@@ -46,7 +46,7 @@ module _ (S : Sheet) (P : PassedOn S.grid) where
   dir_in_lem : (basin c : ℕ) → c < cells G → get_or (dirs_in basin) c 0 ≡ dir_in basin c
   dir_in_lem basin c l = list_at (dir_in basin) 0 (cells G) c l ∙ ap (dir_in basin) (zero-add c)
 
-  stays : (basin q r : ℕ) → next G q ≡ To r → eqb (basin_of G q) basin ≡ eqb (basin_of G r) basin
+  stays : (basin q r : ℕ) → next G q ≡ Some r → eqb (basin_of G q) basin ≡ eqb (basin_of G r) basin
   stays basin q r e = ap (λ (b : ℕ). eqb b basin) (basin_stays G P q r e)
 
   pub area_alone : (c : ℕ) → basin_area S c ≡ area S c

@@ -9,7 +9,6 @@ use Prim.Native.Nat.{ℕ, ◌+◌, ◌<◌}
 use native.Mathlib.Omega.{arith}
 use lib.Dec.{eqb}
 use borrow.Author.Tests.{eqb-true, eq-eqb}
-use Rattle.sheet.specs.declared.Next.TheVariants.{To}
 use Rattle.sheet.specs.Water.{passes, Passes, here, there}
 use Rattle.sheet.specs.River.{donors, Network}
 use Rattle.sheet.specs.Area.{sum_over}
@@ -18,6 +17,7 @@ use Rattle.claims.specs.Lawful.{Rising, rising_cons, Lawful}
 use Rattle.claims.proofs.Runs.{pass_trans, pass_last, pass_dist, pass_same}
 use Rattle.claims.proofs.Lawful.{passes_true, passes_all}
 use Rattle.claims.proofs.Sums.{sum_zero, sum_either, sum_one}
+use Rattle.std.specs.Prelude.{Some}
 
 unfoldable any_of : (ℕ → ℕ → Bool) → List ℕ → ℕ → Bool
 any_of P [] q = false
@@ -88,8 +88,8 @@ module _ {N : Network} {heavier : ℕ → ℕ → Bool} (O : Lawful N heavier) (
       go false = h
 
   -- no water passes two donors of one cell
-  apart : (c u : ℕ) (us : List ℕ) → Rising heavier (some u) us → N.next u ≡ To c
-      → ((w : ℕ) → Memᴰ w us → N.next w ≡ To c)
+  apart : (c u : ℕ) (us : List ℕ) → Rising heavier (some u) us → N.next u ≡ Some c
+      → ((w : ℕ) → Memᴰ w us → N.next w ≡ Some c)
       → (q : ℕ) → under u q ≡ true → any_of under us q ≡ true → ⊥
   apart c u us r e m q h k =
       let w = any_some under us q k in
@@ -100,7 +100,7 @@ module _ {N : Network} {heavier : ℕ → ℕ → Bool} (O : Lawful N heavier) (
       true≢false (sym over ∙ (rw (← same) (O.unlike u)))
 
   any_sum : (c n : ℕ) (old : Option ℕ) (us : List ℕ) → Rising heavier old us
-      → ((u : ℕ) → Memᴰ u us → N.next u ≡ To c)
+      → ((u : ℕ) → Memᴰ u us → N.next u ≡ Some c)
       → sum_over n (any_of under us) f ≡ sum (λ u. sum_over n (under u) f) us
   unfolding sum
   any_sum c n old [] r m = any_none n

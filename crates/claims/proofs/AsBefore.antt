@@ -5,8 +5,6 @@ use mathlib.Core.Bool.{Bool, true, cond}
 use mathlib.Core.List.{[], ◌∷◌}
 use Prim.Native.Nat.{ℕ, zero, suc}
 use native.Mathlib.Omega.{arith}
-use Rattle.sheet.specs.declared.Next.TheVariants.{To}
-use Rattle.sheet.specs.declared.Outcome.TheVariants.{Accepted}
 use Rattle.sheet.specs.Sheet.{Sheet, inside}
 use Rattle.sheet.specs.River.{Network, network, heavier, donors, Run, stem, mouth, upstream, river_within, river}
 use Rattle.sheet.specs.Unit.{finished, taken, Parts, last, part, prepend, cut_at, parts}
@@ -25,6 +23,8 @@ use Rattle.claims.proofs.Basins.{lawful}
 use Rattle.claims.proofs.Units.{digits_in}
 use Rattle.claims.proofs.Written.{the_forest, in_own_basin, at_most_depth, label_written, label_from_outlet}
 use Rattle.claims.proofs.Theorems.{counts}
+use Rattle.sheet.specs.Answer.{Accepted}
+use Rattle.std.specs.Prelude.{Some}
 
 -- the network with every mouth counted
 abbrev all : Network → Network
@@ -73,7 +73,7 @@ module _ (N : Network) where
   place_same R c h = place_in_same N 0 (cut_at (taken (all N) R) R) c ∙ ap (λ (P : Parts). place_in N 0 P c)
       (cut_same R R h)
 
-module _ {N : Network} (O : Lawful N (heavier N)) (counts : (v s : ℕ) → N.next v ≡ To s → N.counted v ≡ true) where
+module _ {N : Network} (O : Lawful N (heavier N)) (counts : (v s : ℕ) → N.next v ≡ Some s → N.counted v ≡ true) where
   run_counted : (R : Run) → Headed N.next (heavier N) R → Counted N R
   run_counted R w v m = let g = mouth_goes w m in counts v g.0 g.1
 

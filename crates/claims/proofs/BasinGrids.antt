@@ -7,9 +7,6 @@ use Prim.Native.Nat.{ℕ, ◌<◌}
 use lib.Dec.{eqb, ltb, leb}
 use lib.ListN.{get_or}
 use borrow.Author.Tests.{ltb-true}
-use Rattle.sheet.specs.declared.End.{End}
-use Rattle.sheet.specs.declared.End.TheVariants.{Off, At}
-use Rattle.sheet.specs.declared.Next.TheVariants.{Outlet, To}
 use Rattle.sheet.specs.Sheet.{Grid, Sheet, grid, cells, dir_at, inside, end_of, onto, next}
 use Rattle.sheet.specs.Water.{passes}
 use Rattle.sheet.specs.Area.{drains_into, weight, area}
@@ -19,8 +16,10 @@ use Rattle.sheet.proofs.Cells.{inside_lt, next_outside, next_to}
 use Rattle.claims.proofs.Sums.{sum_same}
 use Rattle.claims.proofs.BasinWays.{Agree, passes_same, passes_none, way_end_same, way_end_in}
 use Rattle.claims.proofs.BasinLabels.{digits_same}
+use Rattle.sheet.specs.Answer.{End}
+use Rattle.std.specs.Prelude.{None, Some}
 
-module _ (G : Grid) (is_in : ℕ → Bool) (stays : (q r : ℕ) → next G q ≡ To r → is_in q ≡ is_in r) (dirs : List ℕ)
+module _ (G : Grid) (is_in : ℕ → Bool) (stays : (q r : ℕ) → next G q ≡ Some r → is_in q ≡ is_in r) (dirs : List ℕ)
     (cleared : (c : ℕ) → c < cells G → get_or dirs c 0 ≡ cond (is_in c) (dir_at G c) 0) where
   abbrev G' : Grid
   G' = grid G.rows G.cols dirs
@@ -50,7 +49,7 @@ module _ (G : Grid) (is_in : ℕ → Bool) (stays : (q r : ℕ) → next G q ≡
   end_same c l i = rw (dir_same c l i)
 
   -- the cell that the step of a cell of the basin ends on
-  to_same : (c t : ℕ) → inside G c ≡ true → is_in c ≡ true → end_of G c ≡ At t → inside G' t ≡ inside G t
+  to_same : (c t : ℕ) → inside G c ≡ true → is_in c ≡ true → end_of G c ≡ Some t → inside G' t ≡ inside G t
   to_same c t k i e = go (inside G t) refl (is_in t) refl
     where
       go : (a : Bool) → inside G t ≡ a → (b : Bool) → is_in t ≡ b → inside G' t ≡ inside G t
@@ -62,14 +61,14 @@ module _ (G : Grid) (is_in : ℕ → Bool) (stays : (q r : ℕ) → next G q ≡
 
   onto_same : (c : ℕ) → inside G c ≡ true → is_in c ≡ true → (x : End) → end_of G c ≡ x → onto G' x ≡ onto G x
   unfolding onto
-  onto_same c k i Off e = refl
-  onto_same c k i (At t) e = rw (to_same c t k i e)
+  onto_same c k i None e = refl
+  onto_same c k i (Some t) e = rw (to_same c t k i e)
 
   next_same : (c : ℕ) → is_in c ≡ true → next G' c ≡ next G c
   unfolding next
   next_same c i = rw (inside_same c i) (go (inside G c) refl)
     where
-      go : (b : Bool) → inside G c ≡ b → cond b (onto G' (end_of G' c)) Outlet ≡ cond b (onto G (end_of G c)) Outlet
+      go : (b : Bool) → inside G c ≡ b → cond b (onto G' (end_of G' c)) None ≡ cond b (onto G (end_of G c)) None
       go true k =
           ap (onto G') (end_same c (inside_lt G c k) i) ∙ onto_same c k i (end_of G c) refl
       go false k = refl

@@ -3,13 +3,13 @@ use mathlib.Core.Path.{◌≡◌, refl, ◌∙◌, ap}
 use mathlib.Core.Bool.{Bool, true, false, cond}
 use mathlib.Core.List.{List, [], ◌∷◌, Memᴰ}
 use Prim.Native.Nat.{ℕ, zero, suc}
-use Rattle.sheet.specs.declared.Next.{Next}
 use Rattle.sheet.specs.Area.{heavier_by}
 use Rattle.sheet.specs.River.{Network, donors, Entry, stem, mouth, Run, upstream, river_within, river}
 use Rattle.sheet.specs.Unit.{finished, rank, taken, Parts, last, part, prepend, cut_at, parts}
 use Rattle.sheet.specs.Label.{passes_in, holds, Place, placed, place_in, place_of, label}
 use Rattle.claims.specs.Runs.{MouthOf, mouth_here, mouth_there}
 use Rattle.claims.proofs.BasinWays.{Agree, passes_same, donors_same, donor_in}
+use Rattle.sheet.specs.Answer.{Next}
 
 upstream_same : (f g : ℕ → Run) (us : List ℕ) → ((u : ℕ) → Memᴰ u us → f u ≡ g u) → upstream f us ≡ upstream g us
 unfolding upstream

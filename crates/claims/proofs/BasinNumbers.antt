@@ -4,7 +4,6 @@ use mathlib.Core.Bool.{Bool, true, false, cond}
 use Prim.Native.Nat.{ℕ, zero, suc, ◌≤◌, ◌<◌}
 use native.Mathlib.Omega.{arith}
 use native.Mathlib.Decide.{dec_lt}
-use Rattle.sheet.specs.declared.Next.TheVariants.{Outlet, To}
 use Rattle.sheet.specs.Sheet.{Grid, cells, inside, next, is_outlet}
 use Rattle.sheet.specs.Water.{Passes, here, there}
 use Rattle.sheet.specs.Area.{count}
@@ -15,6 +14,7 @@ use Rattle.claims.specs.Basin.{Ends}
 use Rattle.claims.proofs.Counts.{count_some}
 use Rattle.claims.proofs.Fuel.{reaches_ends, ends_at, ends_end}
 use Rattle.claims.proofs.Sheets.{PassedOn, outlet_is, is_outlet_lem, all_reach}
+use Rattle.std.specs.Prelude.{None, Some}
 
 -- ---- counts of the first cells
 
@@ -63,7 +63,7 @@ module _ (G : Grid) (P : PassedOn G) where
   comes : (q : ℕ) → inside G q ≡ true → Ends (next G) (cells G) q
   comes q i = reaches_ends (next G) (cells G) q (all_reach G P q i)
 
-  pub way_outlet : (q o : ℕ) → inside G q ≡ true → Passes (next G) q o → next G o ≡ Outlet → outlet_of G q ≡ o
+  pub way_outlet : (q o : ℕ) → inside G q ≡ true → Passes (next G) q o → next G o ≡ None → outlet_of G q ≡ o
   unfolding outlet_of
   way_outlet q o i h e = ends_end (comes q i) h e
 
@@ -93,14 +93,14 @@ module _ (G : Grid) (P : PassedOn G) where
   way_basin q p here = refl
   way_basin q p (there {r = r} e h) = step e ∙ way_basin r p h
     where
-      step : next G q ≡ To r → basin_of G q ≡ basin_of G r
+      step : next G q ≡ Some r → basin_of G q ≡ basin_of G r
       step e =
           let g = next_goes G q e in
           let o = outlet_of_is r g.to_inside in
           number_of_way q (outlet_of G r) g.from_inside o.0 (there e o.1)
           ∙ sym (number_of_way r (outlet_of G r) g.to_inside o.0 o.1)
 
-  pub basin_stays : (q r : ℕ) → next G q ≡ To r → basin_of G q ≡ basin_of G r
+  pub basin_stays : (q r : ℕ) → next G q ≡ Some r → basin_of G q ≡ basin_of G r
   basin_stays q r e = way_basin q r (there e here)
 
   -- a later outlet has a larger number

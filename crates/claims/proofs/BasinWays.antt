@@ -6,23 +6,23 @@ use mathlib.Core.List.{List, [], ◌∷◌, Memᴰ}
 use Prim.Native.Nat.{ℕ, zero, suc}
 use lib.Dec.{eqb}
 use borrow.Author.Tests.{eqb-true, ne_eqb}
-use Rattle.sheet.specs.declared.Next.{Next}
-use Rattle.sheet.specs.declared.Next.TheVariants.{Outlet, To}
 use Rattle.sheet.specs.Water.{onward, passes, way_end}
 use Rattle.sheet.specs.River.{insert, ends_on, donors_below}
 use Rattle.claims.proofs.Counts.{not-true}
 use Rattle.claims.proofs.Heavier.{donors_only}
+use Rattle.sheet.specs.Answer.{Next}
+use Rattle.std.specs.Prelude.{None, Some}
 
 pub record Agree (is_in : ℕ → Bool) (next next' : ℕ → Next) : Type 0 where
-  pub stays : (q r : ℕ) → next q ≡ To r → is_in q ≡ is_in r
+  pub stays : (q r : ℕ) → next q ≡ Some r → is_in q ≡ is_in r
   pub same : (q : ℕ) → is_in q ≡ true → next' q ≡ next q
-  pub nowhere : (q : ℕ) → is_in q ≡ false → next' q ≡ Outlet
+  pub nowhere : (q : ℕ) → is_in q ≡ false → next' q ≡ None
 
-onward_same : {A : Type 0} (x : Next) (a : A) (f g : ℕ → A) → ((r : ℕ) → x ≡ To r → f r ≡ g r)
+onward_same : {A : Type 0} (x : Next) (a : A) (f g : ℕ → A) → ((r : ℕ) → x ≡ Some r → f r ≡ g r)
     → onward x a f ≡ onward x a g
 unfolding onward
-onward_same Outlet a f g h = refl
-onward_same (To r) a f g h = h r refl
+onward_same None a f g h = refl
+onward_same (Some r) a f g h = h r refl
 
 insert_same : (h h' : ℕ → ℕ → Bool) (u : ℕ) (vs : List ℕ) → ((v : ℕ) → Memᴰ v vs → h' u v ≡ h u v)
     → insert h' u vs ≡ insert h u vs
@@ -31,14 +31,14 @@ insert_same h h' u [] e = refl
 insert_same h h' u (v ∷ vs) e =
     rw (e v (Memᴰ.head refl), insert_same h h' u vs (λ w m. e w (Memᴰ.tail m)))
 
-ends_true : (x : Next) (c : ℕ) → ends_on x c ≡ true → x ≡ To c
+ends_true : (x : Next) (c : ℕ) → ends_on x c ≡ true → x ≡ Some c
 unfolding ends_on
-ends_true Outlet c h = absurd (true≢false (sym h))
-ends_true (To r) c h = rw (eqb-true r c h)
+ends_true None c h = absurd (true≢false (sym h))
+ends_true (Some r) c h = rw (eqb-true r c h)
 
 module _ {is_in : ℕ → Bool} {next next' : ℕ → Next} (A : Agree is_in next next') where
   -- the next cell lies in the basin
-  goes_on : (q r : ℕ) → is_in q ≡ true → next q ≡ To r → is_in r ≡ true
+  goes_on : (q r : ℕ) → is_in q ≡ true → next q ≡ Some r → is_in r ≡ true
   goes_on q r i e = sym (A.stays q r e) ∙ i
 
   pub passes_same : (n q p : ℕ) → is_in q ≡ true → passes next' n q p ≡ passes next n q p
@@ -65,20 +65,20 @@ module _ {is_in : ℕ → Bool} {next next' : ℕ → Next} (A : Agree is_in nex
       rw (ne_eqb q p (λ e. true≢false (sym j ∙ ap is_in (sym e) ∙ i)))
       (go (next q) (λ r e. passes_none n r p (sym (A.stays q r e) ∙ i) j))
     where
-      go : (x : Next) → ((r : ℕ) → x ≡ To r → passes next n r p ≡ false)
+      go : (x : Next) → ((r : ℕ) → x ≡ Some r → passes next n r p ≡ false)
           → onward x false (λ r. passes next n r p) ≡ false
-      go Outlet h = refl
-      go (To r) h = h r refl
+      go None h = refl
+      go (Some r) h = h r refl
 
   pub way_end_in : (n q : ℕ) → is_in q ≡ true → is_in (way_end next n q) ≡ true
   unfolding way_end onward
   way_end_in zero q i = i
   way_end_in (suc n) q i = go (next q) (λ r e. way_end_in n r (goes_on q r i e))
     where
-      go : (x : Next) → ((r : ℕ) → x ≡ To r → is_in (way_end next n r) ≡ true)
+      go : (x : Next) → ((r : ℕ) → x ≡ Some r → is_in (way_end next n r) ≡ true)
           → is_in (onward x q (λ r. way_end next n r)) ≡ true
-      go Outlet h = i
-      go (To r) h = h r refl
+      go None h = i
+      go (Some r) h = h r refl
 
   module _ (h h' : ℕ → ℕ → Bool)
       (order : (u v : ℕ) → is_in u ≡ true → is_in v ≡ true → h' u v ≡ h u v) where

@@ -6,8 +6,6 @@ use mathlib.Core.List.{List}
 use mathlib.Core.Logic.{◌⊎◌, inl, inr, ◌↔◌}
 use Prim.Native.Nat.{ℕ, zero, suc, ◌<◌}
 use native.Mathlib.Omega.{arith}
-use Rattle.sheet.specs.declared.Next.{Next}
-use Rattle.sheet.specs.declared.Next.TheVariants.{Outlet, To}
 use Rattle.sheet.specs.Water.{Passes, DrainsTo, here, there, way_end}
 use Rattle.sheet.specs.Unit.{finished}
 use Rattle.sheet.specs.River.{heavier, donors, Run, river, Network}
@@ -25,13 +23,15 @@ use Rattle.claims.proofs.Heavier.{heavier_trans, heavier_irrefl, heavier_total, 
 use Rattle.claims.proofs.Heavier.{donors_rise}
 use Rattle.claims.proofs.Mouths.{taken_upward, finished_none}
 use Rattle.claims.proofs.Fuel.{steps, steps_short, steps_fall, ends_within, ends_end}
+use Rattle.sheet.specs.Answer.{Next}
+use Rattle.std.specs.Prelude.{None, Some}
 
 module _ {N : Network} {inside : ℕ → Type 0} (F : Forest N inside) where
   pub stays_inside : {c x : ℕ} → inside c → Passes N.next c x → inside x
   stays_inside i here = i
   stays_inside i (there {q = q} {r = r} e h) = stays_inside (F.to_inside q r e) h
 
-  late : (m c : ℕ) → 0 < m → N.next c ≡ Outlet → Ends N.next m c
+  late : (m c : ℕ) → 0 < m → N.next c ≡ None → Ends N.next m c
   late zero c l e = absurd (omega arith)
   late (suc m) c l e = ends_here e
 
@@ -39,8 +39,8 @@ module _ {N : Network} {inside : ℕ → Type 0} (F : Forest N inside) where
   all_end c = go (N.next c) refl
     where
       go : (x : Next) → N.next c ≡ x → Ends N.next N.cells c
-      go Outlet e = late N.cells c (omega (arith, F.some)) e
-      go (To r) e =
+      go None e = late N.cells c (omega (arith, F.some)) e
+      go (Some r) e =
           let i = F.from_inside c r e in
           ends_within N.cells (F.ends c i).1 (λ x p. F.small x (stays_inside i p))
 

@@ -7,7 +7,6 @@ use mathlib.Core.Logic.{◌⊎◌, inl, inr, ◌↔◌}
 use Prim.Native.Nat.{ℕ, zero, suc, ◌<◌}
 use native.Mathlib.Omega.{arith}
 use lib.ListN.{length}
-use Rattle.sheet.specs.declared.Next.{Next}
 use Rattle.sheet.specs.Water.{Passes}
 use Rattle.sheet.specs.Flow.{every, is_odd}
 use Rattle.sheet.specs.Unit.{finished, taken, Parts}
@@ -22,6 +21,7 @@ use Rattle.claims.proofs.Parts.{join, join_cut, odd_one, odd_two, place_spot, pl
 use Rattle.claims.proofs.Parts.{place_pair, Spot, Pair, spot_last, spot_in, spot_mouth, spot_later, pair_same}
 use Rattle.claims.proofs.Parts.{pair_odd, pair_even, pair_more}
 use Rattle.claims.proofs.Parting.{all_odd, judged, Parted, Rule, Verdict, alike, less, more, on}
+use Rattle.sheet.specs.Answer.{Next}
 
 unfoldable pub first_stem : Run → ℕ → ℕ
 first_stem [] c = c

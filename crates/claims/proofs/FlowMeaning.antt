@@ -8,7 +8,6 @@ use native.Mathlib.Omega.{arith}
 use lib.Dec.{eqb}
 use lib.ListN.{length}
 use borrow.Author.Tests.{eqb-true, eqb-false}
-use Rattle.sheet.specs.declared.Outcome.TheVariants.{Accepted}
 use Rattle.sheet.specs.declared.Flow.TheVariants.{Yes, Undecided}
 use Rattle.sheet.specs.declared.OutletFlow.{OutletFlow}
 use Rattle.sheet.specs.declared.OutletFlow.TheVariants.{Same as OutletSame, Yes as OutletYes, No as OutletNo}
@@ -31,6 +30,7 @@ use Rattle.claims.proofs.Written.{checks, is_label_lem}
 use Rattle.claims.proofs.Theorems.{demand_three, outlet_rule}
 use Rattle.claims.proofs.FlowAnswers.{differ, Answered, answered_yes, answered_no, answer_at_lem, good_labels}
 use Rattle.claims.proofs.FlowAnswers.{alone_means}
+use Rattle.sheet.specs.Answer.{Accepted}
 
 -- the units of cells p and q, and the answer to the outlet question that they get
 data Judged (basins labels : List ℕ) (p q : ℕ) : OutletFlow → Type 0 where

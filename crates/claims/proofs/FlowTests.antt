@@ -9,30 +9,30 @@ use lib.Dec.{ltb}
 use lib.ListN.{length, get_or, drop, length-drop}
 use lib.Seq.{get_or-drop}
 use borrow.Author.Tests.{eq-eqb, ne_eqb, ltb-true, lt-ltb}
-use Rattle.sheet.specs.declared.Found.TheVariants.{At}
 use Rattle.sheet.specs.Flow.{part_from, part_at, every, is_odd, rule_at}
 use Rattle.sheet.proofs.Within.{both_true}
 use Rattle.claims.specs.Parting.{PartAt, RuleAt}
 use Rattle.claims.proofs.Parting.{part_prev, all_odd_at, at_all_odd}
+use Rattle.std.specs.Prelude.{Some}
 
 -- the test finds the place where two labels part
-part_from_lem : (i : ℕ) (x y : List ℕ) (k : ℕ) → PartAt x y k → part_from i x y ≡ At (i + k)
+part_from_lem : (i : ℕ) (x y : List ℕ) (k : ℕ) → PartAt x y k → part_from i x y ≡ Some (i + k)
 unfolding part_from
 part_from_lem i [] y k t = absurd (omega (arith, t.in_x))
 part_from_lem i (a ∷ x) [] k t = absurd (omega (arith, t.in_y))
-part_from_lem i (a ∷ x) (b ∷ y) zero t = rw (ne_eqb a b t.differ) (ap At (omega arith))
+part_from_lem i (a ∷ x) (b ∷ y) zero t = rw (ne_eqb a b t.differ) (ap Some (omega arith))
 part_from_lem i (a ∷ x) (b ∷ y) (suc k) t =
     let r = part_prev t in
-    rw (eq-eqb a b r.0) (part_from_lem (suc i) x y k r.1 ∙ ap At (omega arith))
+    rw (eq-eqb a b r.0) (part_from_lem (suc i) x y k r.1 ∙ ap Some (omega arith))
 
-pub part_found_lem : (x y : List ℕ) (k : ℕ) → PartAt x y k → part_at x y ≡ At k
+pub part_found_lem : (x y : List ℕ) (k : ℕ) → PartAt x y k → part_at x y ≡ Some k
 unfolding part_at
-part_found_lem x y k t = part_from_lem 0 x y k t ∙ ap At (omega arith)
+part_found_lem x y k t = part_from_lem 0 x y k t ∙ ap Some (omega arith)
 
 -- two digit lists part at one place only
 pub part_once : (x y : List ℕ) (i j : ℕ) → PartAt x y i → PartAt x y j → i ≡ j
 part_once x y i j t u =
-    let e : At i ≡ At j = sym (part_found_lem x y i t) ∙ part_found_lem x y j u in
+    let e : Some i ≡ Some j = sym (part_found_lem x y i t) ∙ part_found_lem x y j u in
     let same : i ≡ j = cc in
     same
 

@@ -6,8 +6,6 @@ use Prim.Native.Nat.{ℕ, zero, suc, ◌<◌}
 use native.Mathlib.Omega.{arith}
 use lib.Dec.{eqb}
 use borrow.Author.Tests.{eqb-false, eq-eqb, ne_eqb}
-use Rattle.sheet.specs.declared.Next.{Next}
-use Rattle.sheet.specs.declared.Next.TheVariants.{Outlet, To}
 use Rattle.sheet.specs.Water.{onward, passes, reaches_outlet, way_end, Passes, here, there}
 use Rattle.sheet.specs.Area.{count}
 use Rattle.claims.specs.Basin.{Ends, ends_here, ends_after}
@@ -15,10 +13,12 @@ use Rattle.claims.proofs.Runs.{pass_trans}
 use Rattle.claims.proofs.Lawful.{passes_true}
 use Rattle.claims.proofs.Counts.{count_le, count_less, count_some, not-true}
 use Rattle.claims.proofs.Mouths.{same_or_not}
+use Rattle.sheet.specs.Answer.{Next}
+use Rattle.std.specs.Prelude.{None, Some}
 
 unfoldable pub tally : Next → (ℕ → ℕ) → ℕ
-tally Outlet f = 0
-tally (To r) f = suc (f r)
+tally None f = 0
+tally (Some r) f = suc (f r)
 
 -- the steps of c's way, no more than n being counted
 unfoldable pub steps : (ℕ → Next) → ℕ → ℕ → ℕ
@@ -27,12 +27,12 @@ steps next zero c = 0
 steps next (suc n) c = tally (next c) (steps next n)
 
 module _ (next : ℕ → Next) where
-  pub steps_off : (n c : ℕ) → next c ≡ Outlet → steps next n c ≡ 0
+  pub steps_off : (n c : ℕ) → next c ≡ None → steps next n c ≡ 0
   unfolding steps tally
   steps_off zero c e = refl
   steps_off (suc n) c e = rw e
 
-  pub steps_to : (n c r : ℕ) → next c ≡ To r → steps next (suc n) c ≡ suc (steps next n r)
+  pub steps_to : (n c r : ℕ) → next c ≡ Some r → steps next (suc n) c ≡ suc (steps next n r)
   unfolding steps tally
   steps_to n c r e = rw e
 
@@ -47,7 +47,7 @@ module _ {next : ℕ → Next} where
   steps_short (ends_here {n = n} {c = c} e) = omega (arith, steps_off next (suc n) c e)
   steps_short (ends_after {n = n} {c = c} {r = r} e w) = omega (arith, steps_to next n c r e, steps_short w)
 
-  pub steps_fall : {n c : ℕ} → Ends next n c → (r : ℕ) → next c ≡ To r → steps next n c ≡ suc (steps next n r)
+  pub steps_fall : {n c : ℕ} → Ends next n c → (r : ℕ) → next c ≡ Some r → steps next n c ≡ suc (steps next n r)
   steps_fall (ends_here e) r f = let z : ◌≡◌ {A = ℕ} 0 1 = cc in absurd (omega arith)
   steps_fall (ends_after {n = n} {c = c} {r = s} e w) r f =
       let same : s ≡ r = cc in
@@ -55,10 +55,10 @@ module _ {next : ℕ → Next} where
 
 module _ {next : ℕ → Next} where
   -- no way that ends comes back
-  pub no_round : {k c : ℕ} → Ends next k c → (r : ℕ) → next c ≡ To r → Passes next r c → ⊥
+  pub no_round : {k c : ℕ} → Ends next k c → (r : ℕ) → next c ≡ Some r → Passes next r c → ⊥
   no_round (ends_here e) r f p = let z : ◌≡◌ {A = ℕ} 0 1 = cc in omega arith
-  no_round (ends_after {r = s} e w) r f here = let g : next s ≡ To s = cc in no_round w s g here
-  no_round (ends_after {r = s} e w) r f (there {r = t} g h) = let j : next s ≡ To t = cc in no_round w t j
+  no_round (ends_after {r = s} e w) r f here = let g : next s ≡ Some s = cc in no_round w s g here
+  no_round (ends_after {r = s} e w) r f (there {r = t} g h) = let j : next s ≡ Some t = cc in no_round w t j
       (pass_trans h (there e here))
 
 module _ (next : ℕ → Next) where
@@ -67,7 +67,7 @@ module _ (next : ℕ → Next) where
   passes_self zero c = eq-eqb c c refl
   passes_self (suc k) c = rw (eq-eqb c c refl)
 
-  passes_next : (k c r x : ℕ) → next c ≡ To r → passes next k r x ≡ true → passes next (suc k) c x ≡ true
+  passes_next : (k c r x : ℕ) → next c ≡ Some r → passes next k r x ≡ true → passes next (suc k) c x ≡ true
   unfolding passes onward
   passes_next k c r x e h = rw e (go (eqb c x))
     where
@@ -107,8 +107,8 @@ module _ (next : ℕ → Next) where
     where
       go : (x : Next) → next c ≡ x → ((r : ℕ) → reaches_outlet next n r ≡ true → Ends next n r)
           → onward x true (λ r. reaches_outlet next n r) ≡ true → Ends next (suc n) c
-      go Outlet e f h = ends_here e
-      go (To r) e f h = ends_after e (f r h)
+      go None e f h = ends_here e
+      go (Some r) e f h = ends_after e (f r h)
 
 module _ {next : ℕ → Next} where
   pub ends_reaches : {n c : ℕ} → Ends next n c → reaches_outlet next n c ≡ true
@@ -117,12 +117,12 @@ module _ {next : ℕ → Next} where
   ends_reaches (ends_after e w) = rw e (ends_reaches w)
 
   -- a way that ends comes to a cell whose water goes nowhere
-  pub ends_at : {n c : ℕ} → Ends next n c → (o : ℕ) × Passes next c o × (next o ≡ Outlet)
+  pub ends_at : {n c : ℕ} → Ends next n c → (o : ℕ) × Passes next c o × (next o ≡ None)
   ends_at (ends_here {c = c} e) = (c, here, e)
   ends_at (ends_after e w) = let r = ends_at w in (r.0, there e r.1, r.2)
 
   -- and that is the cell at which it is found to end
-  pub ends_end : {n c o : ℕ} → Ends next n c → Passes next c o → next o ≡ Outlet → way_end next n c ≡ o
+  pub ends_end : {n c o : ℕ} → Ends next n c → Passes next c o → next o ≡ None → way_end next n c ≡ o
   unfolding way_end onward
   ends_end (ends_here e) here f = rw e
   ends_end (ends_here e) (there g h) f = let z : ◌≡◌ {A = ℕ} 0 1 = cc in absurd (omega arith)
@@ -131,32 +131,32 @@ module _ {next : ℕ → Next} where
       let same : s ≡ r = cc in
       rw e (ends_end w (rw same at h) f)
 
-  pub at_ends : {c o : ℕ} → Passes next c o → next o ≡ Outlet → (k : ℕ) × Ends next k c
+  pub at_ends : {c o : ℕ} → Passes next c o → next o ≡ None → (k : ℕ) × Ends next k c
   at_ends here e = (1, ends_here e)
   at_ends (there f h) e = let r = at_ends h e in (suc r.0, ends_after f r.1)
 
 -- the way up to a cell p: what lies past p is cut off
 module _ (next : ℕ → Next) (p : ℕ) where
   unfoldable until : ℕ → Next
-  until x = cond (eqb x p) Outlet (next x)
+  until x = cond (eqb x p) None (next x)
 
-  until_at : until p ≡ Outlet
+  until_at : until p ≡ None
   unfolding until
   until_at = rw (eq-eqb p p refl)
 
-  until_to : (x r : ℕ) → until x ≡ To r → (x ≢ p) × (next x ≡ To r)
+  until_to : (x r : ℕ) → until x ≡ Some r → (x ≢ p) × (next x ≡ Some r)
   unfolding until
   until_to x r e = go (eqb x p) refl e
     where
-      go : (b : Bool) → eqb x p ≡ b → cond b Outlet (next x) ≡ To r → (x ≢ p) × (next x ≡ To r)
+      go : (b : Bool) → eqb x p ≡ b → cond b None (next x) ≡ Some r → (x ≢ p) × (next x ≡ Some r)
       go true f e = let z : ◌≡◌ {A = ℕ} 0 1 = cc in absurd (omega arith)
       go false f e = (eqb-false x p f, e)
 
-  until_on : (x r : ℕ) → x ≢ p → next x ≡ To r → until x ≡ To r
+  until_on : (x r : ℕ) → x ≢ p → next x ≡ Some r → until x ≡ Some r
   unfolding until
   until_on x r d e = rw (ne_eqb x p d) e
 
-  until_off : (x : ℕ) → x ≢ p → until x ≡ Outlet → next x ≡ Outlet
+  until_off : (x : ℕ) → x ≢ p → until x ≡ None → next x ≡ None
   unfolding until
   until_off x d e = rw (ne_eqb x p d) at e
 
@@ -172,7 +172,7 @@ module _ (next : ℕ → Next) (p : ℕ) where
   until_passes here = here
   until_passes (there {q = q} {r = r} e h) = there (until_to q r e).1 (until_passes h)
 
-  not_at : {q : ℕ} → q ≢ p → Passes next q p → (r : ℕ) × (next q ≡ To r) × Passes next r p
+  not_at : {q : ℕ} → q ≢ p → Passes next q p → (r : ℕ) × (next q ≡ Some r) × Passes next r p
   not_at d here = absurd (d refl)
   not_at d (there {r = r} e h) = (r, e, h)
 

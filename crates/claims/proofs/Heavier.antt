@@ -10,12 +10,12 @@ use Prim.Native.Nat.{ℕ, zero, suc, ◌<◌, ◌≤◌}
 use native.Mathlib.Omega.{arith}
 use lib.Dec.{eqb, ltb, leb}
 use borrow.Author.Tests.{eqb-true, eqb-false, eq-eqb, ne_eqb, ltb-true, ltb-false, lt-ltb, leb-true, le-leb}
-use Rattle.sheet.specs.declared.Next.{Next}
-use Rattle.sheet.specs.declared.Next.TheVariants.{Outlet, To}
 use Rattle.sheet.specs.River.{insert, ends_on, donors_below}
 use Rattle.sheet.specs.Area.{heavier_by}
 use Rattle.claims.specs.Runs.{Above}
 use Rattle.claims.specs.Lawful.{Rising, rising_end, rising_cons}
+use Rattle.sheet.specs.Answer.{Next}
+use Rattle.std.specs.Prelude.{None, Some}
 
 pub data More (area : ℕ → ℕ) (u v : ℕ) : Type 0 where
   larger : area v < area u → More area u v
@@ -77,12 +77,12 @@ heavier_counts area least u v h k = go (more area u v h) (leb-true least (area v
     go (larger l) m = le-leb least (area u) (omega arith)
     go (later e l) m = le-leb least (area u) (omega arith)
 
-ends_true : (x : Next) (c : ℕ) → ends_on x c ≡ true → x ≡ To c
+ends_true : (x : Next) (c : ℕ) → ends_on x c ≡ true → x ≡ Some c
 unfolding ends_on
-ends_true Outlet c h = absurd (true≢false (sym h))
-ends_true (To r) c h = rw (eqb-true r c h)
+ends_true None c h = absurd (true≢false (sym h))
+ends_true (Some r) c h = rw (eqb-true r c h)
 
-ends_at : (x : Next) (c : ℕ) → x ≡ To c → ends_on x c ≡ true
+ends_at : (x : Next) (c : ℕ) → x ≡ Some c → ends_on x c ≡ true
 unfolding ends_on
 ends_at x c e = rw (e, ends_on) (eq-eqb c c refl)
 
@@ -126,19 +126,19 @@ module _ (heavier : ℕ → ℕ → Bool) where
         go false e f = rising_cons a (rising_cons (total u v (λ s. n (Memᴰ.head s)) e) r)
 
 module _ (next : ℕ → Next) (heavier : ℕ → ℕ → Bool) where
-  pub donors_only : (n c u : ℕ) → Memᴰ u (donors_below next heavier n c) → (u < n) × (next u ≡ To c)
+  pub donors_only : (n c u : ℕ) → Memᴰ u (donors_below next heavier n c) → (u < n) × (next u ≡ Some c)
   unfolding donors_below
   donors_only zero c u m = absurd (Memᴰ.not-nil m)
   donors_only (suc n) c u m = go (ends_on (next n) c) refl (donors_only n c u) m
     where
-      go : (b : Bool) → ends_on (next n) c ≡ b → (Memᴰ u (donors_below next heavier n c) → (u < n) × (next u ≡ To c))
+      go : (b : Bool) → ends_on (next n) c ≡ b → (Memᴰ u (donors_below next heavier n c) → (u < n) × (next u ≡ Some c))
           → Memᴰ u (cond b (insert heavier n (donors_below next heavier n c)) (donors_below next heavier n c)) →
-          (u < suc n) × (next u ≡ To c)
+          (u < suc n) × (next u ≡ Some c)
       go true e f m = elim (insert_mem heavier n (donors_below next heavier n c) u m)
           [ inl s ↦ (omega arith, rw s (ends_true (next n) c e)) | inr k ↦ let r = f k in (omega (arith, r.0), r.1) ]
       go false e f m = let r = f m in (omega (arith, r.0), r.1)
 
-  pub donors_all : (n c u : ℕ) → u < n → next u ≡ To c → Memᴰ u (donors_below next heavier n c)
+  pub donors_all : (n c u : ℕ) → u < n → next u ≡ Some c → Memᴰ u (donors_below next heavier n c)
   unfolding donors_below
   donors_all zero c u l e = absurd (omega arith)
   donors_all (suc n) c u l e = go (eqb u n) refl (λ k. donors_all n c u k e)

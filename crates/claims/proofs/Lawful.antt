@@ -7,13 +7,13 @@ use Prim.Native.Nat.{ℕ, zero, suc, ◌≤◌}
 use native.Mathlib.Omega.{arith}
 use lib.Dec.{eqb}
 use borrow.Author.Tests.{eqb-true, eq-eqb}
-use Rattle.sheet.specs.declared.Next.{Next}
-use Rattle.sheet.specs.declared.Next.TheVariants.{Outlet, To}
 use Rattle.sheet.specs.Water.{onward, passes, Passes, here, there}
 use Rattle.sheet.specs.Label.{passes_in, holds}
 use Rattle.sheet.specs.River.{Run, Network, stem, mouth}
 use Rattle.claims.specs.Lawful.{Lawful}
 use Rattle.claims.proofs.Runs.{has_stem, has_under, in_none, in_cons, In, is_stem, is_under, at_head, in_tail}
+use Rattle.sheet.specs.Answer.{Next}
+use Rattle.std.specs.Prelude.{None, Some}
 
 pub data Test (b : Bool) (A : Type 0) : Type 0 where
   yes : b ≡ true → A → Test b A
@@ -27,8 +27,8 @@ module _ (next : ℕ → Next) where
   onward_true : (x : Next) (f : ℕ → Bool) (q p : ℕ) → next q ≡ x → ((r : ℕ) → f r ≡ true → Passes next r p)
       → onward x false f ≡ true → Passes next q p
   unfolding onward
-  onward_true (To r) f q p e g h = there e (g r h)
-  onward_true Outlet f q p e g h = absurd (true≢false (sym h))
+  onward_true (Some r) f q p e g h = there e (g r h)
+  onward_true None f q p e g h = absurd (true≢false (sym h))
 
   cond_true : (b : Bool) (w : Bool) (q p : ℕ) → eqb q p ≡ b → (w ≡ true → Passes next q p) → cond b true w ≡ true
       → Passes next q p
@@ -46,7 +46,7 @@ module _ (next : ℕ → Next) where
   either true e = refl
   either false e = e
 
-module _ {next : ℕ → Next} (dist : ℕ → ℕ) (falls : (u r : ℕ) → next u ≡ To r → dist u ≡ suc (dist r)) where
+module _ {next : ℕ → Next} (dist : ℕ → ℕ) (falls : (u r : ℕ) → next u ≡ Some r → dist u ≡ suc (dist r)) where
   pub passes_all : (n : ℕ) {q p : ℕ} → Passes next q p → dist q ≤ n → passes next n q p ≡ true
   unfolding passes onward
   passes_all zero {q} here b = eq-eqb q q refl

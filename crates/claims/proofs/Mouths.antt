@@ -8,7 +8,6 @@ use native.Mathlib.Omega.{arith}
 use lib.Dec.{eqb, ltb}
 use lib.ListN.{length}
 use borrow.Author.Tests.{eqb-true, eqb-false, ltb-true, lt-ltb}
-use Rattle.sheet.specs.declared.Next.{Next}
 use Rattle.sheet.specs.Water.{here}
 use Rattle.sheet.specs.Unit.{finished, rank, taken, prepend, cut_at, parts, Parts, last, part}
 use Rattle.sheet.specs.Record.{Digits, digits_none, digits_cons}
@@ -23,6 +22,7 @@ use Rattle.claims.proofs.Parts.{spot_above, place_spot, place_headed, place_hold
 use Rattle.claims.proofs.Parts.{spot_mouth, spot_later}
 use Rattle.claims.proofs.Counts.{not-true}
 use Rattle.claims.proofs.Heavier.{heavier_trans, heavier_irrefl, heavier_total}
+use Rattle.sheet.specs.Answer.{Next}
 
 module _ {heavier : ℕ → ℕ → Bool}
     (lighter : (u v w : ℕ) → heavier w v ≡ true → heavier v u ≡ true → heavier w u ≡ true) where

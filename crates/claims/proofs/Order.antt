@@ -5,18 +5,18 @@ use mathlib.Core.Option.{Option, none, some}
 use mathlib.Core.List.{[], ◌∷◌, ◌++◌}
 use Prim.Native.Nat.{ℕ, suc}
 use native.Mathlib.Omega.{arith}
-use Rattle.sheet.specs.declared.Next.{Next}
-use Rattle.sheet.specs.declared.Next.TheVariants.{To}
 use Rattle.sheet.specs.Water.{Passes, here, there}
 use Rattle.sheet.specs.River.{Run, Entry, stem, mouth}
 use Rattle.claims.specs.Runs.{Above, Chain, chain_end, chain_stem, chain_mouth}
 use Rattle.claims.proofs.Runs.{pass_trans, in_left, in_right, pass_dist, pass_same, Has, In, StemOf, is_stem}
 use Rattle.claims.proofs.Runs.{is_under, at_head, in_tail, stem_here, stem_there}
+use Rattle.sheet.specs.Answer.{Next}
+use Rattle.std.specs.Prelude.{Some}
 
 -- a donor of s past `old` that c's water passes
 pub record Under (next : ℕ → Next) (heavier : ℕ → ℕ → Bool) (s : ℕ) (old : Option ℕ) (c : ℕ) : Type 0 where
   pub donor : ℕ
-  pub steps : next donor ≡ To s
+  pub steps : next donor ≡ Some s
   pub above : Above heavier old donor
   pub passed : Passes next c donor
 
@@ -81,7 +81,7 @@ module _ {next : ℕ → Next} where
   stem_first (e ∷ A) B (ordered_cons n f o) (stem_there i) j = stem_first A B o i j
 
 module _ {next : ℕ → Next} {heavier : ℕ → ℕ → Bool}
-    (dist : ℕ → ℕ) (falls : (u r : ℕ) → next u ≡ To r → dist u ≡ suc (dist r))
+    (dist : ℕ → ℕ) (falls : (u r : ℕ) → next u ≡ Some r → dist u ≡ suc (dist r))
     (lighter : (u v w : ℕ) → heavier w v ≡ true → heavier v u ≡ true → heavier w u ≡ true)
     (unlike : (u : ℕ) → heavier u u ≡ false) where
   stem_not : {s : ℕ} {R : Run} → Chain next heavier s none R → (q p : ℕ) → Has next (stem s) q → In next R p
@@ -91,7 +91,7 @@ module _ {next : ℕ → Next} {heavier : ℕ → ℕ → Bool}
       let k = pass_dist dist falls (pass_trans h u.passed) in
       omega (arith, falls u.donor s u.steps)
 
-  mouth_not : {s v : ℕ} {R : Run} → next v ≡ To s → Chain next heavier s (some v) R → (q p : ℕ) → Has next (mouth v) q
+  mouth_not : {s v : ℕ} {R : Run} → next v ≡ Some s → Chain next heavier s (some v) R → (q p : ℕ) → Has next (mouth v) q
       → In next R p → ¬ Passes next q p
   mouth_not {s} {v} e w q p (is_under k) i h =
       let u = under lighter w i in

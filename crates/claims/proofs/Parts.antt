@@ -7,8 +7,6 @@ use mathlib.Core.Logic.{◌⊎◌, inl, inr, ◌≢◌}
 use Prim.Native.Nat.{ℕ, suc, ◌%◌, ◌<◌}
 use native.Mathlib.Omega.{arith}
 use borrow.Author.Tests.{eqb-false, eq-eqb, ne_eqb}
-use Rattle.sheet.specs.declared.Next.{Next}
-use Rattle.sheet.specs.declared.Next.TheVariants.{To}
 use Rattle.sheet.specs.Water.{Passes, here}
 use Rattle.sheet.specs.Flow.{is_odd}
 use Rattle.sheet.specs.Unit.{taken, prepend, cut_at, Parts, last, part}
@@ -22,6 +20,8 @@ use Rattle.claims.proofs.Runs.{is_under, at_head, in_tail}
 use Rattle.claims.proofs.Order.{ordered_right, not_back, stem_first, Ordered}
 use Rattle.claims.proofs.Lawful.{passes_test, in_test, Test, yes, no}
 use Rattle.claims.proofs.Rivers.{headed_ordered, river_headed, river_passes, river_covers}
+use Rattle.sheet.specs.Answer.{Next}
+use Rattle.std.specs.Prelude.{Some}
 
 abbrev pub join : Parts → Run
 join (last R) = R
@@ -155,13 +155,13 @@ data Tail (next : ℕ → Next) (heavier : ℕ → ℕ → Bool) (s : ℕ) (old 
       → Tail next heavier s old (part R v P)
 
 module _ {next : ℕ → Next} {heavier : ℕ → ℕ → Bool} where
-  stem_tail : {s c : ℕ} {old : Option ℕ} {P : Parts} → next c ≡ To s → Above heavier old c → Tail next heavier c none P
+  stem_tail : {s c : ℕ} {old : Option ℕ} {P : Parts} → next c ≡ Some s → Above heavier old c → Tail next heavier c none P
       → Tail next heavier s old (prepend (stem c) P)
   unfolding prepend
   stem_tail e a (tail_last w) = tail_last (chain_stem e a w)
   stem_tail e a (tail_cut w h) = tail_cut (chain_stem e a w) h
 
-  mouth_tail : {s v : ℕ} {old : Option ℕ} {P : Parts} → next v ≡ To s → Above heavier old v
+  mouth_tail : {s v : ℕ} {old : Option ℕ} {P : Parts} → next v ≡ Some s → Above heavier old v
       → Tail next heavier s (some v) P → Tail next heavier s old (prepend (mouth v) P)
   unfolding prepend
   mouth_tail e a (tail_last w) = tail_last (chain_mouth e a w)

@@ -5,10 +5,6 @@ use Prim.Native.Nat.{ℕ, ◌<◌, ◌≤◌}
 use native.Mathlib.Omega.{arith}
 use borrow.Author.Tests.{eqb-true, eqb-false}
 use lib.Dec.{eqb}
-use Rattle.sheet.specs.declared.Found.{Found}
-use Rattle.sheet.specs.declared.Found.TheVariants.{At, Nothing}
-use Rattle.sheet.specs.declared.Outcome.{Outcome}
-use Rattle.sheet.specs.declared.Outcome.TheVariants.{Accepted, Refused}
 use Rattle.sheet.specs.Sheet.{Grid, Sheet, cells, inside, first}
 use Rattle.sheet.specs.Refusal.{Lent, bad_code, undrained, refused_at}
 use Rattle.sheet.specs.Refusal.{refused_if_none, slices_fit, weights_fit, outcome_on, outcome_from17, outcome_from3}
@@ -16,15 +12,17 @@ use Rattle.sheet.specs.Refusal.{fault_of, outcome}
 use Rattle.sheet.proofs.First.{at_first}
 use Rattle.sheet.proofs.Cells.{cells_most}
 use Rattle.sheet.proofs.Within.{rows_cols_most, fault_most, no_fault}
+use Rattle.sheet.specs.Answer.{Found, Outcome, Accepted, Refused}
+use Rattle.std.specs.Prelude.{Err, None, Some}
 
 -- a small number that is not 0, and a place that is the number of a cell
 abbrev pub SmallRefusal : Outcome → Type 0
 SmallRefusal Accepted = Unit
-SmallRefusal (Refused number place) = (1 ≤ number) × (number ≤ 19) × (place < 65536)
+SmallRefusal (Err refusal) = (1 ≤ refusal.number) × (refusal.number ≤ 19) × (refusal.place < 65536)
 
 -- a cell that was found lies below a bound
 abbrev Below : ℕ → Found → Type 0
-Below n f = (c : ℕ) → f ≡ At c → c < n
+Below n f = (c : ℕ) → f ≡ Some c → c < n
 
 first_below : (n : ℕ) (test : ℕ → Bool) → Below n (first test n)
 first_below n test c e = (at_first test n c e).below
@@ -33,14 +31,14 @@ at_small : {n number : ℕ} (f : Found) (rest : Outcome) → n ≤ 65536 → 1 �
     → SmallRefusal rest
     → SmallRefusal (refused_at number f rest)
 unfolding refused_at
-at_small (At c) rest m g h b s = let l = b c refl in (g, h, omega arith)
-at_small Nothing rest m g h b s = s
+at_small (Some c) rest m g h b s = let l = b c refl in (g, h, omega arith)
+at_small None rest m g h b s = s
 
 none_small : {number : ℕ} (f : Found) (rest : Outcome) → 1 ≤ number → number ≤ 19 → SmallRefusal rest
     → SmallRefusal (refused_if_none number f rest)
 unfolding refused_if_none
-none_small (At c) rest g h s = s
-none_small Nothing rest g h s = (g, h, omega arith)
+none_small (Some c) rest g h s = s
+none_small None rest g h s = (g, h, omega arith)
 
 on_small : (G : Grid) → cells G ≤ 65536 → SmallRefusal (outcome_on G)
 unfolding outcome_on

@@ -8,8 +8,6 @@ use mathlib.Core.Logic.{inl, inr}
 use Prim.Native.Nat.{ℕ, zero, suc, ◌+◌, ◌≤◌}
 use native.Mathlib.Omega.{arith}
 use native.Mathlib.Nat.{suc-add}
-use Rattle.sheet.specs.declared.Next.{Next}
-use Rattle.sheet.specs.declared.Next.TheVariants.{To}
 use Rattle.sheet.specs.Water.{Passes, here}
 use Rattle.sheet.specs.River.{donors, Run, upstream, river_within, river, Network, stem, mouth}
 use Rattle.claims.specs.Runs.{MouthOf, mouth_here, mouth_there, Above, Chain, chain_end, chain_stem, chain_mouth}
@@ -17,17 +15,19 @@ use Rattle.claims.specs.Runs.{Headed, headed_none, headed_stem}
 use Rattle.claims.specs.Lawful.{Rising, rising_cons, Lawful}
 use Rattle.claims.proofs.Runs.{has_stem, in_none, in_cons, pass_last, In, is_stem, is_under, at_head, in_tail}
 use Rattle.claims.proofs.Order.{chain_passes, stem_ordered, Ordered, ordered_end}
+use Rattle.sheet.specs.Answer.{Next}
+use Rattle.std.specs.Prelude.{Some}
 
 -- the water of a mouth goes on
 module _ {next : ℕ → Next} {heavier : ℕ → ℕ → Bool} where
   chain_goes : {s v : ℕ} {old : Option ℕ} {R : Run} → Chain next heavier s old R → MouthOf R v
-      → (t : ℕ) × (next v ≡ To t)
+      → (t : ℕ) × (next v ≡ Some t)
   chain_goes chain_end m = elim m [ ]
   chain_goes (chain_stem e a w) (mouth_there m) = chain_goes w m
   chain_goes {s} (chain_mouth e a w) mouth_here = (s, e)
   chain_goes (chain_mouth e a w) (mouth_there m) = chain_goes w m
 
-  pub mouth_goes : {v : ℕ} {R : Run} → Headed next heavier R → MouthOf R v → (t : ℕ) × (next v ≡ To t)
+  pub mouth_goes : {v : ℕ} {R : Run} → Headed next heavier R → MouthOf R v → (t : ℕ) × (next v ≡ Some t)
   mouth_goes headed_none m = elim m [ ]
   mouth_goes (headed_stem w) (mouth_there m) = chain_goes w m
 
@@ -37,8 +37,8 @@ module _ {N : Network} {heavier : ℕ → ℕ → Bool} (O : Lawful N heavier) w
   headed_ordered (headed_stem w) = stem_ordered O.dist O.falls O.lighter O.unlike w
 
   upstream_chain : (f : ℕ → Run) (s : ℕ)
-      → ((old : Option ℕ) (u : ℕ) → N.next u ≡ To s → Above heavier old u → Chain N.next heavier s old (f u))
-      → (old : Option ℕ) (us : List ℕ) → ((u : ℕ) → Memᴰ u us → N.next u ≡ To s) → Rising heavier old us
+      → ((old : Option ℕ) (u : ℕ) → N.next u ≡ Some s → Above heavier old u → Chain N.next heavier s old (f u))
+      → (old : Option ℕ) (us : List ℕ) → ((u : ℕ) → Memᴰ u us → N.next u ≡ Some s) → Rising heavier old us
       → Chain N.next heavier s old (upstream f us)
   unfolding upstream
   upstream_chain f s g old [] m r = chain_end
@@ -47,7 +47,7 @@ module _ {N : Network} {heavier : ℕ → ℕ → Bool} (O : Lawful N heavier) w
       chain_mouth (m u (Memᴰ.head refl)) a
       (upstream_chain f s g (some u) (w ∷ us) (λ x h. m x (Memᴰ.tail h)) r)
 
-  within_chain : (n s : ℕ) (old : Option ℕ) (u : ℕ) → N.next u ≡ To s → Above heavier old u
+  within_chain : (n s : ℕ) (old : Option ℕ) (u : ℕ) → N.next u ≡ Some s → Above heavier old u
       → Chain N.next heavier s old (river_within N n u)
   unfolding river_within
   within_chain zero s old u e a = chain_end

@@ -4,11 +4,11 @@ use mathlib.Core.List.{[], ◌∷◌, ◌++◌}
 use mathlib.Core.Logic.{◌⊎◌, inl, inr}
 use Prim.Native.Nat.{ℕ, suc, ◌≤◌}
 use native.Mathlib.Omega.{arith}
-use Rattle.sheet.specs.declared.Next.{Next}
-use Rattle.sheet.specs.declared.Next.TheVariants.{To}
 use Rattle.sheet.specs.Water.{Passes, here, there}
 use Rattle.sheet.specs.River.{Run, Entry, stem, mouth}
 use Rattle.claims.specs.Runs.{MouthOf, mouth_here, mouth_there}
+use Rattle.sheet.specs.Answer.{Next}
+use Rattle.std.specs.Prelude.{Some}
 
 -- the entry holds the cell
 pub data Has (next : ℕ → Next) : Entry → ℕ → Type 0 where
@@ -60,7 +60,7 @@ module _ {next : ℕ → Next} where
   in_cons (in_tail h) = inr h
 
   -- the way goes on through a donor, or has come to its end
-  pub pass_last : {q p : ℕ} → Passes next q p → (q ≡ p) ⊎ ((u : ℕ) × (next u ≡ To p) × Passes next q u)
+  pub pass_last : {q p : ℕ} → Passes next q p → (q ≡ p) ⊎ ((u : ℕ) × (next u ≡ Some p) × Passes next q u)
   pass_last here = inl refl
   pass_last (there {q = q} e h) = elim
       (pass_last h) [ inl r ↦ inr (q, rw r at e, here) | inr k ↦ inr (k.0, k.1, there e k.2) ]
@@ -71,7 +71,7 @@ module _ {next : ℕ → Next} where
   in_append (e ∷ A) B (in_tail h) = elim (in_append A B h) [ inl k ↦ inl (in_tail k) | inr k ↦ inr k ]
 
 -- over a number of steps to the outlet, which falls by one at each step
-module _ {next : ℕ → Next} (dist : ℕ → ℕ) (falls : (u r : ℕ) → next u ≡ To r → dist u ≡ suc (dist r)) where
+module _ {next : ℕ → Next} (dist : ℕ → ℕ) (falls : (u r : ℕ) → next u ≡ Some r → dist u ≡ suc (dist r)) where
   pub pass_dist : {q p : ℕ} → Passes next q p → dist p ≤ dist q
   pass_dist here = omega arith
   pass_dist (there {q = q} {r = r} e h) = let i = pass_dist h in omega (arith, falls q r e)

@@ -5,12 +5,6 @@ use Prim.Native.Nat.{ℕ, ◌<◌}
 use native.Mathlib.Omega.{arith}
 use lib.Dec.{eqb}
 use borrow.Author.Tests.{eqb-true}
-use Rattle.sheet.specs.declared.Found.TheVariants.{At, Nothing}
-use Rattle.sheet.specs.declared.Next.{Next}
-use Rattle.sheet.specs.declared.Next.TheVariants.{Outlet, To}
-use Rattle.sheet.specs.declared.Found.{Found}
-use Rattle.sheet.specs.declared.Outcome.{Outcome}
-use Rattle.sheet.specs.declared.Outcome.TheVariants.{Accepted, Refused}
 use Rattle.sheet.specs.Water.{reaches_outlet}
 use Rattle.sheet.specs.River.{network_by}
 use Rattle.sheet.specs.Refusal.{sizes_fit, depth_fits, least_and_split_fit, slices_fit, fault_of, bad_code, undrained}
@@ -23,6 +17,8 @@ use Rattle.sheet.proofs.Within.{no_fault}
 use Rattle.claims.specs.Basin.{Forest}
 use Rattle.claims.proofs.Heavier.{heavier_counts}
 use Rattle.claims.proofs.Fuel.{reaches_ends}
+use Rattle.sheet.specs.Answer.{Next, Found, Outcome, Accepted, Refused}
+use Rattle.std.specs.Prelude.{None, Some}
 
 -- checks 1, 2, 19, 3, 17 and 4 to 6, passed
 pub record Passed (S : Sheet) (L : Lent) : Type 0 where
@@ -73,16 +69,16 @@ accepted_passed S L e =
       rest = w.1;
     }
 
-not_found : (n : ℕ) (f : Found) {rest : Outcome} → refused_at n f rest ≡ Accepted → (f ≡ Nothing) × (rest ≡ Accepted)
+not_found : (n : ℕ) (f : Found) {rest : Outcome} → refused_at n f rest ≡ Accepted → (f ≡ None) × (rest ≡ Accepted)
 unfolding refused_at
-not_found n (At c) e = let z : ◌≡◌ {A = ℕ} 0 1 = cc in absurd (omega arith)
-not_found n Nothing e = (refl, e)
+not_found n (Some c) e = let z : ◌≡◌ {A = ℕ} 0 1 = cc in absurd (omega arith)
+not_found n None e = (refl, e)
 
 found_one : (n : ℕ) (f : Found) {rest : Outcome} → refused_if_none n f rest ≡ Accepted
-    → ((c : ℕ) × (f ≡ At c)) × (rest ≡ Accepted)
+    → ((c : ℕ) × (f ≡ Some c)) × (rest ≡ Accepted)
 unfolding refused_if_none
-found_one n (At c) e = ((c, refl), e)
-found_one n Nothing e = let z : ◌≡◌ {A = ℕ} 0 1 = cc in absurd (omega arith)
+found_one n (Some c) e = ((c, refl), e)
+found_one n None e = let z : ◌≡◌ {A = ℕ} 0 1 = cc in absurd (omega arith)
 
 pub passed_on : (G : Grid) → outcome_on G ≡ Accepted → PassedOn G
 unfolding outcome_on
@@ -98,21 +94,21 @@ passed_on G e =
     }
 
 module _ (G : Grid) where
-  pub outlet_is : (c : ℕ) → is_outlet G c ≡ true → (inside G c ≡ true) × (next G c ≡ Outlet)
+  pub outlet_is : (c : ℕ) → is_outlet G c ≡ true → (inside G c ≡ true) × (next G c ≡ None)
   unfolding is_outlet
   outlet_is c e = go (inside G c) refl (next G c) refl e
     where
       go : (b : Bool) → inside G c ≡ b → (x : Next) → next G c ≡ x → cond b (goes_nowhere x) false ≡ true
-          → (b ≡ true) × (x ≡ Outlet)
-      go true i Outlet n e = (refl, refl)
-      go true i (To r) n e = absurd (true≢false (sym e))
+          → (b ≡ true) × (x ≡ None)
+      go true i None n e = (refl, refl)
+      go true i (Some r) n e = absurd (true≢false (sym e))
       go false i x n e = absurd (true≢false (sym e))
 
-  pub is_outlet_lem : (c : ℕ) → inside G c ≡ true → next G c ≡ Outlet → is_outlet G c ≡ true
+  pub is_outlet_lem : (c : ℕ) → inside G c ≡ true → next G c ≡ None → is_outlet G c ≡ true
   unfolding is_outlet
   is_outlet_lem c i e = go (inside G c) i (next G c) e
     where
-      go : (b : Bool) → b ≡ true → (x : Next) → x ≡ Outlet → cond b (goes_nowhere x) false ≡ true
+      go : (b : Bool) → b ≡ true → (x : Next) → x ≡ None → cond b (goes_nowhere x) false ≡ true
       go b i x e = rw (i, e)
 
   -- an inside cell that is not undrained comes to an outlet

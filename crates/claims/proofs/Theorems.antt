@@ -7,8 +7,6 @@ use Prim.Native.Nat.{ℕ, ◌<◌, ◌≤◌}
 use native.Mathlib.Omega.{arith}
 use lib.Dec.{leb}
 use borrow.Author.Tests.{le-leb}
-use Rattle.sheet.specs.declared.Next.{Next}
-use Rattle.sheet.specs.declared.Outcome.TheVariants.{Accepted}
 use Rattle.sheet.specs.Water.{DrainsTo}
 use Rattle.sheet.specs.Record.{record_of, label_at}
 use Rattle.sheet.specs.Area.{sum_over, weight, area}
@@ -33,6 +31,7 @@ use Rattle.claims.proofs.BasinNumbers.{outlet_of_is, same_outlet, way_basin}
 use Rattle.claims.proofs.Written.{checks, grid_checks, the_forest, basin_of_lem, in_own_basin, basin_written}
 use Rattle.claims.proofs.Written.{label_from_outlet, digits_from_outlet, is_label_lem}
 use Rattle.claims.proofs.Written.{first_number_fits, second_number_fits}
+use Rattle.sheet.specs.Answer.{Next, Accepted}
 
 -- ---- the same claims for the same cells, said in another way, and digits that agree on them
 

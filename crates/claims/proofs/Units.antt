@@ -6,8 +6,6 @@ use mathlib.Core.List.{List, [], ◌∷◌}
 use mathlib.Core.Logic.{inl, inr}
 use Prim.Native.Nat.{ℕ, zero, suc}
 use native.Mathlib.Omega.{arith}
-use Rattle.sheet.specs.declared.Next.{Next}
-use Rattle.sheet.specs.declared.Next.TheVariants.{To}
 use Rattle.sheet.specs.Water.{Passes, Drains, DrainsTo, here, there, drained, drains_on}
 use Rattle.sheet.specs.Unit.{finished, taken}
 use Rattle.sheet.specs.Label.{place_of, label, Place}
@@ -21,6 +19,8 @@ use Rattle.claims.proofs.Rivers.{river_headed, river_passes, river_covers}
 use Rattle.claims.proofs.Parts.{join_cut, spot_part, place_spot, place_headed, place_holds, place_pair, Pair}
 use Rattle.claims.proofs.Parts.{pair_same, pair_odd, pair_even, pair_more}
 use Rattle.claims.proofs.DigitRule.{first_stem, unit_outlet, label_on}
+use Rattle.sheet.specs.Answer.{Next}
+use Rattle.std.specs.Prelude.{Some}
 
 module _ {next : ℕ → Next} where
   pub drains_passes : {S : ℕ → Type 0} {x c : ℕ} → Drains next S x c → Passes next x c
@@ -31,7 +31,7 @@ module _ {next : ℕ → Next} where
   drains_map f (drained {c = c} s) = drained (f c s)
   drains_map f (drains_on {x = x} s e d) = drains_on (f x s) e (drains_map f d)
 
-  drains_more : {S : ℕ → Type 0} {x c s : ℕ} → Drains next S x c → next c ≡ To s → S s → Drains next S x s
+  drains_more : {S : ℕ → Type 0} {x c s : ℕ} → Drains next S x c → next c ≡ Some s → S s → Drains next S x s
   drains_more (drained a) e b = drains_on a e (drained b)
   drains_more (drains_on a e d) f b = drains_on a e (drains_more d f b)
 
@@ -51,7 +51,7 @@ module _ {next : ℕ → Next} where
   chain_drains (chain_mouth e a w) f b (in_tail i) = chain_drains w (λ x j. f x (in_tail j)) b i
 
   -- there is at most one such cell
-  pub one_outlet : (dist : ℕ → ℕ) → ((u r : ℕ) → next u ≡ To r → dist u ≡ suc (dist r))
+  pub one_outlet : (dist : ℕ → ℕ) → ((u r : ℕ) → next u ≡ Some r → dist u ≡ suc (dist r))
       → {S : ℕ → Type 0} {c d : ℕ} → DrainsTo next S c → DrainsTo next S d → c ≡ d
   one_outlet dist falls {c = c} {d = d} a b = pass_both dist falls (drains_passes (b.drains c a.among))
       (drains_passes (a.drains d b.among))

@@ -5,8 +5,6 @@ use mathlib.Core.Bool.{Bool, true, cond}
 use Prim.Native.Nat.{ℕ, ◌^◌, ◌≤◌, ◌<◌}
 use native.Mathlib.Omega.{arith}
 use lib.ListN.{length, get_or}
-use Rattle.sheet.specs.declared.Outcome.{Outcome}
-use Rattle.sheet.specs.declared.Outcome.TheVariants.{Accepted}
 use Rattle.sheet.specs.Record.{Digits, record_of, digits_of, no_digits, label_at}
 use Rattle.sheet.specs.Label.{outlet_of, label_digits, label_of}
 use Rattle.sheet.specs.Basins.{basin_of, basin_area, basin_label, basin_areas, basin_labels, basins_of}
@@ -31,6 +29,7 @@ use Rattle.claims.proofs.Units.{digits_in}
 use Rattle.claims.proofs.Sheets.{accepted_passed, passed_on, forest, outlet_is, Passed, PassedOn}
 use Rattle.claims.proofs.BasinNumbers.{outlet_of_is}
 use Rattle.claims.proofs.Alone.{area_alone, label_alone, basins_meaning}
+use Rattle.sheet.specs.Answer.{Outcome, Accepted}
 
 -- an inside cell's digits start from its own outlet
 pub own_digits : (S : Sheet) (c : ℕ) → label_digits S c ≡ digits_in (network S) (outlet_of S.grid c) S.depth c

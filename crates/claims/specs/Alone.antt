@@ -1,7 +1,6 @@
 -- What document 02 says of basins, of the numbers that were written: their order, and that areas and labels are those
 -- of the sheet on which all other basins are set to 0; where there is one basin, they are those of document 01.
-use Rattle.std.specs.Prelude.{◌≡◌, true, false, List, ℕ, suc, ◌≤◌, ◌<◌, get_or}
-use Rattle.sheet.specs.declared.Next.TheVariants.{To}
+use Rattle.std.specs.Prelude.{◌≡◌, true, false, List, ℕ, suc, ◌≤◌, ◌<◌, get_or, Some}
 use Rattle.sheet.specs.Sheet.{Grid, Sheet, cells, inside, is_outlet, next}
 use Rattle.sheet.specs.Area.{count, area}
 use Rattle.sheet.specs.Record.{label_at}
@@ -28,7 +27,7 @@ pub record BasinsMeaning (S : Sheet) (basins : List ℕ) : Type 0 where
   -- an outlet's is the count of outlets up to it, in reading order
   pub numbered : (o : ℕ) → is_outlet S.grid o ≡ true → basin_at basins o ≡ count (suc o) (is_outlet S.grid)
   -- water stays in its basin
-  pub stays : (c r : ℕ) → next S.grid c ≡ To r → basin_at basins c ≡ basin_at basins r
+  pub stays : (c r : ℕ) → next S.grid c ≡ Some r → basin_at basins c ≡ basin_at basins r
   -- a later outlet has a larger number, so that a basin has one outlet
   pub rising : (o p : ℕ) → is_outlet S.grid o ≡ true → is_outlet S.grid p ≡ true → o < p
       → basin_at basins o < basin_at basins p

@@ -1,11 +1,11 @@
 -- The third demand, about any labels: where water goes, which cells it is about (`inside`: of a sheet, the inside cells
 -- of one basin), the depth, the least area of a mouth that is counted, each cell's label and its digits.
 use Rattle.std.specs.Prelude.{◌≡◌, true, List, ◌≢◌, ◌↔◌, ℕ, ◌<◌, length, get_or}
-use Rattle.sheet.specs.declared.Next.{Next}
 use Rattle.sheet.specs.Sheet.{Sheet, inside, next}
 use Rattle.sheet.specs.Water.{Passes, DrainsTo}
 use Rattle.sheet.specs.Record.{digits_of, label_at}
 use Rattle.claims.specs.Parting.{PartAt, RuleAt, Begins}
+use Rattle.sheet.specs.Answer.{Next}
 
 -- an inside cell that has the leading digits w
 pub record Shares (inside : ℕ → Type 0) (digits : ℕ → List ℕ) (w : List ℕ) (c : ℕ) : Type 0 where

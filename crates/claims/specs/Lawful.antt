@@ -1,8 +1,7 @@
 -- What labelling asks of a network, for any order of cells by weight.
-use Rattle.std.specs.Prelude.{◌≡◌, Bool, true, false, ℕ, suc, ◌<◌}
+use Rattle.std.specs.Prelude.{◌≡◌, Bool, true, false, ℕ, suc, ◌<◌, Some}
 use Rattle.std.proofs.Math.Option.{Option, none, some}
 use mathlib.Core.List.{List, [], ◌∷◌, Memᴰ}
-use Rattle.sheet.specs.declared.Next.TheVariants.{To}
 use Rattle.sheet.specs.Unit.{taken}
 use Rattle.sheet.specs.River.{donors, Run, Network}
 use Rattle.claims.specs.Runs.{MouthOf, Above}
@@ -16,11 +15,11 @@ pub data Rising (heavier : ℕ → ℕ → Bool) : Option ℕ → List ℕ → T
 pub record Lawful (N : Network) (heavier : ℕ → ℕ → Bool) : Type 0 where
   -- the number of steps to the outlet falls by one at each step, and is less than the number of cells
   pub dist : ℕ → ℕ
-  pub falls : (u r : ℕ) → N.next u ≡ To r → dist u ≡ suc (dist r)
+  pub falls : (u r : ℕ) → N.next u ≡ Some r → dist u ≡ suc (dist r)
   pub short : (u : ℕ) → dist u < N.cells
   -- the donors of a cell are the cells whose step ends on it, from lightest to heaviest
-  pub donor_steps : (c u : ℕ) → Memᴰ u (donors N c) → N.next u ≡ To c
-  pub donors_complete : (c u : ℕ) → N.next u ≡ To c → Memᴰ u (donors N c)
+  pub donor_steps : (c u : ℕ) → Memᴰ u (donors N c) → N.next u ≡ Some c
+  pub donors_complete : (c u : ℕ) → N.next u ≡ Some c → Memᴰ u (donors N c)
   pub donors_rising : (c : ℕ) → Rising heavier none (donors N c)
   -- no cell is heavier than itself, and what is heavier than a heavier cell is heavier
   pub lighter : (u v w : ℕ) → heavier w v ≡ true → heavier v u ≡ true → heavier w u ≡ true

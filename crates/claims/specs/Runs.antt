@@ -1,9 +1,8 @@
 -- Mouths of a run, and the order in which a run of a river list names stem cells and mouths.
-use Rattle.std.specs.Prelude.{◌≡◌, Bool, true, [], ◌∷◌, ℕ}
+use Rattle.std.specs.Prelude.{◌≡◌, Bool, true, [], ◌∷◌, ℕ, Some}
 use Rattle.std.proofs.Math.Option.{Option, none, some}
-use Rattle.sheet.specs.declared.Next.{Next}
-use Rattle.sheet.specs.declared.Next.TheVariants.{To}
 use Rattle.sheet.specs.River.{Run, Entry, stem, mouth}
+use Rattle.sheet.specs.Answer.{Next}
 
 -- v is a mouth of the run
 pub data MouthOf : Run → ℕ → Type 0 where
@@ -19,9 +18,9 @@ Above heavier (some u) v = heavier v u ≡ true
 -- donor as the next stem cell, or names the mouth of a tributary; donors are named from lightest to heaviest
 pub data Chain (next : ℕ → Next) (heavier : ℕ → ℕ → Bool) : ℕ → Option ℕ → Run → Type 0 where
   chain_end : {s : ℕ} {old : Option ℕ} → Chain next heavier s old []
-  chain_stem : {s : ℕ} {old : Option ℕ} {t : ℕ} {R : Run} → next t ≡ To s → Above heavier old t
+  chain_stem : {s : ℕ} {old : Option ℕ} {t : ℕ} {R : Run} → next t ≡ Some s → Above heavier old t
       → Chain next heavier t none R → Chain next heavier s old (stem t ∷ R)
-  chain_mouth : {s : ℕ} {old : Option ℕ} {v : ℕ} {R : Run} → next v ≡ To s → Above heavier old v
+  chain_mouth : {s : ℕ} {old : Option ℕ} {v : ℕ} {R : Run} → next v ≡ Some s → Above heavier old v
       → Chain next heavier s (some v) R → Chain next heavier s old (mouth v ∷ R)
 
 -- the run is empty or begins with a stem cell, and goes on after it

@@ -9,7 +9,8 @@ use lib.ListN.{length, drop, replicate, length-append, length-replicate}
 use lib.Seq.{drop-append_seam, drop-append-add, drop_at}
 use lib.Dec.{eqb}
 use Rattle.decimal.specs.Ascii.{blank}
-use Rattle.decimal.specs.declared.Value.TheVariants.{Found, Bad}
+use Rattle.std.proofs.Common.{None}
+use Rattle.decimal.specs.Value.{Found}
 use Rattle.decimal.specs.Value.{is_digit, is_blank, take_while, digit_run, blank_run, blanks_at, most_digits, is_value}
 use Rattle.decimal.specs.Value.{found_at, unpadded_at, most_blanks, value_at}
 use Rattle.decimal.specs.Blanks.{with_blanks, AfterBlanks, PaddedValues}
@@ -94,10 +95,10 @@ module _ (most blanks : ℕ) (front s : List ℕ) where
       value_after_blanks most (front ++ with_blanks blanks s) (length front) few (omega arith)
       ∙ rw n (unpadded_moved most s _ 0 (length front + blanks) end (sym rest) (omega arith) e)
 
-  too_many : most_blanks < blanks → value_at most (front ++ with_blanks blanks s) (length front) ≡ Bad
+  too_many : most_blanks < blanks → value_at most (front ++ with_blanks blanks s) (length front) ≡ None
   too_many h = value_over_blanks most (front ++ with_blanks blanks s) (length front) (omega (arith, count))
 
-  no_digit : blank_run s ≡ [] → digit_run s ≡ [] → value_at most (front ++ with_blanks blanks s) (length front) ≡ Bad
+  no_digit : blank_run s ≡ [] → digit_run s ≡ [] → value_at most (front ++ with_blanks blanks s) (length front) ≡ None
   no_digit none e =
       let n : blanks_at (front ++ with_blanks blanks s) (length front) ≡ blanks =
       omega (arith, count, ap length none) in

@@ -1,7 +1,8 @@
 -- The definitions tried by computation.
 use mathlib.Core.Path.{◌≡◌, refl}
-use Rattle.decimal.specs.declared.Value.TheVariants.{Found, Bad}
-use Rattle.decimal.specs.declared.Written.TheVariants.{End, NoRoom}
+use Rattle.std.proofs.Common.{None}
+use Rattle.decimal.specs.Value.{Found}
+use Rattle.std.proofs.Common.{Some}
 use Rattle.decimal.specs.Ascii.{ascii}
 use Rattle.decimal.specs.Value.{value_at}
 use Rattle.decimal.specs.Text.{decimal_text, write_text}
@@ -11,7 +12,7 @@ pub zero_alone : value_at 5 (ascii "0") 0 ≡ Found 0 1
 unfolding value_at
 zero_alone = refl
 
-pub leading_zero : value_at 5 (ascii "07") 0 ≡ Bad
+pub leading_zero : value_at 5 (ascii "07") 0 ≡ None
 unfolding value_at
 leading_zero = refl
 
@@ -19,7 +20,7 @@ pub five_digits : value_at 5 (ascii "99999") 0 ≡ Found 99999 5
 unfolding value_at
 five_digits = refl
 
-pub six_digits : value_at 5 (ascii "100000") 0 ≡ Bad
+pub six_digits : value_at 5 (ascii "100000") 0 ≡ None
 unfolding value_at
 six_digits = refl
 
@@ -43,7 +44,7 @@ pub eight_blanks : value_at 5 (ascii "        99999") 0 ≡ Found 99999 13
 unfolding value_at
 eight_blanks = refl
 
-pub nine_blanks : value_at 5 (ascii "         1") 0 ≡ Bad
+pub nine_blanks : value_at 5 (ascii "         1") 0 ≡ None
 unfolding value_at
 nine_blanks = refl
 
@@ -51,11 +52,11 @@ pub eight_of_nine_blanks : value_at 5 (ascii "         1") 1 ≡ Found 1 10
 unfolding value_at
 eight_of_nine_blanks = refl
 
-pub blank_and_six_digits : value_at 5 (ascii " 100000") 0 ≡ Bad
+pub blank_and_six_digits : value_at 5 (ascii " 100000") 0 ≡ None
 unfolding value_at
 blank_and_six_digits = refl
 
-pub blank_and_leading_zero : value_at 5 (ascii " 07") 0 ≡ Bad
+pub blank_and_leading_zero : value_at 5 (ascii " 07") 0 ≡ None
 unfolding value_at
 blank_and_leading_zero = refl
 
@@ -63,19 +64,19 @@ pub blank_between_digits : value_at 5 (ascii " 4 2") 0 ≡ Found 4 2
 unfolding value_at
 blank_between_digits = refl
 
-pub blanks_alone : value_at 5 (ascii "   ") 0 ≡ Bad
+pub blanks_alone : value_at 5 (ascii "   ") 0 ≡ None
 unfolding value_at
 blanks_alone = refl
 
-pub tab_in_front : value_at 5 (ascii "\t1") 0 ≡ Bad
+pub tab_in_front : value_at 5 (ascii "\t1") 0 ≡ None
 unfolding value_at
 tab_in_front = refl
 
-pub no_digit : value_at 5 (ascii ",1") 0 ≡ Bad
+pub no_digit : value_at 5 (ascii ",1") 0 ≡ None
 unfolding value_at
 no_digit = refl
 
-pub past_the_end : value_at 5 (ascii "1") 2 ≡ Bad
+pub past_the_end : value_at 5 (ascii "1") 2 ≡ None
 unfolding value_at
 past_the_end = refl
 
@@ -88,7 +89,7 @@ pub nine_digits : value_at 9 (ascii "999999999") 0 ≡ Found 999999999 9
 unfolding value_at
 nine_digits = refl
 
-pub ten_digits : value_at 10 (ascii "1") 0 ≡ Bad
+pub ten_digits : value_at 10 (ascii "1") 0 ≡ None
 unfolding value_at
 ten_digits = refl
 
@@ -106,10 +107,10 @@ unfolding decimal_text
 text_of_largest = refl
 
 pub text_in_buffer : write_text (decimal_text 42)
-    (ascii "row=..;") 4 ≡ record { answer = End 6; buffer = ascii "row=42;" }
+    (ascii "row=..;") 4 ≡ record { answer = Some 6; buffer = ascii "row=42;" }
 unfolding write_text decimal_text
 text_in_buffer = refl
 
-pub no_room : write_text (decimal_text 42) (ascii "row=.") 4 ≡ record { answer = NoRoom; buffer = ascii "row=." }
+pub no_room : write_text (decimal_text 42) (ascii "row=.") 4 ≡ record { answer = None; buffer = ascii "row=." }
 unfolding write_text decimal_text
 no_room = refl

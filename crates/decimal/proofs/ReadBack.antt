@@ -8,7 +8,7 @@ use borrow.Author.Tests.{le-leb, ne_eqb, eqb-true, eqb-false}
 use lib.ListN.{length}
 use lib.Dec.{eqb}
 use Rattle.decimal.specs.Ascii.{digit_zero}
-use Rattle.decimal.specs.declared.Value.TheVariants.{Found}
+use Rattle.decimal.specs.Value.{Found}
 use Rattle.decimal.specs.Value.{is_digit, take_while, digit_run, value_from, is_value, found_at, unpadded_at}
 use Rattle.decimal.specs.Text.{decimal_text}
 use Rattle.decimal.proofs.TakeWhile.{while_next, while_append}

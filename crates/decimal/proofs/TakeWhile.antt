@@ -2,7 +2,15 @@
 use Prim.Native.Nat.{ℕ, zero, suc, ◌+◌, ◌<◌, ◌≤◌}
 use mathlib.Core.Path.{◌≡◌, refl, sym, ap, ◌∙◌}
 use mathlib.Core.List.{List, [], ◌∷◌, ◌++◌}
-use mathlib.Core.Bool.{Bool, true, false, cond}
+use mathlib.Core.Bool.{Bool, true, false, cond, not}
+use borrow.Author.Tests.{ltb-false}
+use lib.Dec.{ltb}
+use Rattle.std.proofs.Common.{Option, Some, None}
+use Rattle.std.proofs.lemmas.List.{get_or-take}
+use Rattle.std.specs.Option.{unwrap_or}
+use Rattle.std.proofs.lemmas.List.Sums.{prefix_len-le-length}
+use Rattle.std.specs.List.{position_or_len}
+use Rattle.std.proofs.lemmas.List.Recursion.{is_position_or_len}
 use native.Mathlib.Numerals.{add-one}
 use native.Mathlib.Omega.{arith}
 use lib.ListN.{length, take, drop, get_or, drop_of_length-le}
@@ -69,3 +77,42 @@ module _ (test : ℕ → Bool) where
       go false e ih i h = absurd (omega (arith, ap length (while_stop b s e)))
       go true e ih zero h = e
       go true e ih (suc i) h = ih i (omega (arith, ap length (while_next b s e)))
+
+pub while_item : (test : ℕ → Bool) (s : List ℕ) (i : ℕ) → i < length (take_while test s)
+    → test (get_or (take_while test s) i 0) ≡ true
+while_item test s i h =
+    let e = sym (ap (λ l. get_or l i 0) (while_take test s)) ∙ get_or-take (length (take_while test s)) s i 0 h in
+    rw e (while_passes test s i h)
+
+-- the place of the first byte that passes a test, as a reader finds it: the length of the list, where none does
+pub first_place : (stops : ℕ → Bool) (s : List ℕ) {found : Option ℕ}
+    → found ≡ cond (ltb (position_or_len stops s) (length s)) (Some (position_or_len stops s)) None
+    → unwrap_or found (length s) ≡ position_or_len stops s
+first_place stops s {found} p = go (ltb n (length s)) refl p
+  where
+    n : ℕ
+    n = position_or_len stops s
+
+    go : (t : Bool) → ltb n (length s) ≡ t → found ≡ cond t (Some n) None → unwrap_or found (length s) ≡ n
+    go true h f = rw f
+    go false h f = rw f (omega (arith, ltb-false n (length s) h, prefix_len-le-length (λ b. not (stops b)) s))
+
+-- it is how many pass before it
+pub while_position : (test stops : ℕ → Bool) → ((b : ℕ) → stops b ≡ not (test b)) → (s : List ℕ)
+    → length (take_while test s) ≡ position_or_len stops s
+unfolding take_while
+while_position test stops e = is_position_or_len (λ s. length (take_while test s)) stops refl step
+  where
+    step : (b : ℕ) (s : List ℕ)
+        → length (take_while test (b ∷ s)) ≡ cond (stops b) 0 (1 + length (take_while test s))
+    step b s = go (test b) (e b)
+      where
+        go : (u : Bool) → stops b ≡ not u
+            → length (cond u (b ∷ take_while test s) []) ≡ cond (stops b) 0 (1 + length (take_while test s))
+        go true h = rw h (omega arith)
+        go false h = rw h refl
+
+pub while_found : (test stops : ℕ → Bool) → ((b : ℕ) → stops b ≡ not (test b)) → (s : List ℕ) {found : Option ℕ}
+    → found ≡ cond (ltb (position_or_len stops s) (length s)) (Some (position_or_len stops s)) None
+    → unwrap_or found (length s) ≡ length (take_while test s)
+while_found test stops e s p = first_place stops s p ∙ sym (while_position test stops e s)

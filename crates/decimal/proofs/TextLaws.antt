@@ -10,7 +10,7 @@ use lib.ListN.{length, take, drop, set, length-append, length-drop}
 use lib.Seq.{set_split, take_at, drop_at, length-take-le, take-set-le, drop-drop}
 use lib.Dec.{ltb}
 use Rattle.decimal.specs.Ascii.{digit_zero}
-use Rattle.decimal.specs.declared.Written.TheVariants.{End, NoRoom}
+use Rattle.std.proofs.Common.{Some, None}
 use Rattle.decimal.specs.Text.{text_within, decimal_text, overwrite, write_text}
 
 within_small : (k n : ℕ) → n < 10 → text_within k n ≡ (digit_zero + n) ∷ []
@@ -148,12 +148,12 @@ module _ (buffer : List ℕ) (at : ℕ) where
       ∙ ap (λ (l : List ℕ). take at buffer ++ l) (sym (append_assoc s t (drop (at + length (s ++ t)) buffer)))
 
   pub written : (text after : List ℕ) (next : ℕ) → at + length text ≤ length buffer → after ≡ overwrite buffer at text
-      → next ≡ at + length text → record { answer = End next; buffer = after } ≡ write_text text buffer at
+      → next ≡ at + length text → record { answer = Some next; buffer = after } ≡ write_text text buffer at
   unfolding write_text
   written text after next h e n = rw (le-leb (at + length text) (length buffer) h, e, n)
 
   pub not_written : (text : List ℕ) → length buffer < at + length text
-      → record { answer = NoRoom; buffer = buffer } ≡ write_text text buffer at
+      → record { answer = None; buffer = buffer } ≡ write_text text buffer at
   unfolding write_text
   not_written text h = rw (lt-leb (at + length text) (length buffer) h)
 

@@ -3,14 +3,17 @@ use Prim.Native.Nat.{ℕ, zero, suc, ◌+◌, ◌-◌, ◌*◌, ◌^◌, ◌<◌
 use mathlib.Core.Path.{◌≡◌, refl, sym, ap, ◌∙◌}
 use mathlib.Core.List.{List, [], ◌∷◌}
 use mathlib.Core.Bool.{Bool, true, false, cond, ◌&&◌, ◌||◌, and-eq-true_iff, and-false, or-true}
-use native.Mathlib.Nat.{pow-suc, one-le-pow, pow-le-pow_right, lt_of_lt_of_le}
+use native.Mathlib.Nat.{pow-suc, pow-le-pow_right, lt_of_lt_of_le}
 use native.Mathlib.Omega.{arith}
 use borrow.Author.Tests.{leb-true, le-leb, lt-leb, ltb-true, ltb-false, eq-eqb, ne_eqb}
 use lib.ListN.{length, drop, get_or}
-use lib.Seq.{get_or-drop}
+use lib.Seq.{get_or-drop, drop-cons}
+use native.Mathlib.Numerals.{add-one}
 use lib.Dec.{leb, ltb, eqb}
 use Rattle.decimal.specs.Ascii.{digit_zero, digit_nine}
-use Rattle.decimal.specs.declared.Value.TheVariants.{Found, Bad}
+use Rattle.std.proofs.Common.{None}
+use Rattle.std.specs.Option.{unwrap_or}
+use Rattle.decimal.specs.Value.{Value, Found}
 use Rattle.decimal.specs.Value.{is_digit, is_blank, take_while, digit_run, blanks_at, value_from, most_digits, is_value}
 use Rattle.decimal.specs.Value.{found_at, number_at, unpadded_at, most_blanks, value_at}
 use Rattle.decimal.proofs.Answers.{either_way}
@@ -28,58 +31,38 @@ pub is_digit_lem : (b : ℕ) → digit_zero ≤ b → b ≤ digit_nine → is_di
 unfolding is_digit
 is_digit_lem b l h = rw (le-leb digit_zero b l, le-leb b digit_nine h)
 
--- A reader of the digits `all` at position `at`, of which at most `most` are allowed, has come to position i: it has
--- gathered v, `left` more digits are allowed, and the digits `rest` are still to come.
-pub record Gathered (all rest : List ℕ) (at most i left v : ℕ) : Type 0 where
-  pub number : value_from v rest ≡ value_from 0 all
-  pub place : i + length rest ≡ at + length all
-  pub count : i + left ≡ at + most
-  pub small : v < 10 ^ (most_digits - left)
+-- A reader has come to place i of some digits, and the digits before it write v: one digit more.
+module _ (digits : List ℕ) (i : ℕ) where
+  pub next_digit : (v : ℕ) → value_from v (drop i digits) ≡ value_from 0 digits → i < length digits
+      → value_from (v * 10 + (get_or digits i 0 - digit_zero)) (drop (i + 1) digits) ≡ value_from 0 digits
+  unfolding value_from
+  next_digit v e h =
+      let here : drop i digits ≡ get_or digits i 0 ∷ drop (i + 1) digits = rw add-one (drop-cons digits i 0 h) in
+      sym (ap (value_from v) here) ∙ e
 
-pub gathered_none : (all : List ℕ) (at most : ℕ) → Gathered all all at most at most 0
-gathered_none all at most =
-    record { number = refl; place = refl; count = refl; small = one-le-pow (most_digits - most) 10 (omega arith) }
+  pub next_small : (v : ℕ) → v < 10 ^ i → is_digit (get_or digits i 0) ≡ true
+      → v * 10 + (get_or digits i 0 - digit_zero) < 10 ^ (i + 1)
+  next_small v h d =
+      rw (add-one, pow-suc) (omega (arith, h, digit_low (get_or digits i 0) d, digit_high (get_or digits i 0) d))
 
-module _ {all rest : List ℕ} {at most i left v : ℕ} (g : Gathered all rest at most i left v) where
-  -- no digit is to come: the number is whole
-  pub gathered_all : rest ≡ [] → Found v i ≡ found_at (leb (length all) most) all at
-  unfolding found_at value_from
-  gathered_all e =
-      let n : v ≡ value_from 0 all = sym (ap (value_from v) e) ∙ g.number in
-      let p : i ≡ at + length all = omega (arith, g.place, ap length e) in
-      rw (le-leb (length all) most (omega (arith, g.count)), ← p, ← n)
+-- a number of at most nine digits fits 32 bits
+pub few_fit : (v n : ℕ) → v < 10 ^ n → n ≤ most_digits → v < 1000000000
+few_fit v n h few = lt_of_lt_of_le h (pow-le-pow_right {n = 10} (omega arith) {j = most_digits} few)
 
-  -- a digit is to come, and none is allowed
-  pub gathered_over : {b : ℕ} {more : List ℕ} → rest ≡ b ∷ more → left ≡ 0
-      → Bad ≡ found_at (leb (length all) most) all at
+-- The number that the digits at a position write: none where they are more than allowed.
+module _ (most : ℕ) (s : List ℕ) (at : ℕ) where
+  pub number_over : most < length (digit_run (drop at s)) → number_at most s at ≡ None
   unfolding found_at
-  gathered_over e z = rw (lt-leb (length all) most (omega (arith, g.count, g.place, ap length e)))
+  number_over h = rw (lt-leb (length (digit_run (drop at s))) most h)
 
-  -- a digit is to come, and is allowed
-  module _ {b : ℕ} {more : List ℕ} (e : rest ≡ b ∷ more) (digit : is_digit b ≡ true) (allowed : left ≡ 0 → ⊥)
-      (few : left ≤ most_digits) where
-    gathered_small : v * 10 + (b - digit_zero) < 10 ^ (most_digits - (left - 1))
-    gathered_small =
-        let p : most_digits - (left - 1) ≡ suc (most_digits - left) = omega arith in
-        rw (p, pow-suc) (omega (arith, g.small, digit_low b digit, digit_high b digit))
-
-    pub gathered_digit : Gathered all more at most (i + 1) (left - 1) (v * 10 + (b - digit_zero))
-    unfolding value_from
-    gathered_digit = record {
-      number = sym (ap (value_from v) e) ∙ g.number;
-      place = omega (arith, g.place, ap length e);
-      count = omega (arith, g.count);
-      small = gathered_small;
-    }
-
-    -- the number fits 32 bits
-    pub gathered_fits : v * 10 + (b - digit_zero) < 1000000000
-    gathered_fits =
-        lt_of_lt_of_le gathered_small (pow-le-pow_right {n = 10} (omega arith) {j = most_digits} (omega arith))
+  pub number_of : length (digit_run (drop at s)) ≤ most
+      → number_at most s at ≡ Found (value_from 0 (digit_run (drop at s))) (at + length (digit_run (drop at s)))
+  unfolding found_at
+  number_of h = rw (le-leb (length (digit_run (drop at s))) most h)
 
 -- The value whose digits begin at a position, by the byte there.
 module _ (most : ℕ) (s : List ℕ) (at : ℕ) where
-  pub unpadded_none : digit_run (drop at s) ≡ [] → unpadded_at most s at ≡ Bad
+  pub unpadded_none : digit_run (drop at s) ≡ [] → unpadded_at most s at ≡ None
   unfolding unpadded_at
   unpadded_none e = rw e
 
@@ -98,6 +81,10 @@ module _ (most : ℕ) (s : List ℕ) (at : ℕ) where
   unfolding unpadded_at
   unpadded_more {b} {more} e z = rw (e, ne_eqb b digit_zero z)
 
+-- what was found is one value and one end
+pub found_same : {v w i j : ℕ} → Found v i ≡ Found w j → (v ≡ w) × (i ≡ j)
+found_same e = (ap (λ (r : Value). (unwrap_or r (0, 0)).0) e, ap (λ (r : Value). (unwrap_or r (0, 0)).1) e)
+
 -- a value without blanks that was found
 pub record UnpaddedFound (most : ℕ) (s : List ℕ) (at v end : ℕ) : Type 0 where
   pub good : is_value most (digit_run (drop at s)) ≡ true
@@ -111,7 +98,7 @@ unpadded_found most s at {v} {end} e = go (is_value most (digit_run (drop at s))
   where
     go : (t : Bool) → is_value most (digit_run (drop at s)) ≡ t → found_at t (digit_run (drop at s)) at ≡ Found v end
         → UnpaddedFound most s at v end
-    go true g e = record { good = g; number = cc; stops = cc }
+    go true g e = let (number, stops) = found_same e in record { good = g; number = sym number; stops = sym stops }
     go false g e = let z : ◌≡◌ {A = ℕ} 0 1 = cc in absurd (omega arith)
 
 -- a value that was found, with or without blanks
@@ -122,11 +109,11 @@ pub record ValueFound (most : ℕ) (s : List ℕ) (at v end : ℕ) : Type 0 wher
 
 -- The value at a position, by the blanks there.
 module _ (most : ℕ) (s : List ℕ) (at : ℕ) where
-  pub value_over : most_digits < most → value_at most s at ≡ Bad
+  pub value_over : most_digits < most → value_at most s at ≡ None
   unfolding value_at
   value_over h = rw (lt-leb most most_digits h)
 
-  pub value_over_blanks : most_blanks < blanks_at s at → value_at most s at ≡ Bad
+  pub value_over_blanks : most_blanks < blanks_at s at → value_at most s at ≡ None
   unfolding value_at
   value_over_blanks h = rw (lt-leb (blanks_at s at) most_blanks h, and-false (leb most most_digits))
 
@@ -136,11 +123,11 @@ module _ (most : ℕ) (s : List ℕ) (at : ℕ) where
   value_after_blanks few h = rw (le-leb most most_digits few, le-leb (blanks_at s at) most_blanks h)
 
   -- no digit follows the blanks
-  pub value_no_digit : digit_run (drop (at + blanks_at s at) s) ≡ [] → value_at most s at ≡ Bad
+  pub value_no_digit : digit_run (drop (at + blanks_at s at) s) ≡ [] → value_at most s at ≡ None
   unfolding value_at
   value_no_digit e =
       rw (unpadded_none most s (at + blanks_at s at) e)
-      (either_way (leb most most_digits && leb (blanks_at s at) most_blanks) Bad)
+      (either_way (leb most most_digits && leb (blanks_at s at) most_blanks) None)
 
   -- a value is found only by a reader that allows at most nine digits, and after at most eight blanks
   pub value_found : {v end : ℕ} → value_at most s at ≡ Found v end → ValueFound most s at v end
@@ -148,7 +135,7 @@ module _ (most : ℕ) (s : List ℕ) (at : ℕ) where
   value_found {v} {end} e = go (leb most most_digits) (leb (blanks_at s at) most_blanks) refl refl e
     where
       go : (t u : Bool) → leb most most_digits ≡ t → leb (blanks_at s at) most_blanks ≡ u
-          → cond (t && u) (unpadded_at most s (at + blanks_at s at)) Bad ≡ Found v end → ValueFound most s at v end
+          → cond (t && u) (unpadded_at most s (at + blanks_at s at)) None ≡ Found v end → ValueFound most s at v end
       go true true g h e = record {
         allowed = leb-true most most_digits g;
         few = leb-true (blanks_at s at) most_blanks h;

@@ -1,8 +1,7 @@
 -- What blanks in front of a value change, and what they leave as it was: statements about value_at.
-use Rattle.std.specs.Prelude.{ℕ, ◌+◌, ◌^◌, ◌<◌, ◌≤◌, ◌≡◌, List, [], ◌++◌, length, take, drop, replicate}
+use Rattle.std.specs.Prelude.{ℕ, ◌+◌, ◌^◌, ◌<◌, ◌≤◌, ◌≡◌, List, [], ◌++◌, length, take, drop, replicate, None}
 use Rattle.decimal.specs.Ascii.{blank}
-use Rattle.decimal.specs.declared.Value.TheVariants.{Found, Bad}
-use Rattle.decimal.specs.Value.{digit_run, blank_run, most_digits, most_blanks, unpadded_at, value_at}
+use Rattle.decimal.specs.Value.{Found, digit_run, blank_run, most_digits, most_blanks, unpadded_at, value_at}
 use Rattle.decimal.specs.Text.{decimal_text}
 
 -- bytes with so many blanks in front of them
@@ -28,10 +27,10 @@ pub record PaddedValues : Type 0 where
       → value_at most (front ++ with_blanks blanks s) (length front) ≡ Found v (length front + blanks + end)
   -- after more there is no value
   pub too_many : (most blanks : ℕ) (front s : List ℕ) → most_blanks < blanks
-      → value_at most (front ++ with_blanks blanks s) (length front) ≡ Bad
+      → value_at most (front ++ with_blanks blanks s) (length front) ≡ None
   -- nor is there one where no digit follows the blanks, or nothing does
   pub no_digit : (most blanks : ℕ) (front s : List ℕ) → blank_run s ≡ [] → digit_run s ≡ []
-      → value_at most (front ++ with_blanks blanks s) (length front) ≡ Bad
+      → value_at most (front ++ with_blanks blanks s) (length front) ≡ None
   -- there are no other values
   pub no_other : (most : ℕ) (s : List ℕ) (at : ℕ) {v end : ℕ} → value_at most s at ≡ Found v end
       → AfterBlanks most s at v end

@@ -1,8 +1,6 @@
 -- A number as decimal text, and a text written into a buffer.
-use Rattle.std.specs.Prelude.{ℕ, zero, suc, ◌+◌, ◌/◌, ◌%◌, List, [], ◌∷◌, ◌++◌, cond, length, take, drop, leb, ltb}
+use Rattle.std.specs.Prelude.{ℕ, zero, suc, ◌+◌, ◌/◌, ◌%◌, List, [], ◌∷◌, ◌++◌, cond, length, take, drop, leb, ltb, Option, Some, None}
 use Rattle.decimal.specs.Ascii.{digit_zero}
-use Rattle.decimal.specs.declared.Written.{Written}
-use Rattle.decimal.specs.declared.Written.TheVariants.{End, NoRoom}
 
 -- A number below 10 is one digit; a larger one is the text of its tenth part, then its last digit. The first argument
 -- bounds the recursion.
@@ -26,13 +24,13 @@ pub record WrittenValues : Type 0 where
   pub number : ℕ
   pub end : ℕ
 
-abbrev pub written_values : Written → WrittenValues
-written_values (End end) = record { number = 0; end = end }
-written_values NoRoom = record { number = 3; end = 0 }
+abbrev pub written_values : Option ℕ → WrittenValues
+written_values (Some end) = record { number = 0; end = end }
+written_values None = record { number = 3; end = 0 }
 
 -- the answer of a call that writes, and the buffer afterwards
 pub record Writing : Type 0 where
-  pub answer : Written
+  pub answer : Option ℕ
   pub buffer : List ℕ
 
 -- a text written into a buffer from a position on: whole where it fits, and else not at all
@@ -40,5 +38,5 @@ unfoldable pub write_text : List ℕ → List ℕ → ℕ → Writing
 unfolding overwrite
 write_text text buffer at =
     cond (leb (at + length text) (length buffer))
-    (record { answer = End (at + length text); buffer = overwrite buffer at text })
-    (record { answer = NoRoom; buffer = buffer })
+    (record { answer = Some (at + length text); buffer = overwrite buffer at text })
+    (record { answer = None; buffer = buffer })

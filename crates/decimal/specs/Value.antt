@@ -1,9 +1,14 @@
 -- A value in a line. Document 01: "Values are decimal: 0 alone, or 1 to 5 digits not starting with 0." Document 02, W2,
 -- of blanks: "a value may have up to eight of them in front".
-use Rattle.std.specs.Prelude.{ℕ, ◌+◌, ◌-◌, ◌*◌, List, [], ◌∷◌, Bool, false, cond, ◌&&◌, length, drop, leb, eqb}
+use Rattle.std.specs.Prelude.{ℕ, ◌+◌, ◌-◌, ◌*◌, List, [], ◌∷◌, Bool, false, cond, ◌&&◌, length, drop, leb, eqb, Option, Some, None}
 use Rattle.decimal.specs.Ascii.{blank, digit_zero, digit_nine}
-use Rattle.decimal.specs.declared.Value.{Value}
-use Rattle.decimal.specs.declared.Value.TheVariants.{Found, Bad}
+
+-- what reading a value gives: the value and the position after it, or None where no value stands there
+abbrev pub Value : Type 0
+Value = Option (ℕ × ℕ)
+
+pattern abbrev pub Found : ℕ → ℕ → Value
+Found value end = Some (value, end)
 
 unfoldable pub is_digit : ℕ → Bool
 is_digit b = leb digit_zero b && leb b digit_nine
@@ -44,7 +49,7 @@ is_value most (b ∷ s) = cond (eqb b digit_zero) (eqb (length s) 0) (leb (lengt
 -- the number of digits that begin at a position, and the position after them, if they are good
 unfoldable pub found_at : Bool → List ℕ → ℕ → Value
 unfolding value_from
-found_at good digits at = cond good (Found (value_from 0 digits) (at + length digits)) Bad
+found_at good digits at = cond good (Found (value_from 0 digits) (at + length digits)) None
 
 -- all the digits at a position as a number, if there are at most `most` of them
 abbrev pub number_at : ℕ → List ℕ → ℕ → Value
@@ -65,7 +70,7 @@ unfoldable pub value_at : ℕ → List ℕ → ℕ → Value
 unfolding take_while unpadded_at
 value_at most s at =
     let blanks : ℕ = blanks_at s at in
-    cond (leb most most_digits && leb blanks most_blanks) (unpadded_at most s (at + blanks)) Bad
+    cond (leb most most_digits && leb blanks most_blanks) (unpadded_at most s (at + blanks)) None
 
 -- document 01's number of an answer, and its values: 8 where the file's rules ask for a value and there is none
 pub record FoundValues : Type 0 where
@@ -75,4 +80,4 @@ pub record FoundValues : Type 0 where
 
 abbrev pub found_values : Value → FoundValues
 found_values (Found value end) = record { number = 0; value = value; end = end }
-found_values Bad = record { number = 8; value = 0; end = 0 }
+found_values None = record { number = 8; value = 0; end = 0 }

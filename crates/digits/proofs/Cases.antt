@@ -7,10 +7,10 @@ use lib.ListN.{replicate}
 use Rattle.sheet.specs.declared.Label.{Label as Record}
 use Rattle.sheet.specs.Record.{label_of_numbers, no_digits}
 use Rattle.sheet.specs.Flow.{is_label}
-use Rattle.digits.specs.declared.DigitsAnswer.TheVariants.{Written, Refused as DigitsRefused}
-use Rattle.digits.specs.declared.LabelAnswer.TheVariants.{Label, Refused as LabelRefused}
 use Rattle.digits.specs.Digits.{digits_answer, digits_places, label_answer, digits_values, label_values}
 use Rattle.digits.specs.LastPlaces.{end_digits_of, written_last}
+use Rattle.sheet.specs.Answer.{Refused}
+use Rattle.std.specs.Prelude.{Ok}
 
 -- a label of up to 18 digits
 abbrev short : ℕ → Record
@@ -44,15 +44,15 @@ labels_accepted = refl
 pub digits_refused : digits_answer 0 (short 105) 0 ∷ digits_answer 37 (short 9) 40 ∷ digits_answer 3
     (short 105) 0 ∷ digits_answer 36 (short 1111111111111111111) 40 ∷ digits_answer 36 (label_of_numbers 1 1)
     40 ∷ digits_answer 3 (short 92) 1 ∷ digits_answer 36 (label_of_numbers nines 1) 18 ∷
-    [] ≡ DigitsRefused 2 ∷ DigitsRefused 2 ∷ DigitsRefused 11 ∷ DigitsRefused 11 ∷ DigitsRefused 11 ∷
-    DigitsRefused 3 ∷ DigitsRefused 3 ∷ []
+    [] ≡ Refused 2 0 ∷ Refused 2 0 ∷ Refused 11 0 ∷ Refused 11 0 ∷ Refused 11 0 ∷
+    Refused 3 0 ∷ Refused 3 0 ∷ []
 unfolding digits_answer
 digits_refused = refl
 
 -- 0 has no digits; 18 nines pass at depth 18, 19 digits at depth 19 and 36 nines at depth 36
 pub digits_written : digits_answer 1 no_digits 0 ∷ digits_answer 3 (short 92) 2 ∷ digits_answer 18 (short nines)
     18 ∷ digits_answer 19 (label_of_numbers nines 1) 19 ∷ digits_answer 36 (label_of_numbers nines nines) 36 ∷
-    [] ≡ Written 0 ∷ Written 2 ∷ Written 18 ∷ Written 19 ∷ Written 36 ∷ []
+    [] ≡ Ok 0 ∷ Ok 2 ∷ Ok 18 ∷ Ok 19 ∷ Ok 36 ∷ []
 unfolding digits_answer
 digits_written = refl
 
@@ -79,14 +79,14 @@ ends_written = refl
 
 pub label_refused : label_answer 0 [] ∷ label_answer 37 [] ∷ label_answer 3 (1 ∷ 0 ∷ 5 ∷ []) ∷ label_answer 3
     (10 ∷ []) ∷ label_answer 36
-    (replicate 37 1) ∷ [] ≡ LabelRefused 2 ∷ LabelRefused 2 ∷ LabelRefused 11 ∷ LabelRefused 11 ∷ LabelRefused 11 ∷ []
+    (replicate 37 1) ∷ [] ≡ Refused 2 0 ∷ Refused 2 0 ∷ Refused 11 0 ∷ Refused 11 0 ∷ Refused 11 0 ∷ []
 unfolding label_answer
 label_refused = refl
 
 pub label_given : label_answer 3 [] ∷ label_answer 3 (9 ∷ 2 ∷ []) ∷ label_answer 18 (replicate 18 9) ∷ label_answer 36
     (replicate 18 9 ++ (1 ∷ [])) ∷ label_answer 36 (replicate 36 9) ∷
-    [] ≡ Label no_digits ∷ Label (short 92) ∷ Label (short nines) ∷ Label (label_of_numbers nines 1) ∷
-    Label (label_of_numbers nines nines) ∷ []
+    [] ≡ Ok no_digits ∷ Ok (short 92) ∷ Ok (short nines) ∷ Ok (label_of_numbers nines 1) ∷
+    Ok (label_of_numbers nines nines) ∷ []
 unfolding label_answer
 label_given = refl
 

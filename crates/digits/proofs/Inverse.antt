@@ -13,10 +13,10 @@ use Rattle.sheet.specs.Record.{record_of, digits_of}
 use Rattle.sheet.specs.Refusal.{depth_fits, written}
 use Rattle.sheet.specs.Flow.{are_digits, is_label}
 use Rattle.sheet.proofs.Records.{digits_record, record_digits, record_is_label, label_shape}
-use Rattle.digits.specs.declared.DigitsAnswer.TheVariants.{Written, Refused}
-use Rattle.digits.specs.declared.LabelAnswer.TheVariants.{Label, Refused as LabelRefused}
 use Rattle.digits.specs.Digits.{digits_answer, digits_places, label_answer}
 use Rattle.sheet.proofs.Within.{depth_most, digits_label, label_digits_lem}
+use Rattle.sheet.specs.Answer.{Refused}
+use Rattle.std.specs.Prelude.{Ok}
 
 -- what is known where digits were written
 record WrittenBy (depth : ℕ) (m : Record) (places n : ℕ) : Type 0 where
@@ -25,7 +25,7 @@ record WrittenBy (depth : ℕ) (m : Record) (places n : ℕ) : Type 0 where
   room : leb (length (digits_of m)) places ≡ true
   count : length (digits_of m) ≡ n
 
-written_by : (depth : ℕ) (label : Record) (places count : ℕ) → digits_answer depth label places ≡ Written count
+written_by : (depth : ℕ) (label : Record) (places count : ℕ) → digits_answer depth label places ≡ Ok count
     → WrittenBy depth label places count
 unfolding digits_answer
 written_by depth label places count e =
@@ -33,8 +33,8 @@ written_by depth label places count e =
   where
     go : (f : Bool) → depth_fits depth ≡ f → (l : Bool) → is_label depth label ≡ l → (r : Bool)
         → leb (length (digits_of label)) places ≡ r → cond f
-        (cond l (cond r (Written (length (digits_of label))) (Refused 3)) (Refused 11))
-        (Refused 2) ≡ Written count → WrittenBy depth label places count
+        (cond l (cond r (Ok (length (digits_of label))) (Refused 3 0)) (Refused 11 0))
+        (Refused 2 0) ≡ Ok count → WrittenBy depth label places count
     go true f true l true r e = record { fits = f; label = l; room = r; count = cc }
     go true f true l false r e = let z : ◌≡◌ {A = ℕ} 0 1 = cc in absurd (omega arith)
     go true f false l r s e = let z : ◌≡◌ {A = ℕ} 0 1 = cc in absurd (omega arith)
@@ -46,20 +46,20 @@ record ReadFrom (depth : ℕ) (x : List ℕ) (m : Record) : Type 0 where
   digits : are_digits depth x ≡ true
   label : record_of x ≡ m
 
-read_from_lem : (depth : ℕ) (x : List ℕ) (label : Record) → label_answer depth x ≡ Label label → ReadFrom depth x label
+read_from_lem : (depth : ℕ) (x : List ℕ) (label : Record) → label_answer depth x ≡ Ok label → ReadFrom depth x label
 unfolding label_answer
 read_from_lem depth x label e = go (depth_fits depth) refl (are_digits depth x) refl e
   where
     go : (f : Bool) → depth_fits depth ≡ f → (d : Bool) → are_digits depth x ≡ d
-        → cond f (cond d (Label (record_of x)) (LabelRefused 11)) (LabelRefused 2) ≡ Label label → ReadFrom depth x label
+        → cond f (cond d (Ok (record_of x)) (Refused 11 0)) (Refused 2 0) ≡ Ok label → ReadFrom depth x label
     go true f true d e = record { fits = f; digits = d; label = cc }
     go true f false d e = let z : ◌≡◌ {A = ℕ} 0 1 = cc in absurd (omega arith)
     go false f d k e = let z : ◌≡◌ {A = ℕ} 0 1 = cc in absurd (omega arith)
 
 -- the label is read again from the places that its digits were written to
 pub label_again : (depth : ℕ) (label : Record) (out : List ℕ) (count : ℕ)
-    → digits_answer depth label (length out) ≡ Written count
-    → label_answer depth (take count (digits_places depth label out)) ≡ Label label
+    → digits_answer depth label (length out) ≡ Ok count
+    → label_answer depth (take count (digits_places depth label out)) ≡ Ok label
 unfolding digits_places label_answer
 label_again depth label out count e =
     let w = written_by depth label (length out) count e in
@@ -74,7 +74,7 @@ label_again depth label out count e =
 
 -- what is written where the record is a label, and there is room
 written_where : (depth : ℕ) (label : Record) (out : List ℕ) → depth_fits depth ≡ true → is_label depth label ≡ true
-    → length (digits_of label) ≤ length out → (digits_answer depth label (length out) ≡ Written (length (digits_of label)))
+    → length (digits_of label) ≤ length out → (digits_answer depth label (length out) ≡ Ok (length (digits_of label)))
     × (digits_places depth label out ≡ written (digits_of label) out)
 unfolding digits_answer digits_places
 written_where depth label out fits judged room = (
@@ -84,8 +84,8 @@ written_where depth label out fits judged room = (
 
 -- the digits that a label was read from are written again
 pub digits_again : (depth : ℕ) (x out : List ℕ) (label : Record) → length x ≤ length out
-    → label_answer depth x ≡ Label label
-    → (digits_answer depth label (length out) ≡ Written (length x)) × (digits_places depth label out ≡ written x out)
+    → label_answer depth x ≡ Ok label
+    → (digits_answer depth label (length out) ≡ Ok (length x)) × (digits_places depth label out ≡ written x out)
 digits_again depth x out label room e =
     let r = read_from_lem depth x label e in
     let d = label_digits_lem depth x r.digits in

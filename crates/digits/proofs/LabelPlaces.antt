@@ -7,7 +7,6 @@ use Prim.Native.Nat.{ℕ, ◌+◌, ◌-◌, ◌^◌, ◌≤◌, ◌<◌}
 use native.Mathlib.Omega.{arith}
 use lib.ListN.{length, drop, take, length-append}
 use lib.Seq.{drop_at, drop-length, length-take-le, take_all, take-append-le, take-take}
-use Rattle.sheet.specs.declared.Found.TheVariants.{At, Nothing}
 use Rattle.sheet.specs.declared.Label.{Label}
 use Rattle.sheet.specs.Record.{decimal_digits, number_digits, digits_of}
 use Rattle.sheet.specs.Flow.{is_label}
@@ -16,6 +15,7 @@ use Rattle.digits.specs.LastPlaces.{end_digits, end_digits_of, written_before, w
 use Rattle.digits.proofs.Numbers.{fits_short, found_at, found_nothing, first_unfit, rest_unfit, label_by_counts}
 use Rattle.digits.proofs.Numbers.{label_first_fits, label_rest_fits}
 use Rattle.digits.proofs.NumberPlaces.{ends_all, ends_length}
+use Rattle.std.specs.Prelude.{None, Some}
 
 -- ---- written last
 
@@ -41,7 +41,7 @@ before_last x y out end e h =
 
 module _ (label : Label) where
   -- a second number that is none of a label's
-  pub rest_put : (before out : List ℕ) → number_start label.rest (length before) ≡ Nothing
+  pub rest_put : (before out : List ℕ) → number_start label.rest (length before) ≡ None
       → out ≡ written_before (length before) (end_digits number_digits label.rest) before
       → out ≡ written_last (end_digits_of label) before
   unfolding number_start end_digits_of
@@ -49,22 +49,22 @@ module _ (label : Label) where
       put ∙ before_end (end_digits 18 label.rest) before
       ∙ rw (found_nothing (number_fits label.rest) (length before - length (decimal_digits label.rest)) e)
 
-  pub rest_refused : (depth places : ℕ) → number_start label.rest places ≡ Nothing
-      → Nothing ≡ label_start depth label places
+  pub rest_refused : (depth places : ℕ) → number_start label.rest places ≡ None
+      → None ≡ label_start depth label places
   unfolding number_start label_start
   rest_refused depth places e =
       rw (rest_unfit depth label (found_nothing (number_fits label.rest)
       (places - length (decimal_digits label.rest)) e))
 
-  pub first_refused : (depth places end : ℕ) → number_start label.first end ≡ Nothing
-      → Nothing ≡ label_start depth label places
+  pub first_refused : (depth places end : ℕ) → number_start label.first end ≡ None
+      → None ≡ label_start depth label places
   unfolding number_start label_start
   first_refused depth places end e =
       rw (first_unfit depth label (found_nothing (number_fits label.first)
       (end - length (decimal_digits label.first)) e))
 
   -- a second number that may be a label's: its digits start at `rest`
-  module _ (places rest : ℕ) (room : 36 ≤ places) (e : number_start label.rest places ≡ At rest)
+  module _ (places rest : ℕ) (room : 36 ≤ places) (e : number_start label.rest places ≡ Some rest)
       (fits : label.rest < 2 ^ 64) where
     rest_found : (number_fits label.rest ≡ true) × (places - length (decimal_digits label.rest) ≡ rest)
     unfolding number_start
@@ -93,7 +93,7 @@ module _ (label : Label) where
         ∙ rw rest_found.0
 
     -- and a first number that may be a label's: its digits start at `first`
-    module _ (first : ℕ) (f : number_start label.first rest ≡ At first) where
+    module _ (first : ℕ) (f : number_start label.first rest ≡ Some first) where
       first_found : (number_fits label.first ≡ true) × (rest - length (decimal_digits label.first) ≡ first)
       unfolding number_start
       first_found = found_at (number_fits label.first) (rest - length (decimal_digits label.first)) first f
@@ -114,18 +114,18 @@ module _ (label : Label) where
           label_by_counts depth label fits first_found.0 rest_found.0 ∙ rw (a, b)
 
       pub counts_refused : (depth : ℕ) → counts_fit depth (rest - first) (places - rest) ≡ false
-          → Nothing ≡ label_start depth label places
+          → None ≡ label_start depth label places
       unfolding label_start
       counts_refused depth c = rw (label_counted depth ∙ c)
 
       pub counts_accepted : (depth : ℕ) → counts_fit depth (rest - first) (places - rest) ≡ true
-          → At first ≡ label_start depth label places
+          → Some first ≡ label_start depth label places
       unfolding label_start digits_of
       counts_accepted depth c =
           let count = length-append (decimal_digits label.first) (decimal_digits label.rest) in
           let start : first ≡ places - length (decimal_digits label.first ++ decimal_digits label.rest) =
           omega (arith, first_counted, rest_counted) in
-          rw (label_counted depth ∙ c) (ap At start)
+          rw (label_counted depth ∙ c) (ap Some start)
 
 -- ---- found in the last places
 
@@ -139,25 +139,25 @@ label_ends depth label first_fits rest_fits l =
     rw (r, ends_all 18 label.first first_fits f, ends_all 18 label.rest rest_fits r)
 
 module _ (depth : ℕ) (label : Label) (places : ℕ) where
-  found_both : (start : ℕ) → label_start depth label places ≡ At start
+  found_both : (start : ℕ) → label_start depth label places ≡ Some start
       → (is_label depth label ≡ true) × (places - length (digits_of label) ≡ start)
   unfolding label_start
   found_both start e = found_at (is_label depth label) (places - length (digits_of label)) start e
 
-  pub found_label : (start : ℕ) → label_start depth label places ≡ At start → is_label depth label ≡ true
+  pub found_label : (start : ℕ) → label_start depth label places ≡ Some start → is_label depth label ≡ true
   found_label start e = (found_both start e).0
 
-  pub found_within : (start : ℕ) → label_start depth label places ≡ At start → start ≤ places
+  pub found_within : (start : ℕ) → label_start depth label places ≡ Some start → start ≤ places
   found_within start e = omega (arith, (found_both start e).1)
 
-  pub found_none : label_start depth label places ≡ Nothing → is_label depth label ≡ false
+  pub found_none : label_start depth label places ≡ None → is_label depth label ≡ false
   unfolding label_start
   found_none e = found_nothing (is_label depth label) (places - length (digits_of label)) e
 
 -- a label whose digits were put into the places `before`, which are now `out`
 module _ (depth : ℕ) (label : Label) (before out : List ℕ) (start : ℕ) (first_fits : label.first < 2 ^ 64)
     (rest_fits : label.rest < 2 ^ 64) (room : 36 ≤ length before)
-    (found : label_start depth label (length before) ≡ At start)
+    (found : label_start depth label (length before) ≡ Some start)
     (put : out ≡ written_last (end_digits_of label) before) where
   all_digits : end_digits_of label ≡ digits_of label
   all_digits = label_ends depth label first_fits rest_fits (found_label depth label (length before) start found)

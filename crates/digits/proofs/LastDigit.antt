@@ -99,7 +99,3 @@ pub write_turn : (m : ℕ) (out : List ℕ) (at : ℕ) → m < 2 ^ 64 → 0 < m 
     → at < length out → written (decimal_digits (m / 10)) (set out at (m % 10)) ≡ written (decimal_digits m) out
 write_turn m out at fits some e h =
     rw (e, last_digit m fits some) (written_snoc (decimal_digits (m / 10)) out (m % 10) (omega arith))
-
-pub write_end : (x out : List ℕ) → length x ≤ 0 → written x out ≡ out
-write_end [] out h = refl
-write_end (a ∷ x) out h = absurd (omega arith)

@@ -9,13 +9,13 @@ use borrow.Author.Tests.{eq-eqb, ne_eqb, leb-true, leb-false}
 use lib.Dec.{eqb, leb}
 use lib.ListN.{length, drop, take, set, length-set, length-append, take-append-drop}
 use lib.Seq.{append_snoc, drop_at, length-take-le, set_split, take-set-le}
-use Rattle.sheet.specs.declared.Found.TheVariants.{At, Nothing}
 use Rattle.sheet.specs.Record.{decimal_digits, number_digits}
 use Rattle.sheet.specs.Flow.{are_digits}
 use Rattle.digits.specs.Counts.{number_fits}
 use Rattle.digits.specs.LastPlaces.{end_digits, written_before, number_start}
 use Rattle.digits.proofs.LastDigit.{no_digits_lem, digits_none, last_digit, digits_longer}
 use Rattle.digits.proofs.LastDigit.{judged_none, judged_zero, judged_long, judged_turn}
+use Rattle.std.specs.Prelude.{None, Some}
 
 -- ---- the digits back to a 0
 
@@ -129,12 +129,12 @@ module _ (number end : ℕ) (before : List ℕ) where
     pub putting_stops : end_digits left m ≡ [] → out ≡ written_before end (end_digits number_digits number) before
     putting_stops e = sym (before_nothing out at) ∙ rw e at p.to_do
 
-    pub no_number : are_digits left (decimal_digits m) ≡ false → Nothing ≡ number_start number end
+    pub no_number : are_digits left (decimal_digits m) ≡ false → None ≡ number_start number end
     unfolding number_start
     no_number e = rw (sym p.judged ∙ e)
 
-    pub a_number : m ≤ 0 → At at ≡ number_start number end
+    pub a_number : m ≤ 0 → Some at ≡ number_start number end
     unfolding number_start
     a_number h =
         let start : at ≡ end - length (decimal_digits number) = omega (arith, p.counted, digits_none m h) in
-        rw (sym p.judged ∙ judged_none left m h) (ap At start)
+        rw (sym p.judged ∙ judged_none left m h) (ap Some start)

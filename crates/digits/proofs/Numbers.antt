@@ -4,10 +4,9 @@ use mathlib.Core.Bool.{Bool, true, false, cond, true≢false}
 use mathlib.Core.List.{List, [], ◌∷◌, ◌++◌}
 use Prim.Native.Nat.{ℕ, zero, suc, ◌+◌, ◌^◌, ◌≤◌, ◌<◌}
 use native.Mathlib.Omega.{arith}
-use borrow.Author.Tests.{eq-eqb, ne_eqb, le-leb, lt-leb}
+use borrow.Author.Tests.{eq-eqb, ne_eqb}
 use lib.Dec.{eqb, leb}
 use lib.ListN.{length, length-append}
-use Rattle.sheet.specs.declared.Found.TheVariants.{At, Nothing}
 use Rattle.sheet.specs.declared.Label.{Label}
 use Rattle.sheet.specs.Record.{decimal_digits, number_digits, digits_of, is_record}
 use Rattle.sheet.specs.Refusal.{both, within}
@@ -15,6 +14,7 @@ use Rattle.sheet.specs.Flow.{every, are_digits, is_label}
 use Rattle.sheet.proofs.Within.{both_true, label_digits_lem}
 use Rattle.digits.specs.Counts.{number_fits, fitting_count, counts_fit}
 use Rattle.digits.proofs.LastDigit.{digits_none, digits_longer}
+use Rattle.std.specs.Prelude.{None, Some}
 
 every_join : (test : ℕ → Bool) (x y : List ℕ) → every test (x ++ y) ≡ both (every test x) (every test y)
 unfolding every
@@ -142,47 +142,32 @@ module _ (depth : ℕ) (label : Label) where
 pub fits_short : (m : ℕ) → number_fits m ≡ true → length (decimal_digits m) ≤ 18
 fits_short m e = (label_digits_lem 18 (decimal_digits m) e).1
 
--- ---- judged by the counts of digits
-
-module _ (depth first rest : ℕ) where
-  pub counts_over : depth < first + rest → counts_fit depth first rest ≡ false
-  unfolding counts_fit
-  counts_over h = rw (lt-leb (first + rest) depth h)
-
-  pub counts_alone : first + rest ≤ depth → rest < 1 → counts_fit depth first rest ≡ true
-  unfolding counts_fit
-  counts_alone h g = rw (le-leb (first + rest) depth h, eq-eqb rest 0 (omega arith))
-
-  pub counts_beside : first + rest ≤ depth → 1 ≤ rest → counts_fit depth first rest ≡ leb number_digits first
-  unfolding counts_fit
-  counts_beside h g = rw (le-leb (first + rest) depth h, ne_eqb rest 0 (λ e. omega arith))
-
 -- ---- found by a test
 
 module _ (test : Bool) (place : ℕ) where
-  pub found_at : (at : ℕ) → cond test (At place) Nothing ≡ At at → (test ≡ true) × (place ≡ at)
+  pub found_at : (at : ℕ) → cond test (Some place) None ≡ Some at → (test ≡ true) × (place ≡ at)
   found_at at e = go test e
     where
-      go : (b : Bool) → cond b (At place) Nothing ≡ At at → (b ≡ true) × (place ≡ at)
+      go : (b : Bool) → cond b (Some place) None ≡ Some at → (b ≡ true) × (place ≡ at)
       go true e = (refl, cc)
       go false e = let z : ◌≡◌ {A = ℕ} 0 1 = cc in absurd (omega arith)
 
-  pub found_nothing : cond test (At place) Nothing ≡ Nothing → test ≡ false
+  pub found_nothing : cond test (Some place) None ≡ None → test ≡ false
   found_nothing e = go test e
     where
-      go : (b : Bool) → cond b (At place) Nothing ≡ Nothing → b ≡ false
+      go : (b : Bool) → cond b (Some place) None ≡ None → b ≡ false
       go true e = let z : ◌≡◌ {A = ℕ} 0 1 = cc in absurd (omega arith)
       go false e = refl
 
 -- ---- the count of digits of a number that fits
 
-pub count_fits : (m n : ℕ) → fitting_count m ≡ At n → (number_fits m ≡ true) × (length (decimal_digits m) ≡ n)
+pub count_fits : (m n : ℕ) → fitting_count m ≡ Some n → (number_fits m ≡ true) × (length (decimal_digits m) ≡ n)
 unfolding fitting_count
 count_fits m n e = found_at (number_fits m) (length (decimal_digits m)) n e
 
-pub count_unfit : (m : ℕ) → fitting_count m ≡ Nothing → number_fits m ≡ false
+pub count_unfit : (m : ℕ) → fitting_count m ≡ None → number_fits m ≡ false
 unfolding fitting_count
 count_unfit m e = found_nothing (number_fits m) (length (decimal_digits m)) e
 
-pub count_short : (m n : ℕ) → fitting_count m ≡ At n → n ≤ 18
+pub count_short : (m n : ℕ) → fitting_count m ≡ Some n → n ≤ 18
 count_short m n e = omega (arith, (count_fits m n e).1, fits_short m (count_fits m n e).0)

@@ -1,11 +1,10 @@
 -- What the step put_label gives and writes: a label's digits in the last places of a lent slice, and where they start.
-use Rattle.std.specs.Prelude.{cond, List, [], ◌∷◌, ◌++◌, ℕ, zero, suc, ◌/◌, ◌%◌, ◌-◌, eqb, length, take, drop}
-use Rattle.sheet.specs.declared.Found.{Found}
-use Rattle.sheet.specs.declared.Found.TheVariants.{At, Nothing}
+use Rattle.std.specs.Prelude.{cond, List, [], ◌∷◌, ◌++◌, ℕ, zero, suc, ◌/◌, ◌%◌, ◌-◌, eqb, length, take, drop, None, Some}
 use Rattle.sheet.specs.declared.Label.{Label}
 use Rattle.sheet.specs.Record.{decimal_digits, number_digits, digits_of}
 use Rattle.sheet.specs.Flow.{are_digits, is_label}
 use Rattle.digits.specs.Counts.{number_fits}
+use Rattle.sheet.specs.Answer.{Found}
 
 -- the digits of m from its last one back to a 0, at most k of them, the most significant first; of a number with up to
 -- k digits, none of them 0, these are all
@@ -34,12 +33,12 @@ written_last new old = take (length old - length new) old ++ new
 unfoldable pub number_start : ℕ → ℕ → Found
 unfolding are_digits decimal_digits
 number_start m end =
-    let start : Found = At (end - length (decimal_digits m)) in
-    cond (number_fits m) start Nothing
+    let start : Found = Some (end - length (decimal_digits m)) in
+    cond (number_fits m) start None
 
 -- where a label's digits start that stand in the last of so many places; nothing for a record that is no label
 unfoldable pub label_start : ℕ → Label → ℕ → Found
 unfolding is_label digits_of
 label_start depth label places =
-    let start : Found = At (places - length (digits_of label)) in
-    cond (is_label depth label) start Nothing
+    let start : Found = Some (places - length (digits_of label)) in
+    cond (is_label depth label) start None

@@ -11,57 +11,32 @@ ghost use Rattle.digits.specs.LastPlaces.{end_digits, end_digits_of, written_bef
 ghost use Rattle.digits.specs.LastPlaces.{label_start};
 
 use checks::depth_fits;
-use sheet::{Found, Label};
-
-// The answer of write_digits: how many digits were written, or document 01's number of the refusal.
-#[derive(Clone, Copy)]
-pub enum DigitsAnswer {
-    Written(usize),
-    Refused(u8),
-}
-
-// The answer of label_of: the label, or document 01's number of the refusal.
-#[derive(Clone, Copy)]
-pub enum LabelAnswer {
-    Label(Label),
-    Refused(u8),
-}
-
-// The most digits of each of a label's two numbers.
-const NUMBER_DIGITS: usize = 18;
+use sheet::{Label, NUMBER_DIGITS, Refusal};
 
 // How many digits one of a label's numbers has; nothing for a number with a digit 0 or with more than 18 digits.
-fn fitting_count(number: u64) -> Found
+fn fitting_count(number: u64) -> Option<usize>
     ensures { result ≡ fitting_count number }
 {
     let mut left = NUMBER_DIGITS;
     let mut m = number;
     while 0 < m {
-        if left < 1 {
-            return Found::Nothing;
+        if left == 0 || m % 10 == 0 {
+            return None;
         }
-        if m % 10 < 1 {
-            return Found::Nothing;
-        }
-        left = left - 1;
-        m = m / 10;
+        left -= 1;
+        m /= 10;
     }
-    Found::At(NUMBER_DIGITS - left)
+    Some(NUMBER_DIGITS - left)
 }
 
 // Numbers of so many digits make a label at the depth: no more digits than depth, and a second number only beside a
 // first of 18 digits.
+#[tactic(auto, unfolding(crate::specs::Counts::counts_fit))]
 fn counts_fit(depth: usize, first: usize, rest: usize) -> bool
     requires { (first ≤ number_digits) × (rest ≤ number_digits) }
     ensures { result ≡ counts_fit depth first rest }
 {
-    if depth < first + rest {
-        return false;
-    }
-    if rest < 1 {
-        return true;
-    }
-    NUMBER_DIGITS <= first
+    first + rest <= depth && (rest == 0 || NUMBER_DIGITS <= first)
 }
 
 // The record is a label at the depth: no digit is 0, there are no more than depth, and a second number stands only
@@ -69,13 +44,13 @@ fn counts_fit(depth: usize, first: usize, rest: usize) -> bool
 pub fn is_label(depth: usize, label: Label) -> bool
     ensures { result ≡ is_label depth label }
 {
-    match fitting_count(label.first) {
-        Found::Nothing => false,
-        Found::At(first) => match fitting_count(label.rest) {
-            Found::Nothing => false,
-            Found::At(rest) => counts_fit(depth, first, rest),
-        },
-    }
+    let Some(first) = fitting_count(label.first) else {
+        return false;
+    };
+    let Some(rest) = fitting_count(label.rest) else {
+        return false;
+    };
+    counts_fit(depth, first, rest)
 }
 
 // How many digits a number has; 0 has none.
@@ -85,8 +60,8 @@ pub fn count_decimal_digits(number: u64) -> usize
     let mut count = 0;
     let mut m = number;
     while 0 < m {
-        count = count + 1;
-        m = m / 10;
+        count += 1;
+        m /= 10;
     }
     count
 }
@@ -95,9 +70,7 @@ pub fn count_decimal_digits(number: u64) -> usize
 pub fn count_digits(label: Label) -> usize
     ensures { result ≡ length (digits_of label) }
 {
-    let first = count_decimal_digits(label.first);
-    let rest = count_decimal_digits(label.rest);
-    first + rest
+    count_decimal_digits(label.first) + count_decimal_digits(label.rest)
 }
 
 // Writes the digits of a number, of which there are count, to the first places, the last digit first.
@@ -106,42 +79,42 @@ fn put_digits(number: u64, count: usize, out: &mut [u8])
     requires count_in_bounds { count ≤ length out.old }
     ensures { out.new ≡ written (decimal_digits number) out.old }
 {
-    let mut i = 0;
-    let mut m = number;
-    while i < count {
-        i = i + 1;
-        out[count - i] = (m % 10) as u8;
-        m = m / 10;
+    let mut left = number;
+    for i in (0..count).rev() {
+        out[i] = (left % 10) as u8;
+        left /= 10;
     }
 }
 
-// Writes the digits of a label to the first places. Refused by 2, 11, 3, in this order; then no place is written.
-pub fn write_digits(depth: usize, label: Label, out: &mut [u8]) -> DigitsAnswer
+// Writes the digits of a label to the first places and answers how many there are. Refused by 2, 11, 3, in this order;
+// then no place is written.
+#[tactic(auto, unfolding(crate::specs::Digits::digits_answer, crate::specs::Digits::digits_places))]
+pub fn write_digits(depth: usize, label: Label, out: &mut [u8]) -> Result<usize, Refusal>
     ensures answer { result ≡ digits_answer depth label (length out.old) }
     ensures values { digits_values result ≡ digits_values (digits_answer depth label (length out.old)) }
     ensures places { out.new ≡ digits_places depth label out.old }
 {
-    if depth_fits(depth) {
-        if is_label(depth, label) {
-            let first = count_decimal_digits(label.first);
-            let rest = count_decimal_digits(label.rest);
-            let count = first + rest;
-            if out.len() < count {
-                return DigitsAnswer::Refused(3);
-            }
-            put_digits(label.first, first, out);
-            put_digits(label.rest, rest, &mut out[first..]);
-            return DigitsAnswer::Written(count);
-        }
-        return DigitsAnswer::Refused(11);
+    if !depth_fits(depth) {
+        return Err(Refusal::numbered(2));
     }
-    DigitsAnswer::Refused(2)
+    if !is_label(depth, label) {
+        return Err(Refusal::numbered(11));
+    }
+    let first = count_decimal_digits(label.first);
+    let rest = count_decimal_digits(label.rest);
+    let count = first + rest;
+    if out.len() < count {
+        return Err(Refusal::numbered(3));
+    }
+    put_digits(label.first, first, out);
+    put_digits(label.rest, rest, &mut out[first..]);
+    Ok(count)
 }
 
 // Judges one of a label's numbers and writes its digits to the places before an end, each worked out once. Gives where
 // they start, or nothing for a number with a digit 0 or with more than 18 digits; of such a number the digits after its
 // last 0 are written, at most 18.
-fn put_number(number: u64, end: usize, out: &mut [u8]) -> Found
+fn put_number(number: u64, end: usize, out: &mut [u8]) -> Option<usize>
     requires { (number_digits ≤ end) × (end ≤ length out.old) }
     ensures start { result ≡ number_start number end }
     ensures places { out.new ≡ written_before end (end_digits number_digits number) out.old }
@@ -150,59 +123,40 @@ fn put_number(number: u64, end: usize, out: &mut [u8]) -> Found
     let mut room = NUMBER_DIGITS;
     let mut m = number;
     while 0 < m {
-        if room < 1 {
-            return Found::Nothing;
-        }
         let digit = m % 10;
-        if digit < 1 {
-            return Found::Nothing;
+        if room == 0 || digit == 0 {
+            return None;
         }
-        at = at - 1;
-        room = room - 1;
+        at -= 1;
+        room -= 1;
         out[at] = digit as u8;
-        m = m / 10;
+        m /= 10;
     }
-    Found::At(at)
+    Some(at)
 }
 
 // Judges a record as a label and writes its digits to the last places, each worked out once. Gives where they start, or
 // nothing for a record that is no label at the depth; of such a record the digits that its numbers end with are
 // written. A step for the flow question.
-pub fn put_label(depth: usize, label: Label, out: &mut [u8]) -> Found
+pub fn put_label(depth: usize, label: Label, out: &mut [u8]) -> Option<usize>
     requires { 36 ≤ length out.old }
     ensures start { result ≡ label_start depth label (length out.old) }
     ensures places { out.new ≡ written_last (end_digits_of label) out.old }
 {
     let places = out.len();
-    match put_number(label.rest, places, out) {
-        Found::Nothing => Found::Nothing,
-        Found::At(rest) => match put_number(label.first, rest, out) {
-            Found::Nothing => Found::Nothing,
-            Found::At(first) => {
-                if counts_fit(depth, rest - first, places - rest) {
-                    return Found::At(first);
-                }
-                Found::Nothing
-            }
-        },
+    let rest = put_number(label.rest, places, out)?;
+    let first = put_number(label.first, rest, out)?;
+    if !counts_fit(depth, rest - first, places - rest) {
+        return None;
     }
+    Some(first)
 }
 
 // Every digit is from 1 to 9.
 fn all_digits(digits: &[u8]) -> bool
     ensures { result ≡ every (within 9) digits.now }
 {
-    let mut i = 0;
-    while i < digits.len() {
-        if digits[i] < 1 {
-            return false;
-        }
-        if 9 < digits[i] {
-            return false;
-        }
-        i = i + 1;
-    }
-    true
+    digits.iter().all(|digit| 1 <= *digit && *digit <= 9)
 }
 
 // The digits as one decimal number.
@@ -210,13 +164,11 @@ fn number_of(digits: &[u8]) -> u64
     requires { number digits.now < 2 ^ 64 }
     ensures { result ≡ number digits.now }
 {
-    let mut m: u64 = 0;
-    let mut i = 0;
-    while i < digits.len() {
-        m = m * 10 + digits[i] as u64;
-        i = i + 1;
+    let mut number = 0;
+    for &digit in digits {
+        number = number * 10 + u64::from(digit);
     }
-    m
+    number
 }
 
 // The digits as a record: the first 18, then the next ones.
@@ -225,33 +177,28 @@ fn record_of(digits: &[u8]) -> Label
     ensures { result ≡ record_of digits.now }
 {
     if digits.len() <= NUMBER_DIGITS {
-        let number = number_of(digits);
         return Label {
-            first: number,
+            first: number_of(digits),
             rest: 0,
         };
     }
-    let first = number_of(&digits[..NUMBER_DIGITS]);
-    let rest = number_of(&digits[NUMBER_DIGITS..]);
     Label {
-        first: first,
-        rest: rest,
+        first: number_of(&digits[..NUMBER_DIGITS]),
+        rest: number_of(&digits[NUMBER_DIGITS..]),
     }
 }
 
 // The label that has these digits. Refused by 2, 11, in this order.
-pub fn label_of(depth: usize, digits: &[u8]) -> LabelAnswer
+#[tactic(auto, unfolding(crate::specs::Digits::label_answer, sheet::specs::Flow::are_digits))]
+pub fn label_of(depth: usize, digits: &[u8]) -> Result<Label, Refusal>
     ensures answer { result ≡ label_answer depth digits.now }
     ensures values { label_values result ≡ label_values (label_answer depth digits.now) }
 {
-    if depth_fits(depth) {
-        if digits.len() <= depth {
-            if all_digits(digits) {
-                return LabelAnswer::Label(record_of(digits));
-            }
-            return LabelAnswer::Refused(11);
-        }
-        return LabelAnswer::Refused(11);
+    if !depth_fits(depth) {
+        return Err(Refusal::numbered(2));
     }
-    LabelAnswer::Refused(2)
+    if depth < digits.len() || !all_digits(digits) {
+        return Err(Refusal::numbered(11));
+    }
+    Ok(record_of(digits))
 }

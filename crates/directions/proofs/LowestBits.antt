@@ -13,7 +13,6 @@ use lib.Count.{count_trailing_zeros, under}
 use lib.Dec.{eqb, lit<}
 use lib.Pow.{pow_pos, split}
 use borrow.Author.Tests.{eqb-true, eqb-false, not-true, not-false}
-use Rattle.sheet.specs.declared.Found.TheVariants.{Nothing}
 use Rattle.sheet.specs.Direction.{is_code}
 use Rattle.sheet.specs.Sheet.{first}
 use Rattle.sheet.specs.Refusal.{both}
@@ -21,6 +20,7 @@ use Rattle.sheet.specs.Word.{bytes_of, first_bad, first_bad_of}
 use Rattle.sheet.proofs.First.{none_first}
 use Rattle.sheet.proofs.Within.{both_true}
 use Rattle.directions.specs.LowestBits.{clear_lowest, clear_lowest_in}
+use Rattle.std.specs.Prelude.{None}
 
 -- ---- what the code computes
 
@@ -60,7 +60,7 @@ unfolding same
 same_is true b e = e
 same_is false b e = not-true b e
 
-every_byte : (test : ℕ → Bool) → first (λ x. not (test x)) 256 ≡ Nothing → (x : ℕ) → x < 256 → test x ≡ true
+every_byte : (test : ℕ → Bool) → first (λ x. not (test x)) 256 ≡ None → (x : ℕ) → x < 256 → test x ≡ true
 every_byte test e x l = not-false (test x) (none_first (λ y. not (test y)) 256 e x l)
 
 -- the code clears what the definition clears, and nothing is left exactly if the byte is a code
@@ -68,7 +68,7 @@ agrees : ℕ → Bool
 unfolding cleared_byte clear_lowest is_code same
 agrees x = both (eqb (cleared_byte x) (clear_lowest x)) (same (is_code x) (eqb (clear_lowest x) 0))
 
-all_agree : first (λ x. not (agrees x)) 256 ≡ Nothing
+all_agree : first (λ x. not (agrees x)) 256 ≡ None
 unfolding first agrees
 all_agree = refl
 
@@ -84,7 +84,7 @@ code_alone : ℕ → Bool
 unfolding first_bad_of is_code same
 code_alone x = same (is_code x) (eqb (first_bad_of x) 8)
 
-all_alone : first (λ x. not (code_alone x)) 256 ≡ Nothing
+all_alone : first (λ x. not (code_alone x)) 256 ≡ None
 unfolding first code_alone
 all_alone = refl
 

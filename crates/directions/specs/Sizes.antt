@@ -1,5 +1,7 @@
 -- What the code asks of a sheet's sizes and of a row and a column on it.
 use Rattle.std.specs.Prelude.{List, ℕ, ◌*◌, ◌<◌, ◌≤◌, length}
+use Rattle.sheet.specs.Sheet.{Grid, grid}
+use Rattle.directions.specs.declared.Grid.{Grid as GridValue}
 
 -- the largest count of cells: 256 rows of 256 columns
 abbrev pub most_cells : ℕ
@@ -18,3 +20,7 @@ pub record Sized (rows cols : ℕ) (dirs : List ℕ) : Type 0 where
   pub cols_most : cols ≤ 256
   pub cols_some : 0 < cols
   pub long : rows * cols ≤ length dirs
+
+-- the grid that a value of the code holds
+abbrev pub grid_of : GridValue → Grid
+grid_of g = grid g.rows g.cols g.dirs.now

@@ -1,11 +1,10 @@
 -- The entries of the table of steps, steps that are short, and the cell that is found one step back.
-use Rattle.std.specs.Prelude.{cond, ℕ, ◌+◌, ◌%◌, ◌<◌, eqb, ℤ, get_or}
+use Rattle.std.specs.Prelude.{cond, ℕ, ◌+◌, ◌%◌, ◌<◌, eqb, ℤ, get_or, None, Some}
 use Rattle.std.specs.Int.Signed.{mag}
 use Rattle.sheet.specs.declared.Step.{Step}
-use Rattle.sheet.specs.declared.End.{End}
-use Rattle.sheet.specs.declared.End.TheVariants.{Off, At}
 use Rattle.sheet.specs.Direction.{steps, no_step, step_end}
 use Rattle.sheet.specs.Sheet.{Grid, dir_at}
+use Rattle.sheet.specs.Answer.{End}
 
 -- the k-th step of the table
 abbrev pub step_at : ℕ → Step
@@ -23,8 +22,8 @@ pub record Short (s : Step) : Type 0 where
 
 -- the cell t, if its code is that of the k-th step
 unfoldable pub with_code : Grid → ℕ → End → End
-with_code G k Off = Off
-with_code G k (At t) = cond (eqb (dir_at G t) (step_at k).code) (At t) Off
+with_code G k None = None
+with_code G k (Some t) = cond (eqb (dir_at G t) (step_at k).code) (Some t) None
 
 -- the neighbour of the cell in a row and a column against the k-th step: the cell one step back, if that step is its
 -- own

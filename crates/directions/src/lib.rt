@@ -6,11 +6,11 @@ pub mod word;
 
 ghost use Rattle.std.specs.Prelude.{◌≡◌, ◌+◌, ◌*◌, ◌<◌};
 ghost use Rattle.sheet.specs.Direction.{step_of, is_code, moved_by, step_end};
-ghost use Rattle.sheet.specs.Sheet.{grid, next, is_outlet};
-ghost use Rattle.directions.specs.Sizes.{OnSheet, Sized};
+ghost use Rattle.sheet.specs.Sheet.{next, is_outlet};
+ghost use Rattle.directions.specs.Sizes.{OnSheet, Sized, grid_of};
 ghost use Rattle.directions.specs.Steps.{step_at, Near, Short, neighbour_against};
 
-use sheet::{End, Next, Step};
+use sheet::Step;
 
 // The eight codes from east on, each an eighth of a turn clockwise from the one before: the step back is four entries
 // on.
@@ -105,91 +105,70 @@ pub fn is_code(byte: u8) -> bool
 }
 
 // The row or column that a signed step leads to, of count many.
-fn moved(at: usize, step: i32, count: usize) -> End
+fn moved(at: usize, step: i32, count: usize) -> Option<usize>
     requires { Near at step }
     ensures { result ≡ moved_by at step count }
 {
     let x = (at as i32) + step;
     if x < 0 {
-        End::Off
-    } else {
-        let y = x as usize;
-        if y < count { End::At(y) } else { End::Off }
+        return None;
     }
+    let y = x as usize;
+    if y < count { Some(y) } else { None }
 }
 
 // The cell that a step from a row and a column ends on.
-fn step_end(rows: usize, cols: usize, row: usize, col: usize, s: Step) -> End
+fn step_end(rows: usize, cols: usize, row: usize, col: usize, s: Step) -> Option<usize>
     requires { OnSheet rows cols row col × Short s }
     ensures { result ≡ step_end rows cols row col s }
 {
-    let End::At(to_row) = moved(row, s.row, rows) else {
-        return End::Off;
-    };
-    let End::At(to_col) = moved(col, s.col, cols) else {
-        return End::Off;
-    };
-    End::At(to_row * cols + to_col)
+    let to_row = moved(row, s.row, rows)?;
+    let to_col = moved(col, s.col, cols)?;
+    Some(to_row * cols + to_col)
 }
 
-// Where the water of the cell in a row and a column goes.
-fn next_at(dirs: &[u8], rows: usize, cols: usize, row: usize, col: usize) -> Next
-    requires { Sized rows cols dirs.now × OnSheet rows cols row col }
-    ensures { result ≡ next (grid rows cols dirs.now) (row * cols + col) }
-{
-    let code = dirs[row * cols + col];
-    if code == 0 {
-        return Next::Outlet;
-    }
-    match step_end(rows, cols, row, col, step_of(code)) {
-        End::Off => Next::Outlet,
-        End::At(t) => {
-            if dirs[t] == 0 {
-                Next::Outlet
-            } else {
-                Next::To(t)
-            }
+// The rows, the columns and the direction bytes of a sheet; more bytes than cells may be lent.
+#[derive(Clone, Copy)]
+pub struct Grid<'a> {
+    pub rows: usize,
+    pub cols: usize,
+    pub dirs: &'a [u8],
+}
+
+impl Grid<'_> {
+    // Where the water of the cell in a row and a column goes.
+    fn next_at(self, row: usize, col: usize) -> Option<usize>
+        requires { Sized self.rows self.cols self.dirs.now × OnSheet self.rows self.cols row col }
+        ensures { result ≡ next (grid_of self.entry) (row * self.entry.cols + col) }
+    {
+        let code = self.dirs[row * self.cols + col];
+        if code == 0 {
+            return None;
         }
+        let to = step_end(self.rows, self.cols, row, col, step_of(code))?;
+        if self.dirs[to] == 0 { None } else { Some(to) }
     }
-}
 
-// Whether the cell in a row and a column is an outlet.
-pub fn is_outlet(dirs: &[u8], rows: usize, cols: usize, row: usize, col: usize) -> bool
-    requires { Sized rows cols dirs.now × OnSheet rows cols row col }
-    ensures { result ≡ is_outlet (grid rows cols dirs.now) (row * cols + col) }
-{
-    if dirs[row * cols + col] == 0 {
-        return false;
+    // Whether the cell in a row and a column is an outlet.
+    pub fn is_outlet(self, row: usize, col: usize) -> bool
+        requires { Sized self.rows self.cols self.dirs.now × OnSheet self.rows self.cols row col }
+        ensures { result ≡ is_outlet (grid_of self.entry) (row * self.entry.cols + col) }
+    {
+        self.dirs[row * self.cols + col] != 0 && self.next_at(row, col).is_none()
     }
-    match next_at(dirs, rows, cols, row, col) {
-        Next::Outlet => true,
-        Next::To(_) => false,
-    }
-}
 
-// The neighbour of a cell against the k-th step of the table: the cell one step back, if that step is its own. Of an
-// inside cell it is a donor.
-pub fn neighbour_against(
-    dirs: &[u8],
-    rows: usize,
-    cols: usize,
-    row: usize,
-    col: usize,
-    k: usize,
-) -> End
-    requires { Sized rows cols dirs.now × OnSheet rows cols row col × (k < 8) }
-    ensures { result ≡ neighbour_against (grid rows cols dirs.now) row col k }
-{
-    let back = step_at((k + 4) % 8);
-    match step_end(rows, cols, row, col, back) {
-        End::Off => End::Off,
-        End::At(t) => {
-            let s = step_at(k);
-            if dirs[t] == s.code {
-                End::At(t)
-            } else {
-                End::Off
-            }
+    // The neighbour of a cell against the k-th step of the table: the cell one step back, if that step is its own. Of
+    // an inside cell it is a donor.
+    pub fn neighbour_against(self, row: usize, col: usize, k: usize) -> Option<usize>
+        requires { Sized self.rows self.cols self.dirs.now × OnSheet self.rows self.cols row col × (k < 8) }
+        ensures { result ≡ neighbour_against (grid_of self.entry) row col k }
+    {
+        let back = step_at((k + 4) % 8);
+        let from = step_end(self.rows, self.cols, row, col, back)?;
+        if self.dirs[from] == step_at(k).code {
+            Some(from)
+        } else {
+            None
         }
     }
 }

@@ -2,18 +2,17 @@
 -- cells passed so far.
 use mathlib.Core.Path.{◌≡◌, refl, sym, ◌∙◌, ap}
 use mathlib.Core.Bool.{Bool, true, false, cond}
-use mathlib.Core.List.{List}
+use mathlib.Core.List.{List, [], ◌∷◌, ◌++◌}
 use mathlib.Core.Logic.{◌≢◌}
 use Prim.Native.Nat.{ℕ, zero, suc, ◌+◌, ◌-◌, ◌<◌, ◌≤◌, ◌^◌}
 use native.Mathlib.Decide.{ℕ_discrete, dec_lt}
 use native.Mathlib.Numerals.{add-one}
 use native.Mathlib.Omega.{arith}
 use lib.Dec.{ltb, eqb}
-use lib.ListN.{get_or, length, set, length-set}
-use lib.Seq.{get_or-set_same, get_or-set_other, drop-set-lt}
+use lib.ListN.{get_or, length, set, take, length-append, length-set}
+use lib.Seq.{get_or-set_same, get_or-set_other, drop-set-lt, get_or-take, take_at}
+use Rattle.std.proofs.lemmas.Grind.{common_steps}
 use borrow.Author.Tests.{lt-ltb, le-ltb}
-use Rattle.sheet.specs.declared.Next.{Next}
-use Rattle.sheet.specs.declared.Next.TheVariants.{Outlet, To}
 use Rattle.sheet.specs.Water.{passes, onward}
 use Rattle.sheet.specs.Refusal.{written}
 use Rattle.sheet.proofs.Cells.{outlet_not_to}
@@ -24,17 +23,19 @@ use Rattle.claims.proofs.Sums.{sum_same, sum_one, sum_most}
 use Rattle.upstream.proofs.Queues.{before_of, rank_once}
 use Rattle.drainage.proofs.Lists.{written_from_lem}
 use Rattle.drainage.proofs.Ways.{Stays, Opens, total_same, total_kept, total_more}
+use Rattle.sheet.specs.Answer.{Next}
+use Rattle.std.specs.Prelude.{None, Some}
 
 -- the water of the cells of rank over i goes to their receivers, that of the others nowhere
 unfoldable pub cut_at : ℕ → List ℕ → ℕ → ℕ → Next
-cut_at n work i q = cond (ltb i (rank_of n work q)) (next_of_number (receiver_of n work q)) Outlet
+cut_at n work i q = cond (ltb i (rank_of n work q)) (next_of_number (receiver_of n work q)) None
 
-number_to : (v r : ℕ) → next_of_number v ≡ To r → v ≡ r + 1
+number_to : (v r : ℕ) → next_of_number v ≡ Some r → v ≡ r + 1
 number_to zero r e = absurd (outlet_not_to e)
 number_to (suc v) r e = let z : v ≡ r = cc in omega arith
 
 module _ (n : ℕ) (work : List ℕ) where
-  cut_shut : (i q : ℕ) → rank_of n work q ≤ i → cut_at n work i q ≡ Outlet
+  cut_shut : (i q : ℕ) → rank_of n work q ≤ i → cut_at n work i q ≡ None
   unfolding cut_at
   cut_shut i q l = rw (le-ltb i (rank_of n work q) l)
 
@@ -55,7 +56,7 @@ module _ {n : ℕ} {work : List ℕ} {queued : ℕ} (q : Queue n work queued) wh
 
   -- ---- at the end of the queue no step is taken
 
-  all_shut : (c : ℕ) → c < n → cut_at n work queued c ≡ Outlet
+  all_shut : (c : ℕ) → c < n → cut_at n work queued c ≡ None
   all_shut c l =
       cut_shut n work queued c
       (elim (ℕ_discrete (rank_of n work c) 0) [ yes e ↦ omega arith | no d ↦ (q.stands c l (omega arith)).most ])
@@ -94,7 +95,7 @@ module _ {n : ℕ} {work : List ℕ} {queued : ℕ} (q : Queue n work queued) wh
       | no h ↦ cut_shut n work i c (omega arith) ∙ sym (cut_shut n work (i + 1) c (omega arith))
     ]
 
-    x_shut : cut_at n work (i + 1) x ≡ Outlet
+    x_shut : cut_at n work (i + 1) x ≡ None
     x_shut = cut_shut n work (i + 1) x (omega (arith, item.rank))
 
     x_open : cut_at n work i x ≡ next_of_number (receiver_of n work x)
@@ -206,3 +207,15 @@ module _ {n : ℕ} {work : List ℕ} {queued : ℕ} {totals₀ : List ℕ} (g : 
   gathered_end {totals} h =
       written_from_lem (total n (next_in n work) (value_at totals₀)) n totals₀ totals (omega (arith, g.room, h.long))
       (λ c l. rw (cut_none n work) (h.values c l)) h.kept
+
+-- ---- a walk of the queue from its end: the cells that are left, with the last of them
+
+pub last_left : (work left : List ℕ) (cell : ℕ) → left ++ cell ∷ [] ≡ take (length (left ++ cell ∷ [])) work
+    → (left ≡ take (length left) work) × (cell ≡ get_or work (length left) 0)
+last_left work left cell e =
+    let k : ℕ = length left in
+    let more : length (left ++ cell ∷ []) ≡ k + 1 = length-append left (cell ∷ []) in
+    let e' : left ++ cell ∷ [] ≡ take (k + 1) work = rw more at e in (
+      sym (take_at left (cell ∷ []) k refl) ∙ ap (take k) e' ∙ grind (arith, common_steps),
+      grind (arith, common_steps, get_or-take (k + 1) work k 0),
+    )

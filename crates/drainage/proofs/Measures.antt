@@ -1,17 +1,15 @@
 -- Areas and sizes are totals of own values; what the slices hold that they were written to.
 use mathlib.Core.Path.{◌≡◌, refl, sym, ◌∙◌, ap}
 use mathlib.Core.Bool.{Bool, true, false, cond, not, true≢false}
-use mathlib.Core.List.{List, [], ◌++◌, append-nil}
-use Prim.Native.Nat.{ℕ, ◌*◌, ◌-◌, ◌<◌, ◌≤◌}
+use mathlib.Core.List.{List, ◌++◌}
+use Prim.Native.Nat.{ℕ, ◌+◌, ◌*◌, ◌-◌, ◌<◌, ◌≤◌}
 use native.Mathlib.Decide.{ℕ_discrete}
 use native.Mathlib.Omega.{arith}
 use lib.Dec.{eqb}
-use lib.ListN.{length, take, drop, length-drop}
-use lib.Seq.{take_all, take_at, drop_at, drop-length}
-use borrow.Rule.Slice.PartMut.{put_mid, post_of, Post-is}
+use lib.ListN.{length, take, drop}
+use lib.Seq.{take_at, drop_at}
+use borrow.Rule.Slice.PartMut.{put_mid}
 use borrow.Author.Tests.{not-false}
-use Rattle.sheet.specs.declared.Next.{Next}
-use Rattle.sheet.specs.declared.Next.TheVariants.{Outlet, To}
 use Rattle.sheet.specs.Sheet.{Grid, Sheet, cells, dir_at, inside, next}
 use Rattle.sheet.specs.Water.{passes, Passes, here, there}
 use Rattle.sheet.specs.Area.{sum_over, drains_into, row_weight, weight, area}
@@ -30,10 +28,12 @@ use Rattle.upstream.proofs.Upstream.{receiver_of_lem, way_inside}
 use Rattle.sheet.proofs.Lists.{length_list}
 use Rattle.drainage.proofs.Lists.{filled, filled_at, filled_long, filled_kept, list_same}
 use Rattle.drainage.proofs.Ways.{total_same, total_alike}
+use Rattle.sheet.specs.Answer.{Next}
+use Rattle.std.specs.Prelude.{None, Some}
 
 next_number : (x : Next) → next_of_number (numbered x) ≡ x
-next_number Outlet = refl
-next_number (To r) = refl
+next_number None = refl
+next_number (Some r) = refl
 
 own_most : (code value : ℕ) → own_value code value ≤ value
 unfolding own_value
@@ -193,13 +193,9 @@ areas_long S = length_list (area S) 0 (cells S.grid)
 -- sizes that are copied into their part of the work places
 pub sizes_put : (n : ℕ) (work sizes areas old : List ℕ) → sizes_part * n ≤ length work → length sizes ≡ n
     → areas ≡ written sizes old
-    → put_mid (sizes_part * n) (length work - sizes_part * n) work
-    (take n areas ++ drop n (take (length work - sizes_part * n) (drop (sizes_part * n) work))) ≡ with_sizes n sizes work
+    → put_mid (sizes_part * n) (sizes_part * n + n - sizes_part * n) work (take n areas) ≡ with_sizes n sizes work
 unfolding with_sizes
 sizes_put n work sizes areas old l long e =
-    let part : take (length work - sizes_part * n) (drop (sizes_part * n) work) ≡ drop (sizes_part * n) work = take_all
-    (length work - sizes_part * n) (drop (sizes_part * n) work) (omega (arith, length-drop (sizes_part * n) work)) in
-    let rest : post_of (sizes_part * n) (length work - sizes_part * n) work ≡ [] = Post-is (sizes_part * n)
-    (length work) work l ∙ drop-length work in
+    let count : sizes_part * n + n - sizes_part * n ≡ n = omega arith in
     let front : take n areas ≡ sizes = ap (take n) e ∙ take_at sizes (drop (length sizes) old) n long in
-    rw (part, rest, front, append-nil, long)
+    rw (count, front, long)

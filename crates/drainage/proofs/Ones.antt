@@ -7,39 +7,22 @@ use native.Mathlib.Decide.{ℕ_discrete}
 use native.Mathlib.Omega.{arith}
 use lib.Dec.{eqb}
 use lib.ListN.{get_or}
-use borrow.Author.Tests.{eqb-true}
+use borrow.Author.Tests.{eqb-true, eq-eqb}
 use Rattle.sheet.specs.Sheet.{Grid, Sheet, cells, inside}
 use Rattle.sheet.specs.Area.{count, drains_into, area}
 use Rattle.sheet.specs.Label.{areas_of}
-use Rattle.sheet.specs.Refusal.{both}
 use Rattle.sheet.proofs.Within.{both_true}
 use Rattle.claims.specs.Bounds.{Unweighted}
 use Rattle.claims.proofs.Theorems.{unweighted_areas}
 use Rattle.drainage.specs.Total.{all_ones, size, sizes_of}
 use Rattle.drainage.proofs.Lists.{list_same}
 
-none : (b : Bool) → both b false ≡ false
-none true = refl
-none false = refl
-
 module _ (weights : List ℕ) where
-  pub ones_none : all_ones 0 weights ≡ true
+  pub ones_all : (rows : ℕ) → ((row : ℕ) → row < rows → get_or weights row 0 ≡ 1) → all_ones rows weights ≡ true
   unfolding all_ones
-  ones_none = refl
-
-  pub ones_more : (row : ℕ) → all_ones row weights ≡ true → eqb (get_or weights row 0) 1 ≡ true
-      → all_ones (suc row) weights ≡ true
-  unfolding all_ones
-  ones_more row e f = rw (e, f)
-
-  -- a weight that is not 1
-  pub ones_not : (rows row : ℕ) → row < rows → eqb (get_or weights row 0) 1 ≡ false → all_ones rows weights ≡ false
-  unfolding all_ones
-  ones_not zero row l e = absurd (omega arith)
-  ones_not (suc k) row l e = elim (ℕ_discrete row k) [
-    | yes s ↦ rw (← s, e) (none (all_ones row weights))
-    | no d ↦ rw (ones_not k row (omega arith) e)
-  ]
+  ones_all zero each = refl
+  ones_all (suc k) each =
+      rw (ones_all k (λ row l. each row (omega arith)), eq-eqb (get_or weights k 0) 1 (each k (omega arith)))
 
   pub ones_at : (rows : ℕ) → all_ones rows weights ≡ true → (row : ℕ) → row < rows → get_or weights row 0 ≡ 1
   unfolding all_ones

@@ -9,9 +9,6 @@ use lib.Dec.{eqb, ltb}
 use lib.ListN.{get_or, take, drop}
 use lib.Seq.{get_or-take, get_or-drop}
 use borrow.Author.Tests.{ltb-true, lt-ltb, le-ltb, lt-leb, eq-eqb, ne_eqb, not-false}
-use Rattle.sheet.specs.declared.Found.{Found}
-use Rattle.sheet.specs.declared.Found.TheVariants.{At, Nothing}
-use Rattle.sheet.specs.declared.Outcome.TheVariants.{Accepted, Refused}
 use Rattle.sheet.specs.Direction.{is_code}
 use Rattle.sheet.specs.Sheet.{Grid, cells, dir_at, inside, next, first}
 use Rattle.sheet.specs.Water.{reaches_outlet}
@@ -24,6 +21,8 @@ use Rattle.drainage.specs.declared.Inspection.{Inspection}
 use Rattle.upstream.specs.Work.{ranks_part, sizes_part, rank_of, KeptFrom}
 use Rattle.upstream.specs.Search.{Searched, Coded, Drained}
 use Rattle.drainage.specs.Inspect.{after_search, InspectionResult}
+use Rattle.sheet.specs.Answer.{Found, Accepted, Refused}
+use Rattle.std.specs.Prelude.{None, Some}
 
 -- ---- what was looked for is what the definition looks for
 
@@ -66,15 +65,15 @@ module _ (G : Grid) where
 
   -- ---- the outcomes
 
-  pub refused_4 : {c : ℕ} → First (bad_code G) (At c) → Refused 4 c ≡ outcome_on G
+  pub refused_4 : {c : ℕ} → First (bad_code G) (Some c) → Refused 4 c ≡ outcome_on G
   unfolding outcome_on
   refused_4 e = rw e
 
-  pub refused_5 : First (bad_code G) Nothing → First (inside G) Nothing → Refused 5 0 ≡ outcome_on G
+  pub refused_5 : First (bad_code G) None → First (inside G) None → Refused 5 0 ≡ outcome_on G
   unfolding outcome_on
   refused_5 e f = rw (e, f)
 
-  pub refused_later : {x : ℕ} → First (bad_code G) Nothing → First (inside G) (At x)
+  pub refused_later : {x : ℕ} → First (bad_code G) None → First (inside G) (Some x)
       → refused_at 6 (first (undrained G) (cells G)) Accepted ≡ outcome_on G
   unfolding outcome_on
   refused_later e f = rw (e, f)
@@ -84,17 +83,17 @@ module _ (G : Grid) where
 not_accepted : {number place : ℕ} → Refused number place ≡ Accepted → ⊥
 not_accepted e = let z : ◌≡◌ {A = ℕ} 0 1 = cc in omega arith
 
-accepted_none : (a : Found) → refused_at 6 a Accepted ≡ Accepted → a ≡ Nothing
+accepted_none : (a : Found) → refused_at 6 a Accepted ≡ Accepted → a ≡ None
 unfolding refused_at
-accepted_none (At c) e = absurd (not_accepted e)
-accepted_none Nothing e = refl
+accepted_none (Some c) e = absurd (not_accepted e)
+accepted_none None e = refl
 
 module _ (G : Grid) where
-  pub coded_of : First G (bad_code G) Nothing → Coded G
+  pub coded_of : First G (bad_code G) None → Coded G
   unfolding bad_code
   coded_of e c l = not-false (is_code (dir_at G c)) (none_first (bad_code G) (cells G) e c l)
 
-  module _ {work : List ℕ} {queued : ℕ} (s : Searched G work queued) (none : First G (undrained G) Nothing) where
+  module _ {work : List ℕ} {queued : ℕ} (s : Searched G work queued) (none : First G (undrained G) None) where
     pub all_reach : (c : ℕ) → inside G c ≡ true → reaches_outlet (next G) (cells G) c ≡ true
     unfolding undrained
     all_reach c i =
@@ -126,12 +125,12 @@ inspected_before {number = number} e early o = record {
 -- 6 after it
 after_search_lem : (a : Found) → after_search (refused_at 6 a Accepted) ≡ true
 unfolding refused_at
-after_search_lem (At c) = refl
-after_search_lem Nothing = refl
+after_search_lem (Some c) = refl
+after_search_lem None = refl
 
 -- a sheet of codes with an inside cell, searched
-pub inspected : {G : Grid} {work work' : List ℕ} {r : Inspection} {x : ℕ} → First G (bad_code G) Nothing
-    → First G (inside G) (At x) → Searched G work' r.queued
+pub inspected : {G : Grid} {work work' : List ℕ} {r : Inspection} {x : ℕ} → First G (bad_code G) None
+    → First G (inside G) (Some x) → Searched G work' r.queued
     → r.outcome ≡ refused_at 6 (first (undrained G) (cells G)) Accepted → KeptFrom (sizes_part * cells G) work work'
     → InspectionResult G work work' r
 inspected {G} {r = r} bad some s e kept = record {
@@ -143,5 +142,5 @@ inspected {G} {r = r} bad some s e kept = record {
   kept = kept;
 }
   where
-    none : r.outcome ≡ Accepted → first (undrained G) (cells G) ≡ Nothing
+    none : r.outcome ≡ Accepted → first (undrained G) (cells G) ≡ None
     none a = accepted_none (first (undrained G) (cells G)) (sym e ∙ a)

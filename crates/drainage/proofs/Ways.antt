@@ -5,8 +5,6 @@ use mathlib.Core.Logic.{◌⊎◌, inl, inr, ◌≢◌}
 use Prim.Native.Nat.{ℕ, zero, suc, ◌+◌, ◌<◌}
 use native.Mathlib.Decide.{ℕ_discrete}
 use lib.Dec.{eqb}
-use Rattle.sheet.specs.declared.Next.{Next}
-use Rattle.sheet.specs.declared.Next.TheVariants.{Outlet, To}
 use Rattle.sheet.specs.Water.{onward, passes, Passes, here, there}
 use Rattle.sheet.proofs.Cells.{outlet_not_to}
 use Rattle.claims.proofs.Runs.{pass_trans}
@@ -14,10 +12,12 @@ use Rattle.claims.proofs.Lawful.{passes_true}
 use Rattle.claims.proofs.Fuel.{passes_enough}
 use Rattle.drainage.specs.Total.{total}
 use Rattle.claims.proofs.Sums.{sum_same, sum_either}
+use Rattle.sheet.specs.Answer.{Next}
+use Rattle.std.specs.Prelude.{None, Some}
 
 -- water stays among the first n cells
 abbrev pub Stays : ℕ → (ℕ → Next) → Type 0
-Stays n next = (q r : ℕ) → q < n → next q ≡ To r → r < n
+Stays n next = (q r : ℕ) → q < n → next q ≡ Some r → r < n
 
 pub way_stays : {n : ℕ} {next : ℕ → Next} → Stays n next → {q c : ℕ} → q < n → Passes next q c → c < n
 way_stays stay l here = l
@@ -38,8 +38,8 @@ module _ {n : ℕ} {A B : ℕ → Next} (stay : Stays n A) (same : (q : ℕ) →
       go : (x y : Next) → A q ≡ x → y ≡ A q → ((r c : ℕ) → r < n → passes B k r c ≡ passes A k r c)
           → cond (eqb q c) true (onward y false (λ r. passes B k r c)) ≡ cond (eqb q c) true
           (onward x false (λ r. passes A k r c))
-      go Outlet y e f ih = rw (f ∙ e)
-      go (To r) y e f ih = rw (f ∙ e, ih r c (stay q r l e))
+      go None y e f ih = rw (f ∙ e)
+      go (Some r) y e f ih = rw (f ∙ e, ih r c (stay q r l e))
 
   pub total_same : (f : ℕ → ℕ) (c : ℕ) → total n B f c ≡ total n A f c
   unfolding total
@@ -57,14 +57,14 @@ pub record Opens (n : ℕ) (A B : ℕ → Next) (x t : ℕ) : Type 0 where
   pub stay : Stays n A
   pub x_on : x < n
   pub t_on : t < n
-  pub x_shut : A x ≡ Outlet
-  pub t_shut : A t ≡ Outlet
+  pub x_shut : A x ≡ None
+  pub t_shut : A t ≡ None
   pub apart : t ≢ x
-  pub opened : B x ≡ To t
+  pub opened : B x ≡ Some t
   pub same : (q : ℕ) → q < n → q ≢ x → B q ≡ A q
 
 -- a way comes to one outlet
-one_end : {A : ℕ → Next} {q a b : ℕ} → A a ≡ Outlet → A b ≡ Outlet → Passes A q a → Passes A q b → a ≡ b
+one_end : {A : ℕ → Next} {q a b : ℕ} → A a ≡ None → A b ≡ None → Passes A q a → Passes A q b → a ≡ b
 one_end e f here here = refl
 one_end e f here (there g h) = absurd (outlet_not_to (sym e ∙ g))
 one_end e f (there g h) here = absurd (outlet_not_to (sym f ∙ g))
@@ -76,12 +76,12 @@ same_truth false true f g = g refl
 same_truth false false f g = refl
 
 module _ {n : ℕ} {A B : ℕ → Next} {x t : ℕ} (o : Opens n A B x t) where
-  other : {q r : ℕ} → A q ≡ To r → q ≢ x
+  other : {q r : ℕ} → A q ≡ Some r → q ≢ x
   other e z = outlet_not_to (sym o.x_shut ∙ ap A (sym z) ∙ e)
 
   stay_open : Stays n B
   stay_open q r l e = elim (ℕ_discrete q x) [
-    | yes z ↦ let w : To t ≡ To r = sym o.opened ∙ ap B (sym z) ∙ e in let s : t ≡ r = cc in rw (← s) o.t_on
+    | yes z ↦ let w : Some t ≡ Some r = sym o.opened ∙ ap B (sym z) ∙ e in let s : t ≡ r = cc in rw (← s) o.t_on
     | no d ↦ o.stay q r l (sym (o.same q l d) ∙ e)
   ]
 
@@ -97,11 +97,11 @@ module _ {n : ℕ} {A B : ℕ → Next} {x t : ℕ} (o : Opens n A B x t) where
   split l here = inl here
   split {c = c} l (there {q = q} {r = r} e h) = elim (ℕ_discrete q x) [
     | yes z ↦
-        let w : To t ≡ To r = sym o.opened ∙ ap B (sym z) ∙ e in
+        let w : Some t ≡ Some r = sym o.opened ∙ ap B (sym z) ∙ e in
         let s : r ≡ t = cc in
         inr (from_t (rw s at h), rw z here)
     | no d ↦
-        let e' : A q ≡ To r = sym (o.same q l d) ∙ e in
+        let e' : A q ≡ Some r = sym (o.same q l d) ∙ e in
         elim (split (o.stay q r l e') h) [ inl p ↦ inl (there e' p) | inr p ↦ inr (p.0, there e' p.1) ]
   ]
 

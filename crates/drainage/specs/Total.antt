@@ -1,7 +1,5 @@
 -- Sums of own values over the cells whose water passes a cell; sizes.
-use Rattle.std.specs.Prelude.{◌≡◌, Bool, true, cond, List, ℕ, zero, suc, ◌+◌, ◌*◌, ◌≤◌, ◌<◌, ◌^◌, eqb, get_or, length, set}
-use Rattle.sheet.specs.declared.Next.{Next}
-use Rattle.sheet.specs.declared.Next.TheVariants.{Outlet}
+use Rattle.std.specs.Prelude.{◌≡◌, Bool, true, cond, List, ℕ, zero, suc, ◌+◌, ◌*◌, ◌≤◌, ◌<◌, ◌^◌, eqb, get_or, length, set, None}
 use Rattle.sheet.specs.Sheet.{Grid, cells, inside}
 use Rattle.sheet.specs.Water.{passes}
 use Rattle.sheet.specs.Area.{count, sum_over, drains_into}
@@ -9,6 +7,7 @@ use Rattle.sheet.specs.Label.{list_from}
 use Rattle.sheet.specs.Refusal.{both, weights_fit}
 use Rattle.upstream.specs.Work.{sizes_part, is_reached, receiver_of, next_of_number}
 use Rattle.upstream.specs.Search.{Queue}
+use Rattle.sheet.specs.Answer.{Next}
 
 -- the sum of f over the cells whose water passes c
 unfoldable pub total : ℕ → (ℕ → Next) → (ℕ → ℕ) → ℕ → ℕ
@@ -17,7 +16,7 @@ total n next f c = sum_over n (λ q. passes next n q c) f
 
 -- where a cell's water goes, by the receivers in the work places
 unfoldable pub next_in : ℕ → List ℕ → ℕ → Next
-next_in n work c = cond (is_reached n work c) (next_of_number (receiver_of n work c)) Outlet
+next_in n work c = cond (is_reached n work c) (next_of_number (receiver_of n work c)) None
 
 abbrev pub value_at : List ℕ → ℕ → ℕ
 value_at l c = get_or l c 0

@@ -6,13 +6,14 @@ use lib.ListN.{replicate}
 use Rattle.sheet.specs.Sheet.{Sheet, grid}
 use Rattle.intake.specs.declared.Stage.TheVariants.{TakingCells, Ended}
 use Rattle.names.specs.Columns.{cell_columns}
-use Rattle.index.specs.declared.Indexed.TheVariants.{Units, Refused}
 use Rattle.index.specs.Index.{lent_index}
 use Rattle.index.proofs.Cases.{weighted_sheet, sheet, lent_for, lent_units, two_streams}
 use Rattle.index.proofs.IntakeCases.{one, two, sizes, with_weight}
 use Rattle.dues.specs.Levy.{units_of_basin, weight_of_first, whole_weight, dues_of, levied, lent_after_levy}
 use Rattle.dues.specs.Levy.{index_after_levy, dues_after}
 use Rattle.dues.specs.FromIntake.{intake_levied, intake_lent_after_levy, intake_index_after_levy, intake_dues_after}
+use Rattle.sheet.specs.Answer.{Refused}
+use Rattle.std.specs.Prelude.{Ok}
 
 -- the units 1, 2 and 3 have the cell 2, the cells 0 and 1, and the cell 4: weights 1, 2 and 5
 abbrev streams : Sheet
@@ -77,7 +78,7 @@ four = 9 ∷ 9 ∷ 9 ∷ 9 ∷ []
 abbrev circle : Sheet
 circle = sheet (grid 1 2 (1 ∷ 16 ∷ [])) 1
 
-pub accepted : levied streams (lent_for 6) (lent_units 4) 1 7 four ≡ Units 3
+pub accepted : levied streams (lent_for 6) (lent_units 4) 1 7 four ≡ Ok 3
 unfolding levied
 accepted = refl
 
@@ -103,7 +104,7 @@ unfolding lent_after_levy
 accepted_lent = refl
 
 -- the greatest total is accepted, and no larger one; then nothing is written, no work place either
-pub greatest_accepted : levied streams (lent_for 6) (lent_units 3) 1 100000000000 four ≡ Units 3
+pub greatest_accepted : levied streams (lent_for 6) (lent_units 3) 1 100000000000 four ≡ Ok 3
 unfolding levied
 greatest_accepted = refl
 
@@ -181,7 +182,7 @@ pub too-large-before-end
 unfolding intake_levied
 too-large-before-end = refl
 
-pub ended : intake_levied (record { stage = Ended sizes }) (with_weight 1000) one two 1 7 four ≡ Units 1
+pub ended : intake_levied (record { stage = Ended sizes }) (with_weight 1000) one two 1 7 four ≡ Ok 1
 unfolding intake_levied
 ended = refl
 
@@ -228,7 +229,7 @@ unfolding dues_of
 second_dues = refl
 
 -- the answer is the number of all units; the second basin's due stands at the first place, and one place is enough
-pub second_levied : levied two_basins (lent_for 6) (lent_units 4) 2 100 (9 ∷ []) ≡ Units 4
+pub second_levied : levied two_basins (lent_for 6) (lent_units 4) 2 100 (9 ∷ []) ≡ Ok 4
 unfolding levied
 second_levied = refl
 
@@ -250,7 +251,7 @@ pub no_third : dues_of two_basins 3 100 ≡ []
 unfolding dues_of
 no_third = refl
 
-pub third_levied : levied two_basins (lent_for 6) (lent_units 4) 3 100 [] ≡ Units 4
+pub third_levied : levied two_basins (lent_for 6) (lent_units 4) 3 100 [] ≡ Ok 4
 unfolding levied
 third_levied = refl
 
@@ -258,7 +259,7 @@ pub third_after : dues_after two_basins (lent_for 6) (lent_units 4) 3 100 four �
 unfolding dues_after
 third_after = refl
 
-pub none_levied : levied two_basins (lent_for 6) (lent_units 4) 0 100 [] ≡ Units 4
+pub none_levied : levied two_basins (lent_for 6) (lent_units 4) 0 100 [] ≡ Ok 4
 unfolding levied
 none_levied = refl
 

@@ -1,7 +1,6 @@
 -- The dues that the call wrote for an accepted sheet say what specs/Meaning.antt states.
 use mathlib.Core.Path.{◌≡◌, refl, sym, ◌∙◌, ap}
 use mathlib.Core.Bool.{Bool, true, false, cond}
-use mathlib.Core.Option.{Option, none, some}
 use mathlib.Core.List.Memᴰ
 use mathlib.Core.List.{List, [], ◌∷◌}
 use Prim.Native.Nat.{ℕ, zero, suc, ◌+◌, ◌-◌, ◌≤◌, ◌<◌}
@@ -12,7 +11,6 @@ use lib.Dec.{leb}
 use lib.ListN.{length, length-map, get_or, take, drop}
 use lib.Seq.{take-append_seam, take-length}
 use borrow.Author.Tests.{leb-true, le-leb}
-use Rattle.sheet.specs.declared.Outcome.TheVariants.{Accepted}
 use Rattle.sheet.specs.Sheet.{Sheet, cells, is_outlet}
 use Rattle.sheet.specs.Area.{count, weight}
 use Rattle.sheet.specs.Refusal.{Lent, outcome, written, lent_after}
@@ -25,8 +23,6 @@ use Rattle.faults.specs.declared.Sizes.{Sizes}
 use Rattle.intake.specs.declared.Intake.{Intake}
 use Rattle.intake.specs.Intake.{LentSheet, ended_sizes}
 use Rattle.labelling.specs.FromIntake.{sheet_of, intake_lent, lent_with}
-use Rattle.index.specs.declared.Indexed.{Indexed}
-use Rattle.index.specs.declared.Indexed.TheVariants.{Units, Refused}
 use Rattle.index.specs.Units.{unit_of, distinct_units, units}
 use Rattle.index.specs.Index.{LentIndex, indexed, written_index}
 use Rattle.index.specs.FromIntake.{indexed_with, intake_indexed}
@@ -46,6 +42,8 @@ use Rattle.dues.proofs.Shares.{product_most, up_to, upto_more, owed, owed_none, 
 use Rattle.dues.proofs.BasinUnits.{of_basin_mem, Stretch, stretch}
 use Rattle.dues.proofs.UnitWeights.{unit_weight, unit_weights, unit_has, first_is, first_none, first_all, dues_are}
 use Rattle.dues.proofs.UnitWeights.{some_of_basin, whole_some, whole_most}
+use Rattle.sheet.specs.Answer.{Counted, Accepted, Refused}
+use Rattle.std.specs.Prelude.{Err, Ok, None, Option, Some}
 
 -- the first cell up to which so many pass a test
 count_reaches : (t : ℕ → Bool) (n b : ℕ) → 1 ≤ b → b ≤ count n t → (o : ℕ) × (t o ≡ true) × (count (suc o) t ≡ b)
@@ -234,30 +232,31 @@ module _ (S : Sheet) (L : Lent) (accepted : outcome S L ≡ Accepted) (I : LentI
 -- ---- the dues as the call wrote them
 
 -- what an accepted call comes to
-levied_units : (total : ℕ) (answer : Indexed) (wanted : ℕ) (D : List ℕ) (count : ℕ)
-    → levied_on total answer wanted D ≡ Units count → (total_fits total ≡ true) × (answer ≡ Units count)
+levied_units : (total : ℕ) (answer : Counted) (wanted : ℕ) (D : List ℕ) (count : ℕ)
+    → levied_on total answer wanted D ≡ Ok count → (total_fits total ≡ true) × (answer ≡ Ok count)
 unfolding levied_on with_dues
 levied_units total answer wanted D count e = go (total_fits total) refl e
   where
-    clash : {number place : ℕ} → Refused number place ≡ Units count → ⊥
+    clash : {number place : ℕ} → ◌≡◌ {A = Counted} (Refused number place) (Ok count) → ⊥
     clash h = let z : ◌≡◌ {A = ℕ} 0 1 = cc in omega arith
 
-    by_answer : (a : Indexed) → with_dues a wanted D ≡ Units count → a ≡ Units count
-    by_answer (Units units) h = by_room (leb wanted (length D)) h
+    by_answer : (a : Counted) → with_dues a wanted D ≡ Ok count → a ≡ Ok count
+    by_answer (Ok units) h = by_room (leb wanted (length D)) h
       where
-        by_room : (b : Bool) → cond b (Units units) (Refused 3 0) ≡ Units count → Units units ≡ Units count
+        by_room : (b : Bool) → ◌≡◌ {A = Counted} (cond b (Ok units) (Refused 3 0)) (Ok count)
+            → ◌≡◌ {A = Counted} (Ok units) (Ok count)
         by_room true k = k
         by_room false k = absurd (clash k)
-    by_answer (Refused number place) h = absurd (clash h)
+    by_answer (Err refusal) h = absurd (clash h)
 
-    go : (b : Bool) → total_fits total ≡ b → cond b (with_dues answer wanted D) (Refused 18 0) ≡ Units count
-        → (total_fits total ≡ true) × (answer ≡ Units count)
+    go : (b : Bool) → total_fits total ≡ b → cond b (with_dues answer wanted D) (Refused 18 0) ≡ Ok count
+        → (total_fits total ≡ true) × (answer ≡ Ok count)
     go true f h = (f, by_answer answer h)
     go false f h = absurd (clash h)
 
 -- and where it is accepted
-units_levied : (total : ℕ) (answer : Indexed) (wanted : ℕ) (D : List ℕ) (count : ℕ) → total ≤ greatest_total
-    → answer ≡ Units count → wanted ≤ length D → levied_on total answer wanted D ≡ Units count
+units_levied : (total : ℕ) (answer : Counted) (wanted : ℕ) (D : List ℕ) (count : ℕ) → total ≤ greatest_total
+    → answer ≡ Ok count → wanted ≤ length D → levied_on total answer wanted D ≡ Ok count
 unfolding levied_on total_fits with_dues
 units_levied total answer wanted D count l e r =
     rw (le-leb total greatest_total l, e, le-leb wanted (length D) r) refl
@@ -278,16 +277,16 @@ directly S L I basin total D L' I' D' count c =
 
 from_sizes : (i : Intake) (sizes : Option Sizes) (T : LentSheet) (L : Lent) (I : LentIndex) (basin total : ℕ)
     (D : List ℕ) (L' : Lent) (I' : LentIndex) (D' : List ℕ) (count : ℕ) → ended_sizes i.stage ≡ sizes
-    → levied_with sizes T L I basin total D ≡ Units count → L' ≡ cond (total_fits total) (lent_with sizes T L) L
+    → levied_with sizes T L I basin total D ≡ Ok count → L' ≡ cond (total_fits total) (lent_with sizes T L) L
     → I' ≡ index_levied_with sizes T L I basin total D → D' ≡ dues_with sizes T L I basin total D
     → LevyMeaningFrom i T L' basin total count I' D D'
 unfolding levied_with lent_with index_levied_with dues_with lent_after_levy
-from_sizes i none T L I basin total D L' I' D' count e a f g h = absurd (refused (total_fits total) a)
+from_sizes i None T L I basin total D L' I' D' count e a f g h = absurd (refused (total_fits total) a)
   where
-    refused : (b : Bool) → cond b (Refused 15 0) (Refused 18 0) ≡ Units count → ⊥
+    refused : (b : Bool) → cond b (Refused 15 0) (Refused 18 0) ≡ Ok count → ⊥
     refused true q = let y : ◌≡◌ {A = ℕ} 0 1 = cc in omega arith
     refused false q = let y : ◌≡◌ {A = ℕ} 0 1 = cc in omega arith
-from_sizes i (some z) T L I basin total D L' I' D' count e a f g h = record {
+from_sizes i (Some z) T L I basin total D L' I' D' count e a f g h = record {
   sizes = z;
   ended = e;
   holds =
@@ -296,9 +295,9 @@ from_sizes i (some z) T L I basin total D L' I' D' count e a f g h = record {
 
 -- from an intake that has ended
 units_levied_from : (i : Intake) (sizes : Option Sizes) (T : LentSheet) (L : Lent) (I : LentIndex) (basin total : ℕ)
-    (D : List ℕ) (count : ℕ) (z : Sizes) → total ≤ greatest_total → indexed_with sizes T L I ≡ Units count
-    → sizes ≡ some z → length (units_of_basin (sheet_of z T) basin) ≤ length D
-    → levied_with sizes T L I basin total D ≡ Units count
+    (D : List ℕ) (count : ℕ) (z : Sizes) → total ≤ greatest_total → indexed_with sizes T L I ≡ Ok count
+    → sizes ≡ Some z → length (units_of_basin (sheet_of z T) basin) ≤ length D
+    → levied_with sizes T L I basin total D ≡ Ok count
 unfolding levied_with indexed_with levied
 units_levied_from i sizes T L I basin total D count z l e q r =
     rw q (units_levied total (indexed (sheet_of z T) L I) (length (units_of_basin (sheet_of z T) basin)) D count l

@@ -11,8 +11,6 @@ use Rattle.sheet.specs.Area.{row_weight}
 use Rattle.sheet.specs.Refusal.{written}
 use Rattle.sheet.proofs.Lists.{written_whole}
 use Rattle.claims.specs.Bounds.{sum, most_area}
-use Rattle.index.specs.declared.Indexed.{Indexed}
-use Rattle.index.specs.declared.Indexed.TheVariants.{Units, Refused}
 use Rattle.index.specs.Units.{UnitEntry}
 use Rattle.index.specs.Steps.{groups_of, Group}
 use Rattle.index.proofs.Groups.{groups_past, one_more}
@@ -20,6 +18,8 @@ use Rattle.index.proofs.Room.{groups_few}
 use Rattle.dues.specs.Levy.{if_levied}
 use Rattle.dues.specs.Steps.{Weighed, Shared, part_weights, counts_of, group_weights, dues_by}
 use Rattle.dues.proofs.Shares.{owed, owed_none, owed_more, dues_length, product_most}
+use Rattle.sheet.specs.Answer.{Counted}
+use Rattle.std.specs.Prelude.{Err, Ok}
 
 sum_split : (f : ℕ → ℕ) (m : ℕ) (cs : List ℕ) → sum f cs ≡ sum f (take m cs) + sum f (drop m cs)
 unfolding sum
@@ -169,12 +169,12 @@ module _ (total whole cols : ℕ) (weights cells labels basins D : List ℕ) whe
         ))
 
   -- without cells no due is written
-  pub no_cells : (answer : Indexed) → length cells ≡ 0
+  pub no_cells : (answer : Counted) → length cells ≡ 0
       → D ≡ if_levied answer (dues_by total whole 0 (group_weights f cells labels basins)) D
   unfolding part_weights dues_by
   no_cells answer e =
       rw (groups_past cells labels basins 0 (omega (arith, e))) (go answer)
     where
-      go : (x : Indexed) → D ≡ if_levied x [] D
-      go (Units units) = refl
-      go (Refused number place) = refl
+      go : (x : Counted) → D ≡ if_levied x [] D
+      go (Ok units) = refl
+      go (Err refusal) = refl

@@ -12,7 +12,6 @@ use lib.Dec.{eqb}
 use lib.ListN.{length, length-map, take, drop}
 use lib.Seq.{take-length, ext_get_or}
 use borrow.Author.Tests.{eqb-true, eqb-false, eq-eqb}
-use Rattle.sheet.specs.declared.Outcome.TheVariants.{Accepted}
 use Rattle.sheet.specs.declared.UnitName.{UnitName}
 use Rattle.sheet.specs.Sheet.{Sheet, cells, inside, next, is_outlet}
 use Rattle.sheet.specs.Water.{Passes, passes}
@@ -51,6 +50,7 @@ use Rattle.dues.proofs.Shares.{up_to, dues_length, dues_at}
 use Rattle.dues.proofs.BasinUnits.{of_basin_mem, mem_of_basin, of_basin_rise}
 use Rattle.dues.proofs.BasinParts.{part_inside, part_basin, part_has}
 use Rattle.dues.proofs.PartWeights.{weight_in, part_weights_lem}
+use Rattle.sheet.specs.Answer.{Accepted}
 
 -- ---- lists
 

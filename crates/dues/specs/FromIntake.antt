@@ -1,36 +1,34 @@
 -- The levy's call from an intake: 18, then 15 if it has not ended, then as a direct call with its sizes.
-use Rattle.std.specs.Prelude.{cond, List, ℕ}
-use Rattle.std.proofs.Math.Option.{Option, none, some}
+use Rattle.std.specs.Prelude.{cond, List, ℕ, None, Option, Some}
 use Rattle.sheet.specs.Refusal.{Lent}
 use Rattle.faults.specs.declared.Sizes.{Sizes}
 use Rattle.intake.specs.declared.Intake.{Intake}
 use Rattle.intake.specs.Intake.{LentSheet, ended_sizes}
 use Rattle.labelling.specs.FromIntake.{sheet_of, intake_lent}
-use Rattle.index.specs.declared.Indexed.{Indexed}
-use Rattle.index.specs.declared.Indexed.TheVariants.{Refused}
 use Rattle.index.specs.Index.{LentIndex}
 use Rattle.dues.specs.Levy.{total_fits, levied, index_after_levy, dues_after}
+use Rattle.sheet.specs.Answer.{Counted, Refused}
 
 -- with the sizes of an intake that has ended, or none: the answer
-unfoldable pub levied_with : Option Sizes → LentSheet → Lent → LentIndex → ℕ → ℕ → List ℕ → Indexed
+unfoldable pub levied_with : Option Sizes → LentSheet → Lent → LentIndex → ℕ → ℕ → List ℕ → Counted
 unfolding total_fits levied
-levied_with none T L I basin total dues = cond (total_fits total) (Refused 15 0) (Refused 18 0)
-levied_with (some z) T L I basin total dues = levied (sheet_of z T) L I basin total dues
+levied_with None T L I basin total dues = cond (total_fits total) (Refused 15 0) (Refused 18 0)
+levied_with (Some z) T L I basin total dues = levied (sheet_of z T) L I basin total dues
 
 -- the four slices of the index
 unfoldable pub index_levied_with : Option Sizes → LentSheet → Lent → LentIndex → ℕ → ℕ → List ℕ → LentIndex
 unfolding index_after_levy
-index_levied_with none T L I basin total dues = I
-index_levied_with (some z) T L I basin total dues = index_after_levy (sheet_of z T) L I basin total dues
+index_levied_with None T L I basin total dues = I
+index_levied_with (Some z) T L I basin total dues = index_after_levy (sheet_of z T) L I basin total dues
 
 -- the dues
 unfoldable pub dues_with : Option Sizes → LentSheet → Lent → LentIndex → ℕ → ℕ → List ℕ → List ℕ
 unfolding dues_after
-dues_with none T L I basin total dues = dues
-dues_with (some z) T L I basin total dues = dues_after (sheet_of z T) L I basin total dues
+dues_with None T L I basin total dues = dues
+dues_with (Some z) T L I basin total dues = dues_after (sheet_of z T) L I basin total dues
 
 -- the answer of the levy's call from an intake
-unfoldable pub intake_levied : Intake → LentSheet → Lent → LentIndex → ℕ → ℕ → List ℕ → Indexed
+unfoldable pub intake_levied : Intake → LentSheet → Lent → LentIndex → ℕ → ℕ → List ℕ → Counted
 unfolding ended_sizes levied_with
 intake_levied i T L I basin total dues = levied_with (ended_sizes i.stage) T L I basin total dues
 

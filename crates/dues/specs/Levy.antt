@@ -1,16 +1,15 @@
 -- Document 02's basin levy: a total of whole cents, shared among the units of one basin of a sheet by the weights of
 -- their cells. The refusals of its call in order, and what the lent slices hold afterwards.
-use Rattle.std.specs.Prelude.{Bool, cond, List, [], ◌∷◌, ℕ, suc, ◌*◌, ◌-◌, ◌/◌, leb, eqb, length, get_or, take}
+use Rattle.std.specs.Prelude.{Bool, cond, List, [], ◌∷◌, ℕ, suc, ◌*◌, ◌-◌, ◌/◌, leb, eqb, length, get_or, take, Err, Ok}
 use Rattle.sheet.specs.Sheet.{Sheet, cells, inside}
 use Rattle.sheet.specs.Area.{sum_over, weight}
 use Rattle.sheet.specs.Record.{numbers_of}
 use Rattle.sheet.specs.Label.{list_from}
 use Rattle.sheet.specs.Basins.{basin_of}
 use Rattle.sheet.specs.Refusal.{Lent, both, written, lent_after}
-use Rattle.index.specs.declared.Indexed.{Indexed}
-use Rattle.index.specs.declared.Indexed.TheVariants.{Units, Refused}
 use Rattle.index.specs.Units.{is_of_one, distinct_units, units}
 use Rattle.index.specs.Index.{LentIndex, indexed, if_indexed}
+use Rattle.sheet.specs.Answer.{Counted, Refused}
 
 -- the basin of a unit, which is told by its basin and then the digits of its label
 abbrev pub basin_of_unit : List ℕ → ℕ
@@ -68,19 +67,19 @@ unfoldable pub total_fits : ℕ → Bool
 total_fits total = leb total greatest_total
 
 -- an answer of the index call, and 3 where the dues have fewer places than the basin has units, so many
-unfoldable pub with_dues : Indexed → ℕ → List ℕ → Indexed
-with_dues (Units units) wanted dues = cond (leb wanted (length dues)) (Units units) (Refused 3 0)
-with_dues (Refused number place) wanted dues = Refused number place
+unfoldable pub with_dues : Counted → ℕ → List ℕ → Counted
+with_dues (Ok units) wanted dues = cond (leb wanted (length dues)) (Ok units) (Refused 3 0)
+with_dues (Err refusal) wanted dues = Err refusal
 
 -- 18 before all else
-unfoldable pub levied_on : ℕ → Indexed → ℕ → List ℕ → Indexed
+unfoldable pub levied_on : ℕ → Counted → ℕ → List ℕ → Counted
 unfolding total_fits with_dues
 levied_on total answer wanted dues =
-    let rest : Indexed = with_dues answer wanted dues in cond (total_fits total) rest (Refused 18 0)
+    let rest : Counted = with_dues answer wanted dues in cond (total_fits total) rest (Refused 18 0)
 
 -- 18, then all refusals of labelling with their places, then 3 if a slice of the index has fewer places than the index
 -- has units, or the dues fewer than the basin has
-unfoldable pub levied : Sheet → Lent → LentIndex → ℕ → ℕ → List ℕ → Indexed
+unfoldable pub levied : Sheet → Lent → LentIndex → ℕ → ℕ → List ℕ → Counted
 unfolding indexed units_of_basin levied_on
 levied S L I basin total dues = levied_on total (indexed S L I) (length (units_of_basin S basin)) dues
 
@@ -97,9 +96,9 @@ unfolding levied units numbers_of
 index_after_levy S L I basin total dues = if_indexed (levied S L I basin total dues) (units S) I
 
 -- the first places of the dues written; refused, none is
-abbrev pub if_levied : Indexed → List ℕ → List ℕ → List ℕ
-if_levied (Units units) new old = written new old
-if_levied (Refused number place) new old = old
+abbrev pub if_levied : Counted → List ℕ → List ℕ → List ℕ
+if_levied (Ok units) new old = written new old
+if_levied (Err refusal) new old = old
 
 unfoldable pub dues_after : Sheet → Lent → LentIndex → ℕ → ℕ → List ℕ → List ℕ
 unfolding levied dues_of

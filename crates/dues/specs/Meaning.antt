@@ -1,6 +1,5 @@
 -- What the dues as the call wrote them say of an accepted sheet.
-use Rattle.std.specs.Prelude.{◌≡◌, List, ℕ, suc, ◌+◌, ◌*◌, ◌-◌, ◌/◌, ◌^◌, ◌≤◌, ◌<◌, length, get_or, take}
-use Rattle.std.proofs.Math.Option.{some}
+use Rattle.std.specs.Prelude.{◌≡◌, List, ℕ, suc, ◌+◌, ◌*◌, ◌-◌, ◌/◌, ◌^◌, ◌≤◌, ◌<◌, length, get_or, take, Ok, Some}
 use Rattle.sheet.specs.Sheet.{Sheet, cells, inside}
 use Rattle.sheet.specs.Area.{sum_over, weight}
 use Rattle.sheet.specs.Record.{same_unit, unit_at}
@@ -12,7 +11,6 @@ use Rattle.intake.specs.declared.Intake.{Intake}
 use Rattle.intake.specs.Intake.{LentSheet, ended_sizes}
 use Rattle.labelling.specs.FromIntake.{sheet_of}
 use Rattle.labelling.specs.Demand.{OfIntake}
-use Rattle.index.specs.declared.Indexed.TheVariants.{Units}
 use Rattle.index.specs.Index.{LentIndex, indexed}
 use Rattle.index.specs.FromIntake.{intake_indexed}
 use Rattle.index.specs.Meaning.{index_unit, index_basin, IndexMeaning}
@@ -85,7 +83,7 @@ pub record LevyMeaning (S : Sheet) (basins labels : List ℕ) (basin total units
 -- slices hold afterwards
 pub record LeviedDirectly (S : Sheet) (L : Lent) (I : LentIndex) (basin total : ℕ) (D : List ℕ) (L' : Lent)
     (I' : LentIndex) (D' : List ℕ) (units : ℕ) : Type 0 where
-  pub answer : levied S L I basin total D ≡ Units units
+  pub answer : levied S L I basin total D ≡ Ok units
   pub lent : L' ≡ lent_after_levy S L total
   pub index : I' ≡ index_after_levy S L I basin total D
   pub dues : D' ≡ dues_after S L I basin total D
@@ -93,7 +91,7 @@ pub record LeviedDirectly (S : Sheet) (L : Lent) (I : LentIndex) (basin total : 
 -- and that of `levy_intake`
 pub record LeviedFrom (i : Intake) (T : LentSheet) (L : Lent) (I : LentIndex) (basin total : ℕ) (D : List ℕ)
     (L' : Lent) (I' : LentIndex) (D' : List ℕ) (units : ℕ) : Type 0 where
-  pub answer : intake_levied i T L I basin total D ≡ Units units
+  pub answer : intake_levied i T L I basin total D ≡ Ok units
   pub lent : L' ≡ intake_lent_after_levy i T L total
   pub index : I' ≡ intake_index_after_levy i T L I basin total D
   pub dues : D' ≡ intake_dues_after i T L I basin total D
@@ -115,9 +113,9 @@ pub record LevyMeaningWhole : Type 1 where
   -- every total up to the bound is accepted where the index call is accepted and the dues have a place for each unit of
   -- the basin
   pub accepts : (S : Sheet) (L : Lent) (I : LentIndex) (basin total : ℕ) (D : List ℕ) (units : ℕ)
-      → total ≤ greatest_total → indexed S L I ≡ Units units → length (units_of_basin S basin) ≤ length D
-      → levied S L I basin total D ≡ Units units
+      → total ≤ greatest_total → indexed S L I ≡ Ok units → length (units_of_basin S basin) ≤ length D
+      → levied S L I basin total D ≡ Ok units
   pub accepts_from : (i : Intake) (T : LentSheet) (L : Lent) (I : LentIndex) (basin total : ℕ) (D : List ℕ)
-      (units : ℕ) (sizes : Sizes) → total ≤ greatest_total → intake_indexed i T L I ≡ Units units
-      → ended_sizes i.stage ≡ some sizes → length (units_of_basin (sheet_of sizes T) basin) ≤ length D
-      → intake_levied i T L I basin total D ≡ Units units
+      (units : ℕ) (sizes : Sizes) → total ≤ greatest_total → intake_indexed i T L I ≡ Ok units
+      → ended_sizes i.stage ≡ Some sizes → length (units_of_basin (sheet_of sizes T) basin) ≤ length D
+      → intake_levied i T L I basin total D ≡ Ok units

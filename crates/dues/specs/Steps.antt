@@ -1,6 +1,5 @@
 -- What the steps of the levy's call ask and promise.
 use Rattle.std.specs.Prelude.{◌≡◌, List, [], ◌∷◌, map, ℕ, zero, suc, ◌+◌, ◌*◌, ◌-◌, ◌/◌, ◌^◌, ◌≤◌, ◌<◌, length, get_or, take, drop, replicate}
-use Rattle.sheet.specs.declared.Outcome.{Outcome}
 use Rattle.sheet.specs.Sheet.{Sheet, cells}
 use Rattle.sheet.specs.Area.{row_weight}
 use Rattle.sheet.specs.Label.{areas_of, labels_of}
@@ -10,12 +9,12 @@ use Rattle.directions.specs.Sizes.{most_cells}
 use Rattle.claims.specs.Bounds.{sum, most_area}
 use Rattle.upstream.specs.Work.{ordered_sizes_part}
 use Rattle.order.specs.Places.{cells_in, sizes_in}
-use Rattle.index.specs.declared.Indexed.{Indexed}
 use Rattle.index.specs.Units.{UnitEntry, units}
 use Rattle.index.specs.Index.{LentIndex, indexed_on, if_indexed}
 use Rattle.index.specs.Steps.{CellsLabelled, groups_of, InOrder}
 use Rattle.dues.specs.declared.Part.{Part}
 use Rattle.dues.specs.Levy.{greatest_total, units_of_basin, dues_of, with_dues, if_levied}
+use Rattle.sheet.specs.Answer.{Outcome, Counted}
 
 -- ---- the cells of one basin, in an order in which one basin stands after the other, by the sizes at each position
 
@@ -118,7 +117,7 @@ pub record LevyInOrder (n queued basin total cols : ℕ) (weights areas labels b
 -- what is answered and written, where labelling came to an outcome with these cells in order, of which `part` are the
 -- basin's: I and D were lent, and I' and D' are what the slices hold then
 pub record LeviedInOrder (outcome : Outcome) (total cols : ℕ) (weights labels basins cells part : List ℕ)
-    (I I' : LentIndex) (D D' : List ℕ) (r : Indexed) : Type 0 where
+    (I I' : LentIndex) (D D' : List ℕ) (r : Counted) : Type 0 where
   pub answer : r
       ≡ with_dues (indexed_on outcome (length (groups_of cells labels basins)) I) (length (groups_of part labels basins)) D
   pub index : I' ≡ if_indexed r (groups_of cells labels basins) I
@@ -128,7 +127,7 @@ pub record LeviedInOrder (outcome : Outcome) (total cols : ℕ) (weights labels 
 
 -- what the call leaves of a sheet that passed the first checks: L, I and D were lent, and L', I' and D' are what the
 -- slices hold then
-pub record LeviedFitting (S : Sheet) (L L' : Lent) (I I' : LentIndex) (basin total : ℕ) (D D' : List ℕ) (r : Indexed)
+pub record LeviedFitting (S : Sheet) (L L' : Lent) (I I' : LentIndex) (basin total : ℕ) (D D' : List ℕ) (r : Counted)
     : Type 0 where
   pub answer : r
       ≡ with_dues (indexed_on (outcome_from17 S) (length (units S)) I) (length (units_of_basin S basin)) D

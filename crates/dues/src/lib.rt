@@ -11,8 +11,8 @@ ghost use Rattle.dues.specs.Levy.{if_levied};
 ghost use Rattle.dues.specs.Steps.{basin_start, Sizes, Ordered, HoldsBasin, Weighed, Shared, OutletFirst};
 ghost use Rattle.dues.specs.Steps.{group_weights, dues_by};
 
-use index::Indexed;
 use index::units::{count_units, last_of_group};
+use sheet::Refusal;
 use upstream::parts;
 
 // A part of the work places: from `first` up to `end`.
@@ -29,6 +29,7 @@ fn basin_start(sizes: &[u32], basin: u32) -> usize
 {
     let mut start = 0;
     let mut number = 1;
+    // A `while`, since a turn leaps over a basin.
     while start < sizes.len() {
         if number == basin {
             return start;
@@ -43,10 +44,7 @@ fn basin_start(sizes: &[u32], basin: u32) -> usize
 fn size_at(sizes: &[u32], position: usize) -> usize
     ensures { result ≡ get_or sizes.now position 0 }
 {
-    if position < sizes.len() {
-        return sizes[position] as usize;
-    }
-    0
+    sizes.get(position).copied().unwrap_or(0) as usize
 }
 
 // Where the cells of a basin stand in the work places, whose order along rivers has `queued` cells.
@@ -60,22 +58,20 @@ pub fn basin_part(n: usize, queued: usize, work: &[u32], basin: u32) -> Part
     let size = size_at(&work[sizes..sizes_end], start);
     let first = parts::CELLS * n + start;
     Part {
-        first: first,
+        first,
         end: first + size,
     }
 }
 
 // There are no more groups of cells than so many places. There are no more groups than cells, so that they are counted
 // only where there are fewer places than that.
+#[tactic(auto, using(index::proofs::Room::groups_few))]
 pub fn dues_fit(cells: &[u32], labels: &[u64], basins: &[u32], places: usize) -> bool
     requires { CellsLabelled cells.now labels.now basins.now }
     ensures { result ≡ leb (length (groups_of cells.now labels.now basins.now))
         places }
 {
-    if cells.len() <= places {
-        return true;
-    }
-    count_units(cells, labels, basins) <= places
+    cells.len() <= places || count_units(cells, labels, basins) <= places
 }
 
 // The summed weight of cells; a cell weighs what the weight of its row says.
@@ -84,8 +80,8 @@ fn weight_of(cols: usize, weights: &[u16], cells: &[u32]) -> u64
     ensures { result ≡ sum (row_weight cols weights.now) cells.now }
 {
     let mut weight = 0;
-    for i in 0..cells.len() {
-        let row = cells[i] as usize / cols;
+    for cell in cells {
+        let row = *cell as usize / cols;
         weight += weights[row] as u64;
     }
     weight
@@ -113,6 +109,7 @@ fn write_dues(
     let mut first = 0;
     let mut weight = 0;
     let mut owed = 0;
+    // A `while`, since a turn leaps over a group.
     while first < cells.len() {
         let end = last_of_group(cells, labels, basins, first) + 1;
         weight += weight_of(cols, weights, &cells[first..end]);
@@ -127,7 +124,7 @@ fn write_dues(
 // Writes the dues of the units of a basin's cells, if the index was filled. The area of the outlet, the first of these
 // cells, is the weight of all of them.
 pub fn dues_in_order(
-    answer: Indexed,
+    answer: Result<usize, Refusal>,
     total: u64,
     cols: usize,
     weights: &[u16],
@@ -146,11 +143,11 @@ pub fn dues_in_order(
         basins.now))
         dues.old }
 {
-    if cells.len() == 0 {
+    if cells.is_empty() {
         return;
     }
     match answer {
-        Indexed::Units(_) => {
+        Ok(_) => {
             let outlet = cells[0] as usize;
             write_dues(
                 total,
@@ -163,6 +160,6 @@ pub fn dues_in_order(
                 dues,
             )
         }
-        Indexed::Refused(_, _) => {}
+        Err(_) => {}
     }
 }

@@ -6,24 +6,24 @@ use Prim.Native.Nat.{ℕ, ◌/◌, ◌%◌, ◌^◌, ◌<◌}
 use native.Mathlib.Omega.{arith}
 use Rattle.sheet.specs.Record.{label_places}
 use Rattle.sheet.specs.Refusal.{depth_fits, least_fits}
-use Rattle.flow.specs.declared.pairs.PairsAnswer.{PairsAnswer}
-use Rattle.flow.specs.declared.pairs.PairsAnswer.TheVariants.{Pairs, Refused}
 use Rattle.flow.specs.Pairs.{pair_count, slices_fit, pairs_answer, pairs_values}
 use Rattle.flow.proofs.PairNumbers.{count_p}
 use Rattle.exports.specs.Exports.{pairs_code}
+use Rattle.sheet.specs.Answer.{Counted, Refused}
+use Rattle.std.specs.Prelude.{Ok}
 
 module _ (depth least m pm n qn places : ℕ) where
   -- what holds of the count and of the refusals holds of the answer
   abbrev counted : ℕ
   counted = pair_count (label_places m) (label_places n)
 
-  answer_either : (P : PairsAnswer → Type 0) → P (Pairs counted) → P (Refused 3) → P (Refused 19)
-      → P (Refused 2) → P (pairs_answer depth least m pm n qn places)
+  answer_either : (P : Counted → Type 0) → P (Ok counted) → P (Refused 3 0) → P (Refused 19 0)
+      → P (Refused 2 0) → P (pairs_answer depth least m pm n qn places)
   unfolding pairs_answer
   answer_either P told short unfit deep = go (depth_fits depth) (least_fits least) (slices_fit counted pm qn places)
     where
       go : (d l r : Bool)
-          → P (cond d (cond l (cond r (Pairs counted) (Refused 3)) (Refused 19)) (Refused 2))
+          → P (cond d (cond l (cond r (Ok counted) (Refused 3 0)) (Refused 19 0)) (Refused 2 0))
       go true true true = told
       go true true false = short
       go true false r = unfit

@@ -7,12 +7,12 @@ use native.Mathlib.Omega.{arith}
 use mathlib.Core.Logic.{inl, inr}
 use lib.ListN.{length}
 use Rattle.sheet.specs.declared.Label.{Label}
-use Rattle.plan.specs.declared.PlanAnswer.{PlanAnswer}
-use Rattle.plan.specs.declared.PlanAnswer.TheVariants.{Accepted, Refused}
 use Rattle.plan.specs.Plan.{plan_answer, plan_values}
 use Rattle.plan.specs.Meaning.{Numbered, of_index, of_plan, of_missing}
 use Rattle.plan.proofs.Meaning.{plan_meaning}
 use Rattle.exports.specs.Exports.{plan_code}
+use Rattle.sheet.specs.Answer.{Outcome, Accepted, Refused}
+use Rattle.std.specs.Prelude.{Err}
 
 -- every refusal's number is below 256
 small : {index plan : List Label} {number place : ℕ} → Numbered index plan number place → number < 256
@@ -32,14 +32,14 @@ near (of_plan e h g) i p = omega arith
 near (of_missing e h g) i p = omega arith
 
 module _ (index plan : List Label) (places : ℕ) where
-  told : (P : PlanAnswer → Type 0) → P Accepted
+  told : (P : Outcome → Type 0) → P Accepted
       → ((number place : ℕ) → Numbered index plan number place → P (Refused number place))
       → P (plan_answer index plan places)
   told P accepted refused = go (plan_answer index plan places) refl
     where
-      go : (a : PlanAnswer) → plan_answer index plan places ≡ a → P a
+      go : (a : Outcome) → plan_answer index plan places ≡ a → P a
       go Accepted e = accepted
-      go (Refused number place) e = refused number place ((plan_meaning index plan places).no_other number place e)
+      go (Err refusal) e = refused refusal.number refusal.place ((plan_meaning index plan places).no_other refusal.number refusal.place e)
 
   -- the lowest byte: 0, or the refusal's number
   pub plan_byte : plan_code (plan_answer index plan places) % 256 ≡ (plan_values (plan_answer index plan places)).number

@@ -6,6 +6,7 @@ ghost use Rattle.dues.specs.Levy.{levied, lent_after_levy, index_after_levy, due
 ghost use Rattle.exports.specs.Exports.{indexed_code};
 
 use crate::indexed_code;
+use faults::Sizes;
 
 // Labels a sheet, fills the index of its units, and shares a total of whole cents among those of one basin.
 #[unsafe(no_mangle)]
@@ -52,12 +53,15 @@ pub extern "C" fn pf_levy(
         unit_basins.old)
         basin total dues.old }
 {
-    indexed_code(levy::levy(
+    let sizes = Sizes {
         rows,
         cols,
         depth,
         least,
         split,
+    };
+    indexed_code(levy::levy(
+        sizes,
         dirs,
         weights,
         areas,

@@ -16,19 +16,17 @@ ghost use Rattle.labelling.specs.Labelling.{sheet, lent};
 ghost use Rattle.lookup.specs.Lookup.{lookup_answer, lookup_values};
 ghost use Rattle.exports.specs.Exports.{outcome_code, indexed_code, CodeTells, pairs_code};
 
-use flow::pairs::PairsAnswer;
-use index::Indexed;
-use lookup::LookupAnswer;
-use sheet::{Label, Outcome, UnitName};
+use faults::Sizes;
+use sheet::{Label, Refusal, UnitName};
 
 // The refusal's number + 256 × its place; 0 if accepted.
-fn outcome_code(outcome: Outcome) -> u64
+fn outcome_code(outcome: Result<(), Refusal>) -> u64
     requires { (outcome_values outcome).place < 65536 }
     ensures { result ≡ outcome_code outcome }
 {
     match outcome {
-        Outcome::Accepted => 0,
-        Outcome::Refused(number, place) => number as u64 + 256 * (place as u64),
+        Ok(()) => 0,
+        Err(refusal) => refusal.number as u64 + 256 * (refusal.place as u64),
     }
 }
 
@@ -54,19 +52,24 @@ pub extern "C" fn pf_label(
         ≡ lent_after (sheet rows cols depth least split dirs.now weights.now)
         (lent areas.old labels.old basins.old work.old) }
 {
-    outcome_code(labelling::label(
-        rows, cols, depth, least, split, dirs, weights, areas, labels, basins, work,
-    ))
+    let sizes = Sizes {
+        rows,
+        cols,
+        depth,
+        least,
+        split,
+    };
+    outcome_code(labelling::label(sizes, dirs, weights, areas, labels, basins, work))
 }
 
 // 256 × the number of units; else the refusal's number + 256 × its place.
-fn indexed_code(answer: Indexed) -> u64
+fn indexed_code(answer: Result<usize, Refusal>) -> u64
     requires { CodeTells answer }
     ensures { result ≡ indexed_code answer }
 {
     match answer {
-        Indexed::Units(units) => 256 * (units as u64),
-        Indexed::Refused(number, place) => number as u64 + 256 * (place as u64),
+        Ok(units) => 256 * (units as u64),
+        Err(refusal) => 256 * (refusal.place as u64) + refusal.number as u64,
     }
 }
 
@@ -93,15 +96,15 @@ pub extern "C" fn pf_lookup(
         basins.now)).length }
 {
     match lookup::find(unit(basin, first, rest), labels, basins) {
-        LookupAnswer::Part(place, count) => {
-            *start = place;
-            *length = count;
+        Ok(part) => {
+            *start = part.start;
+            *length = part.length;
             0
         }
-        LookupAnswer::Refused(number) => {
+        Err(refusal) => {
             *start = 0;
             *length = 0;
-            number as u32
+            refusal.number as u32
         }
     }
 }
@@ -157,12 +160,12 @@ pub extern "C" fn pf_outlet_flow(
 }
 
 // 256 × the count of pairs, or the refusal's number.
-fn pairs_code(answer: PairsAnswer) -> u64
+fn pairs_code(answer: Result<usize, Refusal>) -> u64
     ensures { result ≡ pairs_code answer }
 {
     match answer {
-        PairsAnswer::Pairs(count) => (count as u64) << 8,
-        PairsAnswer::Refused(number) => number as u64,
+        Ok(count) => (count as u64) << 8,
+        Err(refusal) => refusal.number as u64,
     }
 }
 

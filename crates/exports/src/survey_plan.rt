@@ -4,15 +4,15 @@ ghost use Rattle.sheet.specs.Record.{labels_in};
 ghost use Rattle.plan.specs.Plan.{plan_answer, work_after};
 ghost use Rattle.exports.specs.Exports.{plan_code};
 
-use plan::PlanAnswer;
+use sheet::Refusal;
 
 // The refusal's number + 256 × its place; 0 if accepted.
-fn plan_code(answer: PlanAnswer) -> u64
+fn plan_code(answer: Result<(), Refusal>) -> u64
     ensures { result ≡ plan_code answer }
 {
     match answer {
-        PlanAnswer::Accepted => 0,
-        PlanAnswer::Refused(number, place) => number as u64 + ((place as u64) << 8),
+        Ok(()) => 0,
+        Err(refusal) => refusal.number as u64 + ((refusal.place as u64) << 8),
     }
 }
 

@@ -6,6 +6,7 @@ ghost use Rattle.index.specs.Index.{lent_index, indexed, index_after};
 ghost use Rattle.exports.specs.Exports.{indexed_code};
 
 use crate::indexed_code;
+use faults::Sizes;
 
 // Labels a sheet, and fills the index of its units.
 #[unsafe(no_mangle)]
@@ -41,12 +42,15 @@ pub extern "C" fn pf_index(
         (lent_index units.old outlets.old counts.old
         unit_basins.old) }
 {
-    indexed_code(index::index(
+    let sizes = Sizes {
         rows,
         cols,
         depth,
         least,
         split,
+    };
+    indexed_code(index::index(
+        sizes,
         dirs,
         weights,
         areas,

@@ -1,6 +1,8 @@
 -- The statements of specs/Neither, proved.
+use Rattle.std.proofs.Common.{Some, None, length, arith}
+use borrow.Author.Tests.{le-ltb}
+use Rattle.std.proofs.lemmas.List.Sums.{position_or_len_is}
 use mathlib.Core.Path.{◌≡◌}
-use mathlib.Core.Bool.{false}
 use Prim.Native.Nat.{ℕ}
 use Rattle.lines.specs.declared.columns.Column.{Column}
 use Rattle.lines.specs.declared.columns.Column.TheVariants.{Least, Split}
@@ -11,15 +13,13 @@ use Rattle.lines.specs.Values.{value_or}
 use Rattle.faults.specs.Faults.{sizes_in}
 use Rattle.faults.specs.Neither.{Neither}
 
-unnamed : (c : Columns) (v : Values) (x : Column) (absent : ℕ) → Unnamed c x → value_or c v x absent ≡ absent
+-- where no column has the name there is no first one
+unnamed : (c : Columns) (v : Values) (x : Column) (absent : ℕ) → Unnamed c x → value_or c v (Some x) absent ≡ absent
 unfolding value_or column_at
 unnamed c v x absent none =
-    let a : same_column c.first x ≡ false = none 0 in
-    let b : same_column c.second x ≡ false = none 1 in
-    let d : same_column c.third x ≡ false = none 2 in
-    let e : same_column c.fourth x ≡ false = none 3 in
-    let f : same_column c.fifth x ≡ false = none 4 in
-    rw (a, b, d, e, f)
+    let past = position_or_len_is (λ y. same_column y (Some x)) c.places (length c.places) None (omega arith)
+    (λ k h. none k) (λ h. absurd (omega arith)) in
+    rw (past, le-ltb (length c.places) (length c.places) (omega arith))
 
 least_one : (c : Columns) (v : Values) → Unnamed c Least → (sizes_in c v).least ≡ 1
 unfolding sizes_in

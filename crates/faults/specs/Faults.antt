@@ -1,6 +1,6 @@
 -- What refuses sizes, a state that waits for a weight, a weight line and a cell line: tests in the documents' order,
 -- with their numbers; 0 is no fault.
-use Rattle.std.specs.Prelude.{Bool, true, cond, List, [], ◌∷◌, ◌++◌, ℕ, ◌*◌, leb, ltb, eqb, get_or}
+use Rattle.std.specs.Prelude.{Bool, true, cond, List, [], ◌∷◌, ◌++◌, ℕ, ◌*◌, leb, ltb, eqb, get_or, Some}
 use Rattle.lines.specs.declared.columns.Columns.{Columns}
 use Rattle.lines.specs.declared.columns.Column.TheVariants.{Rows, Cols, Depth, Least, Split, Row, Col, Dir}
 use Rattle.lines.specs.declared.values.Values.{Values}
@@ -15,17 +15,17 @@ use Rattle.faults.specs.declared.Cell.{Cell}
 unfoldable pub sizes_in : Columns → Values → Sizes
 unfolding value_or value_of same_column
 sizes_in c v = record {
-  rows = value_of c v Rows;
-  cols = value_of c v Cols;
-  depth = value_of c v Depth;
-  least = value_or c v Least 1;
-  split = value_or c v Split 4;
+  rows = value_of c v (Some Rows);
+  cols = value_of c v (Some Cols);
+  depth = value_of c v (Some Depth);
+  least = value_or c v (Some Least) 1;
+  split = value_or c v (Some Split) 4;
 }
 
 -- the cell in a line of values
 unfoldable pub cell_in : Columns → Values → Cell
 unfolding value_of same_column
-cell_in c v = record { row = value_of c v Row; col = value_of c v Col; dir = value_of c v Dir }
+cell_in c v = record { row = value_of c v (Some Row); col = value_of c v (Some Col); dir = value_of c v (Some Dir) }
 
 -- rows × columns
 abbrev pub cell_count : Sizes → ℕ

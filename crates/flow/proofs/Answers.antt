@@ -7,8 +7,6 @@ use native.Mathlib.Omega.{arith}
 use borrow.Author.Tests.{ne_eqb}
 use lib.Dec.{eqb}
 use lib.ListN.{length}
-use Rattle.sheet.specs.declared.Found.{Found}
-use Rattle.sheet.specs.declared.Found.TheVariants.{At, Nothing}
 use Rattle.sheet.specs.declared.Flow.{Flow}
 use Rattle.sheet.specs.declared.Flow.TheVariants.{Same, Yes, No, Undecided, Refused}
 use Rattle.sheet.specs.declared.OutletFlow.{OutletFlow}
@@ -23,11 +21,8 @@ use Rattle.sheet.specs.Flow.{cell_answer, flow}
 use Rattle.sheet.specs.Flow.{answer_number, outlet_answer_number}
 use Rattle.sheet.proofs.Questions.{from_outlet_flow}
 use Rattle.flow.specs.OutletAnswer.{outlet_answer}
-
--- an answer that is the defined one has its number too
-pub and_number : {A : Type 0} (number : A → ℕ) {answer defined : A} → answer ≡ defined
-    → (answer ≡ defined) × (number answer ≡ number defined)
-and_number number e = (e, ap number e)
+use Rattle.sheet.specs.Answer.{Found}
+use Rattle.std.specs.Prelude.{None, Some}
 
 -- the answer that has a number
 abbrev answer_of : ℕ → Flow
@@ -82,8 +77,8 @@ either false a b h g = g
 
 answer_byte : (x y : List ℕ) (f : Found) → FitsByte (answer_at x y f)
 unfolding answer_at
-answer_byte x y Nothing = omega arith
-answer_byte x y (At i) = either (rule_at i x y) OutletYes OutletNo (omega arith) (omega arith)
+answer_byte x y None = omega arith
+answer_byte x y (Some i) = either (rule_at i x y) OutletYes OutletNo (omega arith) (omega arith)
 
 unequal_byte : (p q : Label) → FitsByte (answer_unequal p q)
 unfolding answer_unequal

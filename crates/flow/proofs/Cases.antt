@@ -9,8 +9,9 @@ use Rattle.sheet.specs.declared.OutletFlow.TheVariants.{Yes as OutletYes, No as 
 use Rattle.sheet.specs.declared.OutletFlow.TheVariants.{Refused as OutletRefused}
 use Rattle.sheet.specs.Record.{label_of_numbers, unit_name}
 use Rattle.sheet.specs.Flow.{flow, outlet_flow, answer_number}
-use Rattle.flow.specs.declared.pairs.PairsAnswer.TheVariants.{Pairs, Refused as PairsRefused}
 use Rattle.flow.specs.Pairs.{pair_numbers, pairs_answer, pairs_places}
+use Rattle.sheet.specs.Answer.{Refused as Denied}
+use Rattle.std.specs.Prelude.{Ok}
 
 -- a unit of basin 1
 abbrev unit : ℕ → ℕ → UnitName
@@ -162,21 +163,21 @@ pairs_shorter = refl
 -- 2 before 3; 3 by the shorter slice of labels; no pairs need no place; an odd number at the end is no place
 pub pairs_answers : pairs_answer 0 1 4 9 4 9 1 ∷ pairs_answer 37 1 0 0 0 0 0 ∷ pairs_answer 36 1 6 9 4 9 1 ∷ pairs_answer 1
     1 4 9 6 9 1 ∷ pairs_answer 3 1 6 9 4 9 2 ∷ pairs_answer 3 1 4 9 6 9 9 ∷ pairs_answer 3 1 0 0 9 0 0 ∷ pairs_answer 3 1 5
-    9 7 9 2 ∷ pairs_answer 3 1 1 0 4 0 0 ∷ [] ≡ PairsRefused 2 ∷ PairsRefused 2 ∷ PairsRefused 3 ∷ PairsRefused 3 ∷ Pairs
-    2 ∷ Pairs 2 ∷ Pairs 0 ∷ Pairs 2 ∷ Pairs 0 ∷ []
+    9 7 9 2 ∷ pairs_answer 3 1 1 0 4 0 0 ∷ [] ≡ Denied 2 0 ∷ Denied 2 0 ∷ Denied 3 0 ∷ Denied 3 0 ∷ Ok
+    2 ∷ Ok 2 ∷ Ok 0 ∷ Ok 2 ∷ Ok 0 ∷ []
 unfolding pairs_answer
 pairs_answers = refl
 
 -- 3 by the basins of P and by those of Q, after 2 and 19; a basin for each pair is enough
 pub pairs_basins : pairs_answer 3 1 4 1 4 2 2 ∷ pairs_answer 3 1 4 2 4 1 2 ∷ pairs_answer 0 1 4 1 4 2 2 ∷ pairs_answer 3 0 4
-    2 4 1 2 ∷ pairs_answer 3 1 6 2 4 2 2 ∷ pairs_answer 3 1 4 2 6 2 2 ∷ [] ≡ PairsRefused 3 ∷ PairsRefused 3 ∷
-    PairsRefused 2 ∷ PairsRefused 19 ∷ Pairs 2 ∷ Pairs 2 ∷ []
+    2 4 1 2 ∷ pairs_answer 3 1 6 2 4 2 2 ∷ pairs_answer 3 1 4 2 6 2 2 ∷ [] ≡ Denied 3 0 ∷ Denied 3 0 ∷
+    Denied 2 0 ∷ Denied 19 0 ∷ Ok 2 ∷ Ok 2 ∷ []
 unfolding pairs_answer
 pairs_basins = refl
 
 -- 2 before 19, 19 before 3
 pub pairs_least : pairs_answer 0 0 4 2 4 2 1 ∷ pairs_answer 3 0 4 2 4 2 1 ∷ pairs_answer 3 65536001 0 0 0 0 0 ∷
-    pairs_answer 3 2 4 2 4 2 1 ∷ [] ≡ PairsRefused 2 ∷ PairsRefused 19 ∷ PairsRefused 19 ∷ PairsRefused 3 ∷ []
+    pairs_answer 3 2 4 2 4 2 1 ∷ [] ≡ Denied 2 0 ∷ Denied 19 0 ∷ Denied 19 0 ∷ Denied 3 0 ∷ []
 unfolding pairs_answer
 pairs_least = refl
 

@@ -15,14 +15,6 @@ use Rattle.sheet.specs.Flow.{part_at, is_label, answer_at, answer_unequal, outle
 use Rattle.sheet.specs.Flow.{cell_answer, flow}
 
 module _ (depth least : ℕ) (p q : UnitName) where
-  pub refused_2 : depth_fits depth ≡ false → Refused 2 ≡ flow depth least p q
-  unfolding flow outlet_flow
-  refused_2 e = rw e
-
-  pub refused_19 : depth_fits depth ≡ true → least_fits least ≡ false → Refused 19 ≡ flow depth least p q
-  unfolding flow outlet_flow
-  refused_19 d e = rw (d, e)
-
   module _ (fits : (depth_fits depth ≡ true) × (least_fits least ≡ true)) where
     pub p_refused : is_label depth p.label ≡ false → Refused 11 ≡ flow depth least p q
     unfolding flow outlet_flow

@@ -1,5 +1,5 @@
--- Laws of the call for many pairs: as many numbers as pairs, each that of its own pair; how they are written one by
--- one; and the answer by the results of the tests.
+-- Laws of the call for many pairs: as many numbers as pairs, each that of its own pair, and how they are written one by
+-- one.
 use mathlib.Core.Path.{◌≡◌, refl, sym, ap, ◌∙◌}
 use mathlib.Core.Bool.{Bool, true, false, cond}
 use mathlib.Core.List.{List, [], ◌∷◌}
@@ -12,16 +12,13 @@ use lib.ListN.{length, get_or, drop, set, length-set, drop_of_length-le}
 use lib.Seq.{drop-cons, sets}
 use Rattle.sheet.specs.declared.UnitName.{UnitName}
 use Rattle.sheet.specs.Record.{no_digits, unit_name, labels_in, label_places, units_in, unit_at}
-use Rattle.sheet.specs.Refusal.{both, depth_fits, least_fits, written}
+use Rattle.sheet.specs.Refusal.{both, written}
 use Rattle.sheet.specs.Flow.{flow, answer_number}
 use Rattle.sheet.proofs.Lists.{written_whole}
 use Rattle.sheet.proofs.Slices.{labels_length}
 use Rattle.sheet.proofs.Units.{units_most, units_enough, unit_listed}
 use Rattle.sheet.proofs.Within.{both_true}
-use Rattle.flow.specs.declared.pairs.PairsAnswer.{PairsAnswer}
-use Rattle.flow.specs.declared.pairs.PairsAnswer.TheVariants.{Pairs, Refused}
-use Rattle.flow.specs.Pairs.{pair_numbers, pair_count, slices_fit, pairs_answer, if_answered, pairs_places}
-use Rattle.flow.specs.Pairs.{pairs_values}
+use Rattle.flow.specs.Pairs.{pair_numbers, pair_count, slices_fit}
 
 -- a unit for places past the last
 abbrev pub no_unit : UnitName
@@ -178,41 +175,3 @@ module _ (depth least : ℕ) (x y : List UnitName) (before : List ℕ) where
 
     pub answering_ends : pair_count (length x) (length y) ≤ i → answers ≡ written (pair_numbers depth least x y) before
     answering_ends h = rw (numbers_end depth least x y i h) at a.to_do
-
--- ---- the answer of the call
-
-module _ (depth least m p-basins n q-basins answers : ℕ) where
-  pub depth_refused : depth_fits depth ≡ false → Refused 2 ≡ pairs_answer depth least m p-basins n q-basins answers
-  unfolding pairs_answer
-  depth_refused e = rw e
-
-  pub least_refused : depth_fits depth ≡ true → least_fits least ≡ false
-      → Refused 19 ≡ pairs_answer depth least m p-basins n q-basins answers
-  unfolding pairs_answer
-  least_refused d e = rw (d, e)
-
-  module _ (fits : (depth_fits depth ≡ true) × (least_fits least ≡ true)) (count : ℕ)
-      (counted : count ≡ pair_count (label_places m) (label_places n)) where
-    pub short_refused : slices_fit count p-basins q-basins answers ≡ false
-        → Refused 3 ≡ pairs_answer depth least m p-basins n q-basins answers
-    unfolding pairs_answer
-    short_refused e = rw (fits.0, fits.1, ← counted, e)
-
-    pub all_answered : slices_fit count p-basins q-basins answers ≡ true
-        → Pairs count ≡ pairs_answer depth least m p-basins n q-basins answers
-    unfolding pairs_answer
-    all_answered e = rw (fits.0, fits.1, ← counted, e)
-
--- the answer, its values, and the answers afterwards
-pub promised : (depth least : ℕ) (p p-basins q q-basins before after : List ℕ) (a : PairsAnswer)
-    → a ≡ pairs_answer depth least (length p) (length p-basins) (length q) (length q-basins) (length before)
-    → after ≡ if_answered a
-    (pair_numbers depth least (units_in p-basins (labels_in p)) (units_in q-basins (labels_in q))) before
-    → (a ≡ pairs_answer depth least (length p) (length p-basins) (length q) (length q-basins) (length before)) ×
-    ((pairs_values a
-    ≡ pairs_values (pairs_answer depth least (length p) (length p-basins) (length q) (length q-basins) (length before))) ×
-    (after ≡ pairs_places depth least p p-basins q q-basins before))
-unfolding pairs_places
-promised depth least p p-basins q q-basins before after a e f =
-    let numbers = pair_numbers depth least (units_in p-basins (labels_in p)) (units_in q-basins (labels_in q)) in
-    (e, (ap pairs_values e, f ∙ ap (λ (b : PairsAnswer). if_answered b numbers before) e))

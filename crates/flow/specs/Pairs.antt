@@ -1,11 +1,10 @@
 -- Document 02's call for many pairs: the flow question for P's unit and Q's at each place of their slices, told least.
-use Rattle.std.specs.Prelude.{Bool, cond, List, [], ◌∷◌, ℕ, leb, length}
+use Rattle.std.specs.Prelude.{Bool, cond, List, [], ◌∷◌, ℕ, leb, length, Err, Ok}
 use Rattle.sheet.specs.declared.UnitName.{UnitName}
 use Rattle.sheet.specs.Record.{labels_in, label_places, units_in}
 use Rattle.sheet.specs.Refusal.{both, depth_fits, least_fits, written}
 use Rattle.sheet.specs.Flow.{flow, answer_number}
-use Rattle.flow.specs.declared.pairs.PairsAnswer.{PairsAnswer}
-use Rattle.flow.specs.declared.pairs.PairsAnswer.TheVariants.{Pairs, Refused}
+use Rattle.sheet.specs.Answer.{Counted, Refused}
 
 -- the number of the flow question's answer for each pair, the units of P and Q at the same place
 unfoldable pub pair_numbers : ℕ → ℕ → List UnitName → List UnitName → List ℕ
@@ -25,17 +24,17 @@ slices_fit count p-basins q-basins answers =
 
 -- the answer where P's labels have m numbers, Q's have n, and basins and answers have so many places: 2, 19, 3, in this
 -- order
-unfoldable pub pairs_answer : ℕ → ℕ → ℕ → ℕ → ℕ → ℕ → ℕ → PairsAnswer
+unfoldable pub pairs_answer : ℕ → ℕ → ℕ → ℕ → ℕ → ℕ → ℕ → Counted
 unfolding depth_fits least_fits pair_count label_places slices_fit
 pairs_answer depth least m p-basins n q-basins answers =
     let count : ℕ = pair_count (label_places m) (label_places n) in
-    let room : PairsAnswer = cond (slices_fit count p-basins q-basins answers) (Pairs count) (Refused 3) in
-    cond (depth_fits depth) (cond (least_fits least) room (Refused 19)) (Refused 2)
+    let room : Counted = cond (slices_fit count p-basins q-basins answers) (Ok count) (Refused 3 0) in
+    cond (depth_fits depth) (cond (least_fits least) room (Refused 19 0)) (Refused 2 0)
 
 -- refused, no place is written; else the first places hold the numbers and the others keep their values
-abbrev pub if_answered : PairsAnswer → List ℕ → List ℕ → List ℕ
-if_answered (Pairs count) numbers answers = written numbers answers
-if_answered (Refused number) numbers answers = answers
+abbrev pub if_answered : Counted → List ℕ → List ℕ → List ℕ
+if_answered (Ok count) numbers answers = written numbers answers
+if_answered (Err refusal) numbers answers = answers
 
 -- the lent answers afterwards
 unfoldable pub pairs_places : ℕ → ℕ → List ℕ → List ℕ → List ℕ → List ℕ → List ℕ → List ℕ
@@ -51,6 +50,6 @@ pub record PairsValues : Type 0 where
   pub number : ℕ
   pub count : ℕ
 
-abbrev pub pairs_values : PairsAnswer → PairsValues
-pairs_values (Pairs count) = record { number = 0; count = count }
-pairs_values (Refused number) = record { number = number; count = 0 }
+abbrev pub pairs_values : Counted → PairsValues
+pairs_values (Ok count) = record { number = 0; count = count }
+pairs_values (Err refusal) = record { number = refusal.number; count = 0 }

@@ -3,46 +3,22 @@
 
 pub mod pairs;
 
-ghost use Rattle.std.specs.Prelude.{◌≡◌, true, ◌<◌, length, drop};
+ghost use Rattle.std.specs.Prelude.{◌≡◌, true, ◌<◌, length};
 ghost use Rattle.sheet.specs.Record.{digits_of};
 ghost use Rattle.sheet.specs.Refusal.{depth_fits, least_fits};
-ghost use Rattle.sheet.specs.Flow.{part_at, every, is_odd, rule_at, is_label, answer_at, cell_answer, flow, outlet_flow};
+ghost use Rattle.sheet.specs.Flow.{part_at, rule_at, is_label, answer_at, cell_answer, flow, outlet_flow};
 ghost use Rattle.sheet.specs.Flow.{stem_alone, answer_number, outlet_answer_number};
 ghost use Rattle.flow.specs.OutletAnswer.{outlet_answer};
 
 use checks::{depth_fits, least_fits, same_label};
 use digits::put_label;
-use sheet::{Flow, Found, OutletFlow, UnitName};
+use sheet::{Flow, OutletFlow, UnitName};
 
 // The first place where both have a digit and the digits differ.
-fn part_at(p: &[u8], q: &[u8]) -> Found
+fn part_at(p: &[u8], q: &[u8]) -> Option<usize>
     ensures { result ≡ part_at p.now q.now }
 {
-    let mut i = 0;
-    while i < p.len() {
-        if q.len() <= i {
-            return Found::Nothing;
-        }
-        if p[i] != q[i] {
-            return Found::At(i);
-        }
-        i = i + 1;
-    }
-    Found::Nothing
-}
-
-// All digits from a place on are odd.
-fn all_odd(digits: &[u8], from: usize) -> bool
-    ensures { result ≡ every is_odd (drop from digits.now) }
-{
-    let mut i = from;
-    while i < digits.len() {
-        if digits[i] % 2 != 1 {
-            return false;
-        }
-        i = i + 1;
-    }
-    true
+    p.iter().zip(q).position(|(a, b)| *a != *b)
 }
 
 // The rule for labels that part at i: p's digit is smaller, and p's digits from there on are all odd.
@@ -51,37 +27,30 @@ fn rule_at(i: usize, p: &[u8], q: &[u8]) -> bool
     requires i_in_bounds_2 { i < length q.now }
     ensures { result ≡ rule_at i p.now q.now }
 {
-    if p[i] < q[i] {
-        return all_odd(p, i);
-    }
-    false
+    p[i] < q[i] && p[i..].iter().all(|digit| *digit % 2 == 1)
 }
 
 // The answer for unequal labels, by their digits.
+#[tactic(auto, unfolding(sheet::specs::Flow::answer_at))]
 fn answer_at(p: &[u8], q: &[u8]) -> OutletFlow
     ensures { result ≡ answer_at p.now q.now (part_at p.now q.now) }
 {
-    match part_at(p, q) {
-        Found::Nothing => OutletFlow::Refused(12),
-        Found::At(i) => {
-            if rule_at(i, p, q) {
-                OutletFlow::Yes
-            } else {
-                OutletFlow::No
-            }
-        }
+    let Some(i) = part_at(p, q) else {
+        return OutletFlow::Refused(12);
+    };
+    if rule_at(i, p, q) {
+        return OutletFlow::Yes;
     }
+    OutletFlow::No
 }
 
 // The unit of a label with so many digits is known to be stem cells alone: every mouth is counted, and no tributary was
 // cut.
+#[tactic(auto, unfolding(sheet::specs::Flow::stem_alone))]
 fn is_stem_alone(depth: usize, least: usize, digits: usize) -> bool
     ensures { result ≡ stem_alone depth least digits }
 {
-    if least == 1 {
-        return digits < depth;
-    }
-    false
+    least == 1 && digits < depth
 }
 
 // The answer to the flow question from that to the outlet question; `alone` tells that p's unit is stem cells alone.
@@ -105,19 +74,17 @@ fn answer_by_digits(depth: usize, least: usize, p: UnitName, digits: &[u8], q: U
     ensures { result ≡ flow depth least p q }
 {
     let mut places = [0u8; 36];
-    match put_label(depth, q.label, &mut places) {
-        Found::Nothing => Flow::Refused(11),
-        Found::At(start) => {
-            if p.basin != q.basin {
-                return Flow::No;
-            }
-            if same_label(p.label, q.label) {
-                return Flow::Same;
-            }
-            let alone = is_stem_alone(depth, least, digits.len());
-            cell_answer(alone, answer_at(digits, &places[start..]))
-        }
+    let Some(start) = put_label(depth, q.label, &mut places) else {
+        return Flow::Refused(11);
+    };
+    if p.basin != q.basin {
+        return Flow::No;
     }
+    if same_label(p.label, q.label) {
+        return Flow::Same;
+    }
+    let alone = is_stem_alone(depth, least, digits.len());
+    cell_answer(alone, answer_at(digits, &places[start..]))
 }
 
 // The answer to the flow question where depth and least fit: 11, No for different basins, Same, 12, then the rule.
@@ -126,25 +93,26 @@ fn answer_fitting(depth: usize, least: usize, p: UnitName, q: UnitName) -> Flow
     ensures { result ≡ flow depth least p q }
 {
     let mut places = [0u8; 36];
-    match put_label(depth, p.label, &mut places) {
-        Found::Nothing => Flow::Refused(11),
-        Found::At(start) => answer_by_digits(depth, least, p, &places[start..], q),
-    }
+    let Some(start) = put_label(depth, p.label, &mut places) else {
+        return Flow::Refused(11);
+    };
+    answer_by_digits(depth, least, p, &places[start..], q)
 }
 
 // The flow question: does water from the unit q pass the unit p? 2, 19, 11, No for different basins, Same, 12, then the
 // rule; Undecided where it is met and least is above 1 or p's label has as many digits as the depth.
+#[tactic(auto, unfolding(sheet::specs::Flow::flow))]
 pub fn flow_of(depth: usize, least: usize, p: UnitName, q: UnitName) -> Flow
     ensures answer { result ≡ flow depth least p q }
     ensures number { answer_number result ≡ answer_number (flow depth least p q) }
 {
-    if depth_fits(depth) {
-        if least_fits(least) {
-            return answer_fitting(depth, least, p, q);
-        }
+    if !depth_fits(depth) {
+        return Flow::Refused(2);
+    }
+    if !least_fits(least) {
         return Flow::Refused(19);
     }
-    Flow::Refused(2)
+    answer_fitting(depth, least, p, q)
 }
 
 // The answer to the outlet question from that to the flow question: Yes for Undecided.
@@ -162,6 +130,7 @@ fn outlet_answer(answer: Flow) -> OutletFlow
 
 // The outlet question: does water from the unit q pass the outlet of the unit p? 2, 11, No for different basins, Same,
 // 12, then the rule.
+#[tactic(auto, using(crate::proofs::Answers::outlet_from_flow))]
 pub fn outlet_flow_of(depth: usize, p: UnitName, q: UnitName) -> OutletFlow
     ensures answer { result ≡ outlet_flow depth p q }
     ensures number { outlet_answer_number result ≡ outlet_answer_number (outlet_flow depth p q) }
@@ -179,7 +148,7 @@ pub fn answer_number(a: Flow) -> u32
         Flow::Yes => 1,
         Flow::Same => 2,
         Flow::Undecided => 3,
-        Flow::Refused(number) => 128 + number as u32,
+        Flow::Refused(number) => 128 + u32::from(number),
     }
 }
 

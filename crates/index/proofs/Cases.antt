@@ -7,10 +7,11 @@ use Rattle.sheet.specs.Sheet.{Grid, Sheet, grid}
 use Rattle.sheet.specs.Record.{label_of_numbers, labels_in, unit_name, unit_at}
 use Rattle.sheet.specs.Refusal.{Lent, lent_after}
 use Rattle.sheet.specs.Cases.{sample_a, confluences}
-use Rattle.index.specs.declared.Indexed.TheVariants.{Units, Refused}
 use Rattle.index.specs.Units.{with_unit, distinct_units, UnitEntry, unit_entry, units}
 use Rattle.index.specs.Groups.{grouped}
 use Rattle.index.specs.Index.{LentIndex, lent_index, indexed, index_after}
+use Rattle.sheet.specs.Answer.{Refused}
+use Rattle.std.specs.Prelude.{Ok}
 
 -- a sheet with weights, and one without: each is then 1
 abbrev pub weighted_sheet : Grid → ℕ → List ℕ → Sheet
@@ -132,7 +133,7 @@ pub same_label_apart : grouped (unit_at (1 ∷ 2 ∷ 2 ∷ []) (0 ∷ 0 ∷ 0 �
 unfolding grouped labels_in
 same_label_apart = refl
 
-pub sample_a_accepted : indexed (sheet sample_a 2) (lent_for 12) (lent_units 9) ≡ Units 9
+pub sample_a_accepted : indexed (sheet sample_a 2) (lent_for 12) (lent_units 9) ≡ Ok 9
 unfolding indexed
 sample_a_accepted = refl
 

@@ -12,9 +12,10 @@ use Rattle.intake.specs.declared.Stage.TheVariants.{WaitingForCellNames, TakingC
 use Rattle.intake.specs.Intake.{LentSheet, lent_sheet}
 use Rattle.names.specs.Columns.{size_columns, cell_columns}
 use Rattle.labelling.specs.Labelling.{lent}
-use Rattle.index.specs.declared.Indexed.TheVariants.{Units, Refused}
 use Rattle.index.specs.Index.{LentIndex, lent_index}
 use Rattle.index.specs.FromIntake.{intake_indexed, intake_index_after}
+use Rattle.sheet.specs.Answer.{Refused}
+use Rattle.std.specs.Prelude.{Ok}
 
 abbrev pub one : Lent
 one = lent (7 ∷ 7 ∷ []) (7 ∷ 7 ∷ 7 ∷ []) (7 ∷ 7 ∷ []) (replicate 9 7)
@@ -60,7 +61,7 @@ pub before_end_kept : intake_index_after (record { stage = TakingCells sizes cel
 unfolding intake_index_after
 before_end_kept = refl
 
-pub ended : intake_indexed (record { stage = Ended sizes }) (with_weight 1) one two ≡ Units 1
+pub ended : intake_indexed (record { stage = Ended sizes }) (with_weight 1) one two ≡ Ok 1
 unfolding intake_indexed
 ended = refl
 

@@ -7,7 +7,6 @@ use native.Mathlib.Omega.{arith}
 use lib.Dec.{leb}
 use lib.ListN.{length, length-map, get_or}
 use borrow.Author.Tests.{le-leb}
-use Rattle.sheet.specs.declared.Outcome.TheVariants.{Accepted}
 use Rattle.sheet.specs.declared.Label.{Label}
 use Rattle.sheet.specs.declared.UnitName.{UnitName}
 use Rattle.sheet.specs.Sheet.{Sheet, cells}
@@ -28,6 +27,7 @@ use Rattle.index.proofs.ListPlaces.{at_place, map_at}
 use Rattle.index.proofs.UnitsRise.{rise_at}
 use Rattle.index.proofs.Distinct.{CellOf, among_rise, among_from}
 use Rattle.index.proofs.WrittenUnits.{short, digits_told}
+use Rattle.sheet.specs.Answer.{Accepted}
 
 -- the columns of the labels and of the basins
 abbrev pub labels_of_units : List (List ℕ) → List Label

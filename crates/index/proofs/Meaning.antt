@@ -1,7 +1,6 @@
 -- The index that the call wrote for an accepted sheet says what specs/Meaning.antt states.
 use mathlib.Core.Path.{◌≡◌, refl, sym, ◌∙◌, ap}
 use mathlib.Core.Bool.{Bool, true, false, cond, true≢false}
-use mathlib.Core.Option.{Option, none, some}
 use mathlib.Core.List.{List, [], ◌∷◌, ◌++◌, map}
 use Prim.Native.Nat.{ℕ, ◌<◌}
 use native.Mathlib.Omega.{arith}
@@ -9,8 +8,6 @@ use lib.Dec.{ltb}
 use lib.ListN.{length, length-map, get_or, take, drop}
 use lib.Seq.{take-append_seam}
 use borrow.Author.Tests.{ltb-true, ltb-false}
-use Rattle.sheet.specs.declared.Outcome.{Outcome}
-use Rattle.sheet.specs.declared.Outcome.TheVariants.{Accepted, Refused as NotLabelled}
 use Rattle.sheet.specs.Sheet.{Sheet, cells, inside, next}
 use Rattle.sheet.specs.Water.{DrainsTo}
 use Rattle.sheet.specs.Area.{count}
@@ -35,7 +32,6 @@ use Rattle.intake.specs.declared.Intake.{Intake}
 use Rattle.intake.specs.Intake.{LentSheet, ended_sizes}
 use Rattle.labelling.specs.FromIntake.{sheet_of, lent_with, intake_lent}
 use Rattle.labelling.specs.Demand.{OfIntake}
-use Rattle.index.specs.declared.Indexed.TheVariants.{Units, Refused}
 use Rattle.index.specs.Units.{unit_of, UnitEntry, distinct_units, units, is_of_unit, outlet_cell, unit_cells}
 use Rattle.index.specs.Index.{LentIndex, index_fits, room_for, indexed_on, indexed, written_index}
 use Rattle.index.specs.Index.{index_after}
@@ -52,6 +48,8 @@ use Rattle.index.proofs.Partition.{counts_add}
 use Rattle.index.proofs.Columns.{units_long, label_column, basin_column, outlet_column, count_column_lem, column_at_lem}
 use Rattle.index.proofs.Columns.{label_column_at}
 use Rattle.index.proofs.Lookups.{labels_of_units, basins_of_units, cell_of_lem, digits_of_lem, finds}
+use Rattle.sheet.specs.Answer.{Outcome, Accepted, Refused}
+use Rattle.std.specs.Prelude.{Err, Ok, None, Option, Some}
 
 begins_both : {a b : ℕ} {w x : List ℕ} → a ≡ b → Begins w x → Begins (a ∷ w) (b ∷ x)
 begins_both e h = rw e (begins_on h)
@@ -268,20 +266,20 @@ pub record IndexFilled (S : Sheet) (L : Lent) (I : LentIndex) (count : ℕ) : Ty
   pub all_units : count ≡ length (units S)
   pub fits : index_fits (length (units S)) I ≡ true
 
-pub index_filled : (S : Sheet) (L : Lent) (I : LentIndex) (count : ℕ) → indexed S L I ≡ Units count
+pub index_filled : (S : Sheet) (L : Lent) (I : LentIndex) (count : ℕ) → indexed S L I ≡ Ok count
     → IndexFilled S L I count
 unfolding indexed indexed_on room_for
 index_filled S L I count e = by_outcome (outcome S L) refl e
   where
     by_room : outcome S L ≡ Accepted → (b : Bool) → index_fits (length (units S)) I ≡ b
-        → cond b (Units (length (units S))) (Refused 3 0) ≡ Units count → IndexFilled S L I count
+        → cond b (Ok (length (units S))) (Refused 3 0) ≡ Ok count → IndexFilled S L I count
     by_room q true f h = record { accepted = q; all_units = cc; fits = f }
     by_room q false f h = let z : ◌≡◌ {A = ℕ} 0 1 = cc in absurd (omega arith)
 
-    by_outcome : (o : Outcome) → outcome S L ≡ o → indexed_on o (length (units S)) I ≡ Units count
+    by_outcome : (o : Outcome) → outcome S L ≡ o → indexed_on o (length (units S)) I ≡ Ok count
         → IndexFilled S L I count
     by_outcome Accepted q h = by_room q (index_fits (length (units S)) I) refl h
-    by_outcome (NotLabelled number place) q h = let z : ◌≡◌ {A = ℕ} 0 1 = cc in absurd (omega arith)
+    by_outcome (Err refusal) q h = let z : ◌≡◌ {A = ℕ} 0 1 = cc in absurd (omega arith)
 
 directly : (S : Sheet) (L : Lent) (I : LentIndex) (L' : Lent) (I' : LentIndex) (count : ℕ)
     → IndexedDirectly S L I L' I' count → IndexMeaning S L'.basins L'.labels count I'
@@ -292,12 +290,12 @@ directly S L I L' I' count c =
 
 -- an accepted call from an intake is a direct call with the sheet of the intake, which had ended
 from_sizes : (i : Intake) (sizes : Option Sizes) (T : LentSheet) (L : Lent) (I : LentIndex) (L' : Lent) (I' : LentIndex)
-    (count : ℕ) → ended_sizes i.stage ≡ sizes → indexed_with sizes T L I ≡ Units count
+    (count : ℕ) → ended_sizes i.stage ≡ sizes → indexed_with sizes T L I ≡ Ok count
     → L' ≡ lent_with sizes T L → I' ≡ index_with sizes T L I
     → OfIntake (λ S written. IndexedDirectly S L I written I' count) i T L'
 unfolding indexed_with lent_with index_with
-from_sizes i none T L I L' I' count e a f g = let z : ◌≡◌ {A = ℕ} 0 1 = cc in absurd (omega arith)
-from_sizes i (some z) T L I L' I' count e a f g = record {
+from_sizes i None T L I L' I' count e a f g = let z : ◌≡◌ {A = ℕ} 0 1 = cc in absurd (omega arith)
+from_sizes i (Some z) T L I L' I' count e a f g = record {
   sizes = z;
   ended = e;
   holds = record { answer = a; lent = f; index = g };

@@ -6,9 +6,6 @@ use mathlib.Core.Logic.{◌≢◌}
 use Prim.Native.Nat.{ℕ, zero, suc, ◌<◌}
 use native.Mathlib.Omega.{arith}
 use lib.ListN.{length, get_or}
-use Rattle.sheet.specs.declared.Next.{Next}
-use Rattle.sheet.specs.declared.Next.TheVariants.{Outlet, To}
-use Rattle.sheet.specs.declared.Outcome.TheVariants.{Accepted}
 use Rattle.sheet.specs.Sheet.{Sheet, cells, next}
 use Rattle.sheet.specs.Water.{here, there, Drains, drained, drains_on, DrainsTo, onward}
 use Rattle.sheet.specs.River.{network}
@@ -30,6 +27,8 @@ use Rattle.claims.proofs.Written.{the_forest, digits_written, basin_written}
 use Rattle.claims.proofs.Theorems.{demand_three}
 use Rattle.index.specs.Units.{is_of_unit, leaves_unit, outlet_cell}
 use Rattle.index.proofs.Distinct.{of_unit, unit_of_lem}
+use Rattle.sheet.specs.Answer.{Next, Accepted}
+use Rattle.std.specs.Prelude.{None, Some}
 
 -- leading digits are the same digits
 pub begins_at : {w x : List ℕ} → Begins w x → (i : ℕ) → i < length w → get_or w i 0 ≡ get_or x i 0
@@ -74,7 +73,7 @@ module _ (S : Sheet) (L : Lent) (accepted : outcome S L ≡ Accepted) where
   unfolding leaves_unit network onward
   leaves x o d = go (next S.grid o) refl
     where
-      not_back : (r : ℕ) → next S.grid o ≡ To r → is_of_unit S x r ≡ true → ⊥
+      not_back : (r : ℕ) → next S.grid o ≡ Some r → is_of_unit S x r ≡ true → ⊥
       not_back r e u =
           let b = unit_of_lem S r x u in
           let s : Shares (Inside S) (basin_digits S) x r = record {
@@ -87,8 +86,8 @@ module _ (S : Sheet) (L : Lent) (accepted : outcome S L ≡ Accepted) where
           omega (arith, f, ap O.dist q)
 
       go : (n : Next) → next S.grid o ≡ n → onward n true (λ r. not (is_of_unit S x r)) ≡ true
-      go Outlet e = refl
-      go (To r) e = rw (not-true (is_of_unit S x r) (not_back r e))
+      go None e = refl
+      go (Some r) e = rw (not-true (is_of_unit S x r) (not_back r e))
 
   -- another cell's water goes on to a cell of the unit
   stays : (x : List ℕ) (o c : ℕ) → Inside S c → basin_digits S c ≡ x → c ≢ o

@@ -9,11 +9,12 @@ use lib.ListN.{length}
 use borrow.Author.Tests.{leb-true, le-leb}
 use Rattle.sheet.specs.Record.{label_places, same_unit, unit_at}
 use Rattle.sheet.proofs.Within.{both_true}
-use Rattle.index.specs.declared.Indexed.TheVariants.{Units, Refused}
 use Rattle.index.specs.Units.{UnitEntry, unit_entry}
 use Rattle.index.specs.Groups.{with_cell, grouped}
 use Rattle.index.specs.Index.{LentIndex, index_fits, room_for}
 use Rattle.index.specs.Steps.{groups_of, Room}
+use Rattle.sheet.specs.Answer.{Refused}
+use Rattle.std.specs.Prelude.{Ok}
 
 module _ (I : LentIndex) where
   pub fits_room : (count : ℕ) → index_fits count I ≡ true → Room count I
@@ -37,7 +38,7 @@ module _ (I : LentIndex) where
     basins = omega (arith, r.basins);
   }
 
-  pub room_found : (count : ℕ) → Room count I → Units count ≡ room_for count I
+  pub room_found : (count : ℕ) → Room count I → Ok count ≡ room_for count I
   unfolding room_for
   room_found count r =
       simp (le-leb _ _ r.labels, le-leb _ _ r.outlets, le-leb _ _ r.counts, le-leb _ _ r.basins)

@@ -6,8 +6,6 @@ use mathlib.Core.List.{List, [], ◌∷◌}
 use Prim.Native.Nat.{ℕ, zero, suc, ◌≤◌, ◌<◌}
 use native.Mathlib.Omega.{arith}
 use lib.ListN.{length, length-map}
-use Rattle.sheet.specs.declared.Outcome.{Outcome}
-use Rattle.sheet.specs.declared.Outcome.TheVariants.{Accepted, Refused as NotLabelled}
 use Rattle.sheet.specs.Sheet.{Sheet, cells, inside}
 use Rattle.sheet.specs.Basins.{basin_digits}
 use Rattle.sheet.specs.Refusal.{Lent, outcome}
@@ -16,14 +14,14 @@ use Rattle.sheet.proofs.Within.{rows_cols_most}
 use Rattle.claims.specs.Dictionary.{is_before}
 use Rattle.claims.proofs.Places.{SmallRefusal, refusal_small}
 use Rattle.claims.proofs.Written.{checks}
-use Rattle.index.specs.declared.Indexed.{Indexed}
-use Rattle.index.specs.declared.Indexed.TheVariants.{Units, Refused}
 use Rattle.index.specs.Units.{with_unit, units_among, distinct_units, entry_of_unit, units}
 use Rattle.index.specs.Index.{LentIndex, index_fits, indexed_on, indexed}
+use Rattle.sheet.specs.Answer.{Outcome, Counted, Accepted, Refused}
+use Rattle.std.specs.Prelude.{Err, Ok}
 
-abbrev pub SmallAnswer : Indexed → Type 0
-SmallAnswer (Units units) = units ≤ 65536
-SmallAnswer (Refused number place) = (1 ≤ number) × (number ≤ 19) × (place < 65536)
+abbrev pub SmallAnswer : Counted → Type 0
+SmallAnswer (Ok units) = units ≤ 65536
+SmallAnswer (Err refusal) = (1 ≤ refusal.number) × (refusal.number ≤ 19) × (refusal.place < 65536)
 
 with_unit_length : (x : List ℕ) (ys : List (List ℕ)) → length (with_unit x ys) ≤ suc (length ys)
 unfolding with_unit
@@ -55,7 +53,7 @@ pub answer_small : (S : Sheet) (L : Lent) (I : LentIndex) → SmallAnswer (index
 unfolding indexed
 answer_small S L I = go (outcome S L) refl (refusal_small S L)
   where
-    fitted : outcome S L ≡ Accepted → (b : Bool) → SmallAnswer (cond b (Units (length (units S))) (Refused 3 0))
+    fitted : outcome S L ≡ Accepted → (b : Bool) → SmallAnswer (cond b (Ok (length (units S))) (Refused 3 0))
     fitted e true =
         let most = rows_cols_most S.grid.rows S.grid.cols (checks S L e).sizes in
         omega (arith, units_few S, cells_most most.0 most.1)
@@ -63,4 +61,4 @@ answer_small S L I = go (outcome S L) refl (refusal_small S L)
 
     go : (o : Outcome) → outcome S L ≡ o → SmallRefusal o → SmallAnswer (indexed_on o (length (units S)) I)
     go Accepted e s = fitted e (index_fits (length (units S)) I)
-    go (NotLabelled number place) e s = s
+    go (Err refusal) e s = s

@@ -4,8 +4,6 @@ use mathlib.Core.List.{List, ◌++◌}
 use Prim.Native.Nat.{ℕ, ◌+◌, ◌*◌, ◌≤◌}
 use native.Mathlib.Omega.{arith}
 use lib.ListN.{length, take, drop, replicate, length-take, length-drop}
-use Rattle.sheet.specs.declared.Outcome.{Outcome}
-use Rattle.sheet.specs.declared.Outcome.TheVariants.{Accepted, Refused as NotLabelled}
 use Rattle.sheet.specs.Sheet.{Sheet, Grid, cells}
 use Rattle.sheet.specs.Record.{label_places}
 use Rattle.sheet.specs.Label.{areas_of, labels_of}
@@ -19,12 +17,12 @@ use Rattle.upstream.specs.Work.{cells_part}
 use Rattle.order.specs.Places.{cells_in, Arranged}
 use Rattle.labelling.specs.Labelling.{lent, first_checks, LabelledInOrder}
 use Rattle.labelling.proofs.Calls.{refused, the_rest, labelled}
-use Rattle.index.specs.declared.Indexed.{Indexed}
-use Rattle.index.specs.declared.Indexed.TheVariants.{Refused}
 use Rattle.index.specs.Units.{UnitEntry, units}
 use Rattle.index.specs.Index.{LentIndex, indexed_on, indexed, indexed_values, if_indexed, index_after}
 use Rattle.index.specs.Steps.{groups_of, InOrder, IndexedFitting}
 use Rattle.index.proofs.UnitsInOrder.{groups_are_units}
+use Rattle.sheet.specs.Answer.{Outcome, Counted, Accepted, Refused}
+use Rattle.std.specs.Prelude.{Err}
 
 -- from the order along rivers to the cells that the units are written from
 pub in_order_lem : {G : Grid} {areas work labels basins : List ℕ} {queued : ℕ} → cells G ≤ most_cells
@@ -74,9 +72,9 @@ module _ (S : Sheet) (L : Lent) (passed : first_checks S L ≡ Accepted) {L' : L
       where
         go : (x : Outcome) → found.outcome ≡ x → indexed_on x (length groups) I ≡ indexed_on x (length (units S)) I
         go Accepted e = ap (λ (g : List UnitEntry). indexed_on Accepted (length g) I) (groups_of_accepted e)
-        go (NotLabelled number place) e = refl
+        go (Err refusal) e = refl
 
-    index_is : {r : Indexed} → r ≡ indexed_on found.outcome (length groups) I
+    index_is : {r : Counted} → r ≡ indexed_on found.outcome (length groups) I
         → if_indexed r groups I ≡ if_indexed r (units S) I
     unfolding indexed_on
     index_is {r} = go found.outcome refl
@@ -84,9 +82,9 @@ module _ (S : Sheet) (L : Lent) (passed : first_checks S L ≡ Accepted) {L' : L
         go : (x : Outcome) → found.outcome ≡ x → r ≡ indexed_on x (length groups) I
             → if_indexed r groups I ≡ if_indexed r (units S) I
         go Accepted e h = rw (groups_of_accepted e)
-        go (NotLabelled number place) e h = rw h
+        go (Err refusal) e h = rw h
 
-    pub indexed_fitting : {I' : LentIndex} {r : Indexed} {work : List ℕ}
+    pub indexed_fitting : {I' : LentIndex} {r : Counted} {work : List ℕ}
         → r ≡ indexed_on found.outcome (length groups) I → I' ≡ if_indexed r groups I
         → work ≡ replicate (8 * cells S.grid) 0
         → IndexedFitting S L (lent L'.areas L'.labels L'.basins work) I I' r
@@ -102,18 +100,18 @@ module _ (S : Sheet) (L : Lent) (passed : first_checks S L ≡ Accepted) {L' : L
 -- ---- a call
 module _ (S : Sheet) (L : Lent) (I : LentIndex) where
   -- what a call promises
-  abbrev Answered : Indexed → Lent → LentIndex → Type 0
+  abbrev Answered : Counted → Lent → LentIndex → Type 0
   Answered r L' I' =
       (r ≡ indexed S L I) ×
       ((indexed_values r ≡ indexed_values (indexed S L I)) × ((L' ≡ lent_after S L) × (I' ≡ index_after S L I)))
 
-  answered : {r : Indexed} {L' : Lent} {I' : LentIndex} → r ≡ indexed S L I → L' ≡ lent_after S L
+  answered : {r : Counted} {L' : Lent} {I' : LentIndex} → r ≡ indexed S L I → L' ≡ lent_after S L
       → I' ≡ if_indexed r (units S) I → Answered r L' I'
   unfolding index_after
-  answered e l i = (e, (ap indexed_values e, (l, i ∙ ap (λ (x : Indexed). if_indexed x (units S) I) e)))
+  answered e l i = (e, (ap indexed_values e, (l, i ∙ ap (λ (x : Counted). if_indexed x (units S) I) e)))
 
   -- by the first checks
-  pub refused_first : {number place : ℕ} → first_checks S L ≡ NotLabelled number place
+  pub refused_first : {number place : ℕ} → first_checks S L ≡ Refused number place
       → Answered (Refused number place) L I
   unfolding indexed
   refused_first e =
@@ -121,7 +119,7 @@ module _ (S : Sheet) (L : Lent) (I : LentIndex) where
       answered (ap (λ (x : Outcome). indexed_on x (length (units S)) I) a.0) a.1.1 refl
 
   -- after the first checks
-  pub indexed_after : first_checks S L ≡ Accepted → {areas labels basins work : List ℕ} {I' : LentIndex} {r : Indexed}
+  pub indexed_after : first_checks S L ≡ Accepted → {areas labels basins work : List ℕ} {I' : LentIndex} {r : Counted}
       → IndexedFitting S (lent L.areas L.labels L.basins (take (8 * cells S.grid) L.work))
       (lent areas labels basins work) I I' r
       → Answered r (lent areas labels basins (work ++ drop (8 * cells S.grid) L.work)) I'

@@ -7,7 +7,6 @@ use Prim.Native.Nat.{ℕ, suc, ◌≤◌, ◌<◌}
 use native.Mathlib.Omega.{arith}
 use lib.ListN.{length, get_or}
 use Rattle.sheet.specs.declared.UnitName.{UnitName}
-use Rattle.sheet.specs.declared.Outcome.TheVariants.{Accepted}
 use Rattle.sheet.specs.Sheet.{Sheet, cells, next}
 use Rattle.sheet.specs.Record.{same_unit, unit_at, basin_and_digits, unit_digits_at}
 use Rattle.sheet.specs.Label.{areas_of}
@@ -32,6 +31,7 @@ use Rattle.index.proofs.Counting.{Once, once_none, once_on, SameTests, counted_c
 use Rattle.index.proofs.GroupsInOrder.{NeverFall, fall_none, fall_on, entry_digits, GroupsOf, groups_of}
 use Rattle.index.proofs.WrittenUnits.{unit_digits_written, unit_written, unit_told}
 use Rattle.index.proofs.Outlets.{outlet_is}
+use Rattle.sheet.specs.Answer.{Accepted}
 
 -- ---- a list of cells by its places
 

@@ -4,7 +4,6 @@ use mathlib.Core.List.{◌∷◌}
 use Prim.Native.Nat.{ℕ, ◌≤◌}
 use native.Mathlib.Omega.{arith}
 use lib.ListN.{length}
-use Rattle.sheet.specs.declared.Outcome.TheVariants.{Accepted}
 use Rattle.sheet.specs.Sheet.{Sheet}
 use Rattle.sheet.specs.Record.{record_of, unit_at, basin_and_digits, unit_digits_at}
 use Rattle.sheet.specs.Label.{label_digits}
@@ -15,6 +14,7 @@ use Rattle.claims.specs.Demand.{Inside}
 use Rattle.claims.proofs.Written.{checks, one_to_nine, at_most_depth, label_written, digits_written, basin_written}
 use Rattle.index.specs.Units.{unit_of}
 use Rattle.index.proofs.UnitNames.{same_unit_lem, digits_back, unit_back}
+use Rattle.sheet.specs.Answer.{Accepted}
 
 module _ (S : Sheet) (L : Lent) (accepted : outcome S L ≡ Accepted) where
   -- a label has at most 36 digits

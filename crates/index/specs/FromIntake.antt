@@ -1,26 +1,25 @@
 -- The index call from an intake: 15 if it has not ended, then as a direct call with its sizes.
-use Rattle.std.proofs.Math.Option.{Option, none, some}
 use Rattle.sheet.specs.Refusal.{Lent}
 use Rattle.faults.specs.declared.Sizes.{Sizes}
 use Rattle.intake.specs.declared.Intake.{Intake}
 use Rattle.intake.specs.Intake.{LentSheet, ended_sizes}
 use Rattle.labelling.specs.FromIntake.{sheet_of}
-use Rattle.index.specs.declared.Indexed.{Indexed}
-use Rattle.index.specs.declared.Indexed.TheVariants.{Refused}
 use Rattle.index.specs.Index.{LentIndex, indexed, index_after}
+use Rattle.sheet.specs.Answer.{Counted, Refused}
+use Rattle.std.specs.Prelude.{None, Option, Some}
 
-unfoldable pub indexed_with : Option Sizes → LentSheet → Lent → LentIndex → Indexed
+unfoldable pub indexed_with : Option Sizes → LentSheet → Lent → LentIndex → Counted
 unfolding indexed
-indexed_with none T L I = Refused 15 0
-indexed_with (some z) T L I = indexed (sheet_of z T) L I
+indexed_with None T L I = Refused 15 0
+indexed_with (Some z) T L I = indexed (sheet_of z T) L I
 
 unfoldable pub index_with : Option Sizes → LentSheet → Lent → LentIndex → LentIndex
 unfolding index_after
-index_with none T L I = I
-index_with (some z) T L I = index_after (sheet_of z T) L I
+index_with None T L I = I
+index_with (Some z) T L I = index_after (sheet_of z T) L I
 
 -- the answer of the index call from an intake
-unfoldable pub intake_indexed : Intake → LentSheet → Lent → LentIndex → Indexed
+unfoldable pub intake_indexed : Intake → LentSheet → Lent → LentIndex → Counted
 unfolding ended_sizes indexed_with
 intake_indexed i T L I = indexed_with (ended_sizes i.stage) T L I
 

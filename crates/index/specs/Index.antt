@@ -1,14 +1,11 @@
 -- Document 02's call that labels a sheet and fills the index of its units: its refusals in order, and what the four
 -- slices of the index hold afterwards.
-use Rattle.std.specs.Prelude.{Bool, cond, List, map, ℕ, leb, length}
-use Rattle.sheet.specs.declared.Outcome.{Outcome}
-use Rattle.sheet.specs.declared.Outcome.TheVariants.{Accepted, Refused as NotLabelled}
+use Rattle.std.specs.Prelude.{Bool, cond, List, map, ℕ, leb, length, Err, Ok}
 use Rattle.sheet.specs.Sheet.{Sheet}
 use Rattle.sheet.specs.Record.{numbers_of, label_places}
 use Rattle.sheet.specs.Refusal.{Lent, both, outcome, written}
-use Rattle.index.specs.declared.Indexed.{Indexed}
-use Rattle.index.specs.declared.Indexed.TheVariants.{Units, Refused}
 use Rattle.index.specs.Units.{UnitEntry, units}
+use Rattle.sheet.specs.Answer.{Outcome, Counted, Accepted, Refused}
 
 -- what is lent for the index beside what labelling is lent: labels (two 64-bit numbers each), outlet cells (32-bit),
 -- counts (32-bit), basins (32-bit)
@@ -35,17 +32,17 @@ index_fits units I =
     (both (leb units (length I.counts)) (leb units (length I.basins))))
 
 -- the number of units; 3 where one of the four slices is too short for them
-unfoldable pub room_for : ℕ → LentIndex → Indexed
+unfoldable pub room_for : ℕ → LentIndex → Counted
 unfolding index_fits
-room_for units I = cond (index_fits units I) (Units units) (Refused 3 0)
+room_for units I = cond (index_fits units I) (Ok units) (Refused 3 0)
 
 -- all refusals of labelling, with their places, then 3
-unfoldable pub indexed_on : Outcome → ℕ → LentIndex → Indexed
+unfoldable pub indexed_on : Outcome → ℕ → LentIndex → Counted
 unfolding room_for
 indexed_on Accepted units I = room_for units I
-indexed_on (NotLabelled number place) units I = Refused number place
+indexed_on (Err refusal) units I = Err refusal
 
-unfoldable pub indexed : Sheet → Lent → LentIndex → Indexed
+unfoldable pub indexed : Sheet → Lent → LentIndex → Counted
 unfolding outcome units indexed_on
 indexed S L I = indexed_on (outcome S L) (length (units S)) I
 
@@ -55,9 +52,9 @@ pub record IndexedValues : Type 0 where
   pub place : ℕ
   pub units : ℕ
 
-abbrev pub indexed_values : Indexed → IndexedValues
-indexed_values (Units units) = record { number = 0; place = 0; units = units }
-indexed_values (Refused number place) = record { number = number; place = place; units = 0 }
+abbrev pub indexed_values : Counted → IndexedValues
+indexed_values (Ok units) = record { number = 0; place = 0; units = units }
+indexed_values (Err refusal) = record { number = refusal.number; place = refusal.place; units = 0 }
 
 -- the first places of the four slices written with the entries' labels, outlets, counts and basins; the others keep
 -- theirs
@@ -69,9 +66,9 @@ written_index entries I =
     (written (map (λ (e : UnitEntry). e.unit.basin) entries) I.basins)
 
 -- refused, no place of the four slices is written
-abbrev pub if_indexed : Indexed → List UnitEntry → LentIndex → LentIndex
-if_indexed (Units units) entries I = written_index entries I
-if_indexed (Refused number place) entries I = I
+abbrev pub if_indexed : Counted → List UnitEntry → LentIndex → LentIndex
+if_indexed (Ok units) entries I = written_index entries I
+if_indexed (Err refusal) entries I = I
 
 -- what the four slices hold after the call; areas, labels, basins and work places are those after labelling (lent_after)
 unfoldable pub index_after : Sheet → Lent → LentIndex → LentIndex

@@ -1,5 +1,5 @@
 -- What the index as the call wrote it says of an accepted sheet.
-use Rattle.std.specs.Prelude.{◌≡◌, true, List, ℕ, ◌<◌, get_or, take}
+use Rattle.std.specs.Prelude.{◌≡◌, true, List, ℕ, ◌<◌, get_or, take, Ok}
 -- some of these only must-fail edits need
 use Rattle.sheet.specs.Sheet.{Sheet, cells, inside, next}
 use Rattle.sheet.specs.Water.{DrainsTo}
@@ -18,7 +18,6 @@ use Rattle.labelling.specs.FromIntake.{intake_lent}
 use Rattle.labelling.specs.Demand.{OfIntake}
 use Rattle.lookup.specs.Lookup.{greatest_depth}
 use Rattle.lookup.specs.Exactly.{LookupFinds}
-use Rattle.index.specs.declared.Indexed.TheVariants.{Units}
 use Rattle.index.specs.Index.{LentIndex, indexed, index_after}
 use Rattle.index.specs.FromIntake.{intake_indexed, intake_index_after}
 
@@ -78,14 +77,14 @@ pub record IndexMeaning (S : Sheet) (basins labels : List ℕ) (units : ℕ) (I 
 -- hold afterwards
 pub record IndexedDirectly (S : Sheet) (L : Lent) (I : LentIndex) (L' : Lent) (I' : LentIndex) (units : ℕ)
     : Type 0 where
-  pub answer : indexed S L I ≡ Units units
+  pub answer : indexed S L I ≡ Ok units
   pub lent : L' ≡ lent_after S L
   pub index : I' ≡ index_after S L I
 
 -- and that of `index_intake`
 pub record IndexedFrom (i : Intake) (T : LentSheet) (L : Lent) (I : LentIndex) (L' : Lent) (I' : LentIndex) (units : ℕ)
     : Type 0 where
-  pub answer : intake_indexed i T L I ≡ Units units
+  pub answer : intake_indexed i T L I ≡ Ok units
   pub lent : L' ≡ intake_lent i T L
   pub index : I' ≡ intake_index_after i T L I
 

@@ -8,10 +8,10 @@ use Rattle.sheet.specs.Refusal.{Lent, outcome_from17, if_accepted}
 use Rattle.directions.specs.Sizes.{most_cells}
 use Rattle.upstream.specs.Work.{cells_part}
 use Rattle.order.specs.Places.{cells_in}
-use Rattle.index.specs.declared.Indexed.{Indexed}
 use Rattle.index.specs.Units.{UnitEntry, unit_entry, units}
 use Rattle.index.specs.Groups.{grouped}
 use Rattle.index.specs.Index.{LentIndex, indexed_on, if_indexed}
+use Rattle.sheet.specs.Answer.{Counted}
 
 -- cells that have labels and basins, so few that a count of them fits 32 bits
 pub record CellsLabelled (cells labels basins : List ℕ) : Type 0 where
@@ -46,7 +46,7 @@ pub record InOrder (n : ℕ) (work labels basins : List ℕ) (queued : ℕ) : Ty
 
 -- what the call leaves of a sheet that passed the first checks: L and I were lent, and L' and I' are what the slices
 -- hold then
-pub record IndexedFitting (S : Sheet) (L L' : Lent) (I I' : LentIndex) (r : Indexed) : Type 0 where
+pub record IndexedFitting (S : Sheet) (L L' : Lent) (I I' : LentIndex) (r : Counted) : Type 0 where
   pub answer : r ≡ indexed_on (outcome_from17 S) (length (units S)) I
   pub areas : L'.areas ≡ if_accepted (outcome_from17 S) (areas_of S) L.areas
   pub labels : L'.labels ≡ if_accepted (outcome_from17 S) (labels_of S) L.labels

@@ -6,8 +6,9 @@ ghost use Rattle.labelling.specs.FromIntake.{intake_lent};
 ghost use Rattle.index.specs.Index.{lent_index, indexed_values};
 ghost use Rattle.index.specs.FromIntake.{intake_indexed, intake_index_after};
 
-use crate::{Indexed, index};
-use intake::{Intake, Stage};
+use crate::index;
+use intake::Intake;
+use sheet::Refusal;
 
 // Labels the sheet of an intake and fills the index of its units: refused 15 if it has not ended, then as a direct call
 // with its sizes.
@@ -23,7 +24,7 @@ pub fn index_intake(
     outlets: &mut [u32],
     counts: &mut [u32],
     unit_basins: &mut [u32],
-) -> Indexed
+) -> Result<usize, Refusal>
     ensures answer { result ≡ intake_indexed intake (lent_sheet dirs.now weights.now)
         (lent areas.old labels.old basins.old work.old)
         (lent_index units.old outlets.old counts.old unit_basins.old) }
@@ -40,32 +41,20 @@ pub fn index_intake(
         (lent areas.old labels.old basins.old work.old)
         (lent_index units.old outlets.old counts.old unit_basins.old) }
 {
-    let stage = intake.stage;
-    match stage {
-        Stage::WaitingForSizeNames => Indexed::Refused(15, 0),
-        Stage::WaitingForSizes(_) => Indexed::Refused(15, 0),
-        Stage::WaitingForWeightOrCellNames(_) => Indexed::Refused(15, 0),
-        Stage::WaitingForWeight(_, _) => Indexed::Refused(15, 0),
-        Stage::WaitingForCellNames(_) => Indexed::Refused(15, 0),
-        Stage::TakingCells(_, _) => Indexed::Refused(15, 0),
-        Stage::Ended(sizes) => {
-            index(
-                sizes.rows,
-                sizes.cols,
-                sizes.depth,
-                sizes.least,
-                sizes.split,
-                dirs,
-                weights,
-                areas,
-                labels,
-                basins,
-                work,
-                units,
-                outlets,
-                counts,
-                unit_basins,
-            )
-        }
-    }
+    let Some(sizes) = intake.ended_sizes() else {
+        return Err(Refusal::numbered(15));
+    };
+    index(
+        sizes,
+        dirs,
+        weights,
+        areas,
+        labels,
+        basins,
+        work,
+        units,
+        outlets,
+        counts,
+        unit_basins,
+    )
 }

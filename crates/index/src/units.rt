@@ -4,8 +4,8 @@ ghost use Rattle.sheet.specs.Refusal.{both};
 ghost use Rattle.index.specs.Index.{lent_index, room_for, written_index, if_indexed};
 ghost use Rattle.index.specs.Steps.{CellsLabelled, groups_of, Group, Room};
 
-use crate::Indexed;
-use checks::{same_unit, unit_at};
+use checks::{label_count, same_unit, unit_at};
+use sheet::Refusal;
 
 // The position of the last cell of the group whose first cell stands at `first`.
 pub fn last_of_group(cells: &[u32], labels: &[u64], basins: &[u32], first: usize) -> usize
@@ -14,16 +14,12 @@ pub fn last_of_group(cells: &[u32], labels: &[u64], basins: &[u32], first: usize
     ensures { Group cells.now labels.now basins.now first result }
 {
     let unit = unit_at(basins, labels, cells[first] as usize);
-    let mut last = first;
-    while last + 1 < cells.len() {
-        let next = last + 1;
-        if same_unit(unit_at(basins, labels, cells[next] as usize), unit) {
-            last = next;
-        } else {
-            return last;
+    for next in first + 1..cells.len() {
+        if !same_unit(unit_at(basins, labels, cells[next] as usize), unit) {
+            return next - 1;
         }
     }
-    last
+    cells.len() - 1
 }
 
 // The number of groups.
@@ -33,6 +29,7 @@ pub fn count_units(cells: &[u32], labels: &[u64], basins: &[u32]) -> usize
 {
     let mut count = 0;
     let mut first = 0;
+    // A `while`, since a turn leaps over a group.
     while first < cells.len() {
         first = last_of_group(cells, labels, basins, first) + 1;
         count += 1;
@@ -61,6 +58,7 @@ fn fill_units(
 {
     let mut at = 0;
     let mut first = 0;
+    // A `while`, since a turn leaps over a group.
     while first < cells.len() {
         let last = last_of_group(cells, labels, basins, first);
         let unit = unit_at(basins, labels, cells[first] as usize);
@@ -80,16 +78,7 @@ fn index_fits(count: usize, units: usize, outlets: usize, counts: usize, unit_ba
     ensures { result ≡ both (leb count units)
         (both (leb count outlets) (both (leb count counts) (leb count unit_basins))) }
 {
-    if units < count {
-        return false;
-    }
-    if outlets < count {
-        return false;
-    }
-    if counts < count {
-        return false;
-    }
-    count <= unit_basins
+    count <= units && count <= outlets && count <= counts && count <= unit_basins
 }
 
 // Writes an entry for each group, where each slice of the index has a place for each: their number, else 3. There are
@@ -102,7 +91,7 @@ pub fn write_units(
     outlets: &mut [u32],
     counts: &mut [u32],
     unit_basins: &mut [u32],
-) -> Indexed
+) -> Result<usize, Refusal>
     requires { CellsLabelled cells.now labels.now basins.now }
     ensures answer { result ≡ room_for
         (length (groups_of cells.now labels.now basins.now))
@@ -112,7 +101,7 @@ pub fn write_units(
         ≡ if_indexed result (groups_of cells.now labels.now basins.now)
         (lent_index units.old outlets.old counts.old unit_basins.old) }
 {
-    let places = units.len() / 2;
+    let places = label_count(units);
     if index_fits(
         cells.len(),
         places,
@@ -120,15 +109,7 @@ pub fn write_units(
         counts.len(),
         unit_basins.len(),
     ) {
-        return Indexed::Units(fill_units(
-            cells,
-            labels,
-            basins,
-            units,
-            outlets,
-            counts,
-            unit_basins,
-        ));
+        return Ok(fill_units(cells, labels, basins, units, outlets, counts, unit_basins));
     }
     let count = count_units(cells, labels, basins);
     if index_fits(
@@ -138,15 +119,7 @@ pub fn write_units(
         counts.len(),
         unit_basins.len(),
     ) {
-        return Indexed::Units(fill_units(
-            cells,
-            labels,
-            basins,
-            units,
-            outlets,
-            counts,
-            unit_basins,
-        ));
+        return Ok(fill_units(cells, labels, basins, units, outlets, counts, unit_basins));
     }
-    Indexed::Refused(3, 0)
+    Err(Refusal::numbered(3))
 }

@@ -4,10 +4,9 @@ use mathlib.Core.List.{List}
 use Prim.Native.Nat.{ℕ, zero, suc, ◌<◌}
 use native.Mathlib.Omega.{arith}
 use lib.ListN.{length, get_or}
+use Rattle.std.proofs.Common.{None}
 use Rattle.decimal.specs.Ascii.{line_feed}
 use Rattle.lines.specs.declared.columns.Columns.{Columns}
-use Rattle.names.specs.declared.NamesLine.TheVariants.{Bad as BadNames}
-use Rattle.lines.specs.declared.values.ValuesLine.TheVariants.{Bad as BadValues}
 use Rattle.names.specs.Columns.{weight_columns, cell_columns}
 use Rattle.names.specs.Names.{names_line, size_names_line}
 use Rattle.lines.specs.Fields.{line_bytes}
@@ -21,17 +20,17 @@ use Rattle.intake.specs.declared.Stage.TheVariants.{WaitingForSizeNames, Waiting
 use Rattle.intake.specs.declared.Stage.TheVariants.{WaitingForWeightOrCellNames, WaitingForWeight}
 use Rattle.intake.specs.declared.Stage.TheVariants.{WaitingForCellNames, TakingCells, Ended}
 use Rattle.intake.specs.declared.Intake.{Intake}
-use Rattle.intake.specs.declared.TakenOutcome.TheVariants.{Accepted}
 use Rattle.intake.specs.Intake.{LentSheet, After, refuse, unless, line_in, line_after}
 use Rattle.intake.proofs.LineLaws.{unless_none, unless_some}
 use Rattle.intake.proofs.LineLaws.{accepted_not_refused}
 use Rattle.intake.proofs.Laws.{stage_number, fault_of}
+use Rattle.sheet.specs.Answer.{Accepted}
 
 -- a line that is no names line and no line of values
 pub record BadLine (line : List ℕ) : Type 0 where
-  pub size_names : size_names_line line ≡ BadNames
-  pub names : (expected : Columns) → names_line expected line ≡ BadNames
-  pub values : (c : Columns) → values_line c line ≡ BadValues
+  pub size_names : size_names_line line ≡ None
+  pub names : (expected : Columns) → names_line expected line ≡ None
+  pub values : (c : Columns) → values_line c line ≡ None
 
 pub line_feed_lem : (line : List ℕ) (at : ℕ) → at < length line → get_or line at 0 ≡ line_feed → BadLine line
 line_feed_lem line at h e =

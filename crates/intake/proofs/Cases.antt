@@ -4,9 +4,10 @@ use mathlib.Core.Path.{◌≡◌, refl}
 use mathlib.Core.List.{List, [], ◌∷◌, ◌++◌}
 use Prim.Native.Nat.{ℕ}
 use lib.ListN.{replicate}
+use Rattle.std.proofs.Common.{Some, None}
 use Rattle.decimal.specs.Ascii.{ascii}
 use Rattle.lines.specs.declared.columns.Column.{Column}
-use Rattle.lines.specs.declared.columns.Column.TheVariants.{Absent, Rows, Cols, Depth, Least, Split, Row, Col, Dir}
+use Rattle.lines.specs.declared.columns.Column.TheVariants.{Rows, Cols, Depth, Least, Split, Row, Col, Dir}
 use Rattle.lines.specs.declared.columns.Columns.{Columns}
 use Rattle.names.specs.Columns.{size_columns, split_size_columns, cell_columns}
 use Rattle.faults.specs.declared.Sizes.{Sizes}
@@ -29,10 +30,10 @@ sizes_of rows cols depth = split_sizes_of rows cols depth 1 4
 
 -- five columns, and three
 abbrev pub five : Column → Column → Column → Column → Column → Columns
-five a b c d e = record { first = a; second = b; third = c; fourth = d; fifth = e }
+five a b c d e = record { places = Some a ∷ Some b ∷ Some c ∷ Some d ∷ Some e ∷ [] }
 
 abbrev pub three : Column → Column → Column → Columns
-three a b c = five a b c Absent Absent
+three a b c = record { places = Some a ∷ Some b ∷ Some c ∷ None ∷ None ∷ [] }
 
 abbrev pub in_stage : Stage → Intake
 in_stage stage = record { stage = stage }

@@ -9,10 +9,10 @@ use lib.Dec.{eqb}
 use lib.ListN.{length, set, get_or, length-set}
 use lib.Seq.{get_or-set_same, get_or-set_other}
 use borrow.Author.Tests.{eq-eqb, ne_eqb}
+use Rattle.std.proofs.Common.{Some, None}
 use Rattle.lines.specs.declared.columns.Columns.{Columns}
 use Rattle.lines.specs.declared.values.Values.{Values}
-use Rattle.lines.specs.declared.values.ValuesLine.{ValuesLine}
-use Rattle.lines.specs.declared.values.ValuesLine.TheVariants.{Values as Valued, Bad as BadValues}
+use Rattle.lines.specs.Values.{ValuesLine}
 use Rattle.lines.specs.Values.{values_line}
 use Rattle.sheet.specs.Direction.{cell_number}
 use Rattle.sheet.proofs.Cells.{cell_lt, cell_row, cell_col}
@@ -22,7 +22,6 @@ use Rattle.faults.specs.Faults.{cell_in, cell_count, on_sheet, byte_of, may_set,
 use Rattle.faults.proofs.FaultLaws.{on_sheet_both, on_sheet_placed, cell_good, byte_lent}
 use Rattle.intake.specs.declared.Stage.TheVariants.{TakingCells}
 use Rattle.intake.specs.declared.Intake.{Intake}
-use Rattle.intake.specs.declared.TakenOutcome.TheVariants.{Accepted}
 use Rattle.intake.specs.Intake.{LentSheet, After, accept, refuse, cell_written, on_cells, line_in, line_after}
 use Rattle.intake.specs.Takes.{Takes, takes_none, takes_line}
 use Rattle.intake.specs.CellLines.{taking_cells, CellLine, with_cell, cells_listed}
@@ -31,6 +30,7 @@ use Rattle.intake.proofs.StateLaws.{takes_cells}
 use Rattle.intake.proofs.LineLaws.{accepted_not_refused, cell_accepted, cell_refused, cell_none}
 use Rattle.intake.proofs.LineLaws.{line_good, line_none}
 use Rattle.intake.proofs.Laws.{fault_of}
+use Rattle.sheet.specs.Answer.{Accepted}
 
 -- ---- one line
 
@@ -38,7 +38,7 @@ module _ (z : Sizes) (c : Columns) (line : List ℕ) (x : Cell) (lent : LentShee
   abbrev byte : ℕ
   byte = byte_of z x.row x.col lent.dirs
 
-  line_is : line_after (taking_cells z c) line lent ≡ on_cells z c (Valued l.values) lent
+  line_is : line_after (taking_cells z c) line lent ≡ on_cells z c (Some l.values) lent
   unfolding line_in
   line_is = line_good (taking_cells z c) line lent l.state_good ∙ ap (λ v. on_cells z c v lent) l.line_is
 
@@ -129,7 +129,7 @@ module _ (z : Sizes) (c : Columns) (line next : List ℕ) (x y : Cell) (lent : L
 -- an accepted line, while the intake takes cells
 record CellTaken (z : Sizes) (c : Columns) (line : List ℕ) (lent : LentSheet) : Type 0 where
   values : Values
-  line_is : values_line c line ≡ Valued values
+  line_is : values_line c line ≡ Some values
   on_sheet_lem : on_sheet z (cell_in c values) ≡ true
   byte_lent : cell_number z.cols (cell_in c values).row (cell_in c values).col < length lent.dirs
   after_is : line_after (taking_cells z c) line lent ≡ accept (TakingCells z c) (cell_written z (cell_in c values) lent)
@@ -143,8 +143,8 @@ module _ (z : Sizes) (c : Columns) (line : List ℕ) (lent : LentSheet) where
     where
       read : fault_of (TakingCells z c) lent ≡ 0 → (v : ValuesLine) → values_line c line ≡ v
           → line_after (taking_cells z c) line lent ≡ on_cells z c v lent → CellTaken z c line lent
-      read good BadValues is a = absurd (accepted_not_refused (sym e ∙ ap (λ (b : After). b.taken.outcome) a))
-      read good (Valued v) is a =
+      read good None is a = absurd (accepted_not_refused (sym e ∙ ap (λ (b : After). b.taken.outcome) a))
+      read good (Some v) is a =
           let x : Cell = cell_in c v in
           let none = cell_none z c v lent refl (sym (ap (λ (b : After). b.taken.outcome) a) ∙ e) in
           let on = (cell_good z x lent.dirs none).0 in

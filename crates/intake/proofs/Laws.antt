@@ -9,11 +9,10 @@ use native.Mathlib.Omega.{arith}
 use borrow.Author.Tests.{ltb-true}
 use lib.Dec.{ltb}
 use lib.ListN.{length, length-append, length-replicate, length-drop, length-set}
-use Rattle.names.specs.declared.NamesLine.{NamesLine}
-use Rattle.names.specs.declared.NamesLine.TheVariants.{Columns as Named, Bad as BadNames}
+use Rattle.std.proofs.Common.{Some, None}
+use Rattle.names.specs.Names.{NamesLine}
 use Rattle.lines.specs.declared.columns.Columns.{Columns}
-use Rattle.lines.specs.declared.values.ValuesLine.{ValuesLine}
-use Rattle.lines.specs.declared.values.ValuesLine.TheVariants.{Values as Valued, Bad as BadValues}
+use Rattle.lines.specs.Values.{first_value, ValuesLine}
 use Rattle.names.specs.Columns.{weight_columns, cell_columns}
 use Rattle.names.specs.Names.{names_line, size_names_line}
 use Rattle.lines.specs.Values.{values_line}
@@ -26,12 +25,13 @@ use Rattle.intake.specs.declared.Stage.TheVariants.{WaitingForSizeNames, Waiting
 use Rattle.intake.specs.declared.Stage.TheVariants.{WaitingForWeightOrCellNames, WaitingForWeight}
 use Rattle.intake.specs.declared.Stage.TheVariants.{WaitingForCellNames, TakingCells, Ended}
 use Rattle.intake.specs.declared.Intake.{Intake}
-use Rattle.intake.specs.declared.TakenOutcome.TheVariants.{Accepted, Refused}
 use Rattle.intake.specs.Intake.{taken_values, LentSheet, After, keep, accept, refuse, unless, first_set}
 use Rattle.intake.specs.Intake.{sizes_written, weight_written, cell_written, on_size_names, on_sizes, on_cell_names}
 use Rattle.intake.specs.Intake.{on_weight_or_cell_names, after_weights, on_weight, on_cells, state_fault, line_in}
 use Rattle.intake.specs.Intake.{line_after, end_in, end_taken, new_intake}
 use Rattle.intake.proofs.LineLaws.{unless_none, unless_some, accepted_not_refused}
+use Rattle.sheet.proofs.Answer.{same_number}
+use Rattle.sheet.specs.Answer.{Accepted, Refused}
 
 -- the stages in the order of a file with weights
 abbrev pub stage_number : Stage → ℕ
@@ -124,8 +124,8 @@ module _ (stage : Stage) (lent : LentSheet) where
 
 sizes_answer : (c : Columns) (v : ValuesLine) (lent : LentSheet) → Answer (WaitingForSizes c) lent (on_sizes c v lent)
 unfolding on_sizes
-sizes_answer c BadValues lent = refuses _ _ 8 (omega arith)
-sizes_answer c (Valued v) lent =
+sizes_answer c None lent = refuses _ _ 8 (omega arith)
+sizes_answer c (Some v) lent =
     let z : Sizes = sizes_in c v in
     let next : After = accept (WaitingForWeightOrCellNames z) (sizes_written z lent) in
     unless_answer (WaitingForSizes c) lent (sizes_fault z (length lent.dirs) (length lent.weights)) next
@@ -135,17 +135,17 @@ cell_names_answer : (stage : Stage) (z : Sizes) (n : NamesLine) (lent : LentShee
     → sizes_fault z (length lent.dirs) (length lent.weights) ≡ 0
     → Answer stage lent (keep lent (on_cell_names stage z n))
 unfolding on_cell_names
-cell_names_answer stage z (Named c) lent h good = accepts _ _ _ _ h (same_long lent) good
-cell_names_answer stage z BadNames lent h good = refuses _ _ 8 (omega arith)
+cell_names_answer stage z (Some c) lent h good = accepts _ _ _ _ h (same_long lent) good
+cell_names_answer stage z None lent h good = refuses _ _ 8 (omega arith)
 
 weight_answer : (z : Sizes) (row : ℕ) (v : ValuesLine) (lent : LentSheet)
     → row_fault z row (length lent.dirs) (length lent.weights) ≡ 0
     → Answer (WaitingForWeight z row) lent (on_weight z row v lent)
 unfolding on_weight after_weights
-weight_answer z row BadValues lent good = refuses _ _ 8 (omega arith)
-weight_answer z row (Valued v) lent good =
-    unless_answer (WaitingForWeight z row) lent (weight_fault v.first)
-    (accept (after_weights z (row + 1)) (weight_written row v.first lent))
+weight_answer z row None lent good = refuses _ _ 8 (omega arith)
+weight_answer z row (Some v) lent good =
+    unless_answer (WaitingForWeight z row) lent (weight_fault (first_value v))
+    (accept (after_weights z (row + 1)) (weight_written row (first_value v) lent))
     (λ e. go (ltb (row + 1) z.rows) refl)
   where
     sizes : sizes_fault z (length lent.dirs) (length lent.weights) ≡ 0
@@ -153,18 +153,18 @@ weight_answer z row (Valued v) lent good =
 
     go : (t : Bool) → ltb (row + 1) z.rows ≡ t
         → Answer (WaitingForWeight z row) lent
-        (accept (cond t (WaitingForWeight z (row + 1)) (WaitingForCellNames z)) (weight_written row v.first lent))
+        (accept (cond t (WaitingForWeight z (row + 1)) (WaitingForCellNames z)) (weight_written row (first_value v) lent))
     go true h =
-        accepts _ _ _ _ (omega arith) (weight_written_long row v.first lent)
+        accepts _ _ _ _ (omega arith) (weight_written_long row (first_value v) lent)
         (row_within z _ _ (row + 1) sizes (ltb-true (row + 1) z.rows h))
-    go false h = accepts _ _ _ _ (omega arith) (weight_written_long row v.first lent) sizes
+    go false h = accepts _ _ _ _ (omega arith) (weight_written_long row (first_value v) lent) sizes
 
 cells_answer : (z : Sizes) (c : Columns) (v : ValuesLine) (lent : LentSheet)
     → sizes_fault z (length lent.dirs) (length lent.weights) ≡ 0
     → Answer (TakingCells z c) lent (on_cells z c v lent)
 unfolding on_cells
-cells_answer z c BadValues lent good = refuses _ _ 8 (omega arith)
-cells_answer z c (Valued v) lent good =
+cells_answer z c None lent good = refuses _ _ 8 (omega arith)
+cells_answer z c (Some v) lent good =
     let x : Cell = cell_in c v in
     let next : After = accept (TakingCells z c) (cell_written z x lent) in
     unless_answer (TakingCells z c) lent (cell_fault z x lent.dirs) next
@@ -176,17 +176,17 @@ unfolding line_in state_fault
 line_in_answer WaitingForSizeNames line lent good = go (size_names_line line)
   where
     go : (n : NamesLine) → Answer WaitingForSizeNames lent (keep lent (on_size_names n))
-    go (Named c) = accepts _ _ _ _ (omega arith) (same_long lent) refl
-    go BadNames = refuses _ _ 8 (omega arith)
+    go (Some c) = accepts _ _ _ _ (omega arith) (same_long lent) refl
+    go None = refuses _ _ 8 (omega arith)
 line_in_answer (WaitingForSizes c) line lent good = sizes_answer c (values_line c line) lent
 line_in_answer (WaitingForWeightOrCellNames z) line lent good = go (names_line weight_columns line)
   where
     go : (n : NamesLine) → Answer (WaitingForWeightOrCellNames z) lent
         (keep lent (on_weight_or_cell_names z n (names_line cell_columns line)))
-    go (Named c) =
+    go (Some c) =
         accepts _ _ _ _ (omega arith) (same_long lent)
         (row_within z _ _ 0 good (sizes_fit_lem z _ _ good).rows_some)
-    go BadNames = cell_names_answer _ z (names_line cell_columns line) lent (omega arith) good
+    go None = cell_names_answer _ z (names_line cell_columns line) lent (omega arith) good
 line_in_answer (WaitingForWeight z row) line lent good = weight_answer z row (values_line weight_columns line) lent good
 line_in_answer (WaitingForCellNames z) line lent good =
     cell_names_answer (WaitingForCellNames z) z (names_line cell_columns line) lent (omega arith) good
@@ -201,13 +201,13 @@ line_answer i line lent = unless_answer _ _ _ _ (line_in_answer i.stage line len
 
 module _ (i : Intake) (line : List ℕ) (lent : LentSheet) where
   -- "A refused line or end returns the state it got and writes no byte."
-  pub refused_line : {n : ℕ} → (line_after i line lent).taken.outcome ≡ Refused n
+  pub refused_line : {n : ℕ} → (line_after i line lent).taken.outcome ≡ Refused n 0
       → line_after i line lent ≡ refuse i.stage lent n
   refused_line {n} e = go (line_answer i line lent)
     where
       go : Answer i.stage lent (line_after i line lent) → line_after i line lent ≡ refuse i.stage lent n
       go (inl r) =
-          let same : r.number ≡ n = cc (ap (λ (a : After). a.taken.outcome) r.is) in
+          let same : r.number ≡ n = same_number (sym (ap (λ (a : After). a.taken.outcome) r.is) ∙ e) in
           r.is ∙ ap (refuse i.stage lent) same
       go (inr a) = absurd (accepted_not_refused (sym (ap (λ (b : After). b.taken.outcome) a.is) ∙ e))
 
@@ -254,7 +254,7 @@ module _ (i : Intake) (line : List ℕ) (lent : LentSheet) where
 
 -- ---- the end
 
-refused_end_in : (s : Stage) {n : ℕ} → (end_in s).outcome ≡ Refused n → (end_in s).intake ≡ record { stage = s }
+refused_end_in : (s : Stage) {n : ℕ} → (end_in s).outcome ≡ Refused n 0 → (end_in s).intake ≡ record { stage = s }
 unfolding end_in
 refused_end_in WaitingForSizeNames e = refl
 refused_end_in (WaitingForSizes c) e = refl
@@ -264,7 +264,7 @@ refused_end_in (WaitingForCellNames z) e = refl
 refused_end_in (TakingCells z c) e = absurd (accepted_not_refused e)
 refused_end_in (Ended z) e = refl
 
-pub refused_end : (i : Intake) {n : ℕ} → (end_taken i).outcome ≡ Refused n → (end_taken i).intake ≡ i
+pub refused_end : (i : Intake) {n : ℕ} → (end_taken i).outcome ≡ Refused n 0 → (end_taken i).intake ≡ i
 unfolding end_taken
 refused_end i e = refused_end_in i.stage e
 

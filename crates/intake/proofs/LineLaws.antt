@@ -7,9 +7,10 @@ use Prim.Native.Nat.{ℕ, zero, suc, ◌+◌}
 use native.Mathlib.Omega.{arith}
 use lib.ListN.{length}
 use borrow.Author.Tests.{eq-eqb, ne_eqb}
+use Rattle.lines.specs.Values.{first_value}
+use Rattle.std.proofs.Common.{Some}
 use Rattle.lines.specs.declared.columns.Columns.{Columns}
 use Rattle.lines.specs.declared.values.Values.{Values}
-use Rattle.lines.specs.declared.values.ValuesLine.TheVariants.{Values as Valued}
 use Rattle.sheet.specs.Refusal.{weight_fits}
 use Rattle.faults.specs.declared.Sizes.{Sizes}
 use Rattle.faults.specs.declared.Cell.{Cell}
@@ -19,10 +20,10 @@ use Rattle.intake.specs.declared.Stage.{Stage}
 use Rattle.intake.specs.declared.Stage.TheVariants.{WaitingForSizes, WaitingForWeightOrCellNames}
 use Rattle.intake.specs.declared.Stage.TheVariants.{WaitingForWeight, TakingCells}
 use Rattle.intake.specs.declared.Intake.{Intake}
-use Rattle.intake.specs.declared.TakenOutcome.TheVariants.{Accepted, Refused}
 use Rattle.intake.specs.Intake.{LentSheet, After, accept, refuse, unless, sizes_written, weight_written}
 use Rattle.intake.specs.Intake.{cell_written, on_sizes, after_weights, on_weight, on_cells, state_fault, line_in}
 use Rattle.intake.specs.Intake.{line_after}
+use Rattle.sheet.specs.Answer.{Accepted, Refused}
 
 module _ {fault : ℕ} (stage : Stage) (lent : LentSheet) (next : After) where
   pub unless_none : fault ≡ 0 → unless fault stage lent next ≡ next
@@ -33,7 +34,7 @@ module _ {fault : ℕ} (stage : Stage) (lent : LentSheet) (next : After) where
   unfolding unless
   unless_some n = rw (ne_eqb fault 0 n)
 
-pub accepted_not_refused : {n : ℕ} → Accepted ≡ Refused n → ⊥
+pub accepted_not_refused : {n : ℕ} → Accepted ≡ Refused n 0 → ⊥
 accepted_not_refused {n} e = let z : ◌≡◌ {A = ℕ} 0 1 = cc in omega arith
 
 -- what is accepted has no fault
@@ -49,54 +50,54 @@ module _ (c : Columns) (v : Values) (lent : LentSheet) {z : Sizes} (is : z ≡ s
   abbrev fault : ℕ
   fault = sizes_fault z (length lent.dirs) (length lent.weights)
 
-  sizes_line_lem : on_sizes c (Valued v) lent ≡ unless fault (WaitingForSizes c) lent
+  sizes_line_lem : on_sizes c (Some v) lent ≡ unless fault (WaitingForSizes c) lent
       (accept (WaitingForWeightOrCellNames z) (sizes_written z lent))
   unfolding on_sizes
   sizes_line_lem = rw is
 
   pub sizes_accepted : fault ≡ 0
-      → on_sizes c (Valued v) lent ≡ accept (WaitingForWeightOrCellNames z) (sizes_written z lent)
+      → on_sizes c (Some v) lent ≡ accept (WaitingForWeightOrCellNames z) (sizes_written z lent)
   sizes_accepted e = sizes_line_lem ∙ unless_none _ _ _ e
 
-  pub sizes_refused : (fault ≡ 0 → ⊥) → on_sizes c (Valued v) lent ≡ refuse (WaitingForSizes c) lent fault
+  pub sizes_refused : (fault ≡ 0 → ⊥) → on_sizes c (Some v) lent ≡ refuse (WaitingForSizes c) lent fault
   sizes_refused n = sizes_line_lem ∙ unless_some _ _ _ n
 
-  pub sizes_none : (on_sizes c (Valued v) lent).taken.outcome ≡ Accepted → fault ≡ 0
+  pub sizes_none : (on_sizes c (Some v) lent).taken.outcome ≡ Accepted → fault ≡ 0
   sizes_none e =
       unless_accepted fault (WaitingForSizes c) lent _ (sym (ap (λ (a : After). a.taken.outcome) sizes_line_lem) ∙ e)
 
 -- the weight of a weight line
 module _ (z : Sizes) (row : ℕ) (v : Values) (lent : LentSheet) where
-  pub weight_accepted : weight_fits v.first ≡ true
-      → on_weight z row (Valued v) lent ≡ accept (after_weights z (row + 1)) (weight_written row v.first lent)
+  pub weight_accepted : weight_fits (first_value v) ≡ true
+      → on_weight z row (Some v) lent ≡ accept (after_weights z (row + 1)) (weight_written row (first_value v) lent)
   unfolding on_weight weight_fault
   weight_accepted e = rw e
 
-  pub weight_refused : weight_fits v.first ≡ false
-      → on_weight z row (Valued v) lent ≡ refuse (WaitingForWeight z row) lent 17
+  pub weight_refused : weight_fits (first_value v) ≡ false
+      → on_weight z row (Some v) lent ≡ refuse (WaitingForWeight z row) lent 17
   unfolding on_weight weight_fault
   weight_refused e = rw e
 
-  pub weight_fits_lem : (on_weight z row (Valued v) lent).taken.outcome ≡ Accepted → weight_fits v.first ≡ true
+  pub weight_fits_lem : (on_weight z row (Some v) lent).taken.outcome ≡ Accepted → weight_fits (first_value v) ≡ true
   unfolding on_weight
-  weight_fits_lem e = weight_good v.first (unless_accepted (weight_fault v.first) (WaitingForWeight z row) lent _ e)
+  weight_fits_lem e = weight_good (first_value v) (unless_accepted (weight_fault (first_value v)) (WaitingForWeight z row) lent _ e)
 
 -- the cell x of a cell line
 module _ (z : Sizes) (c : Columns) (v : Values) (lent : LentSheet) {x : Cell} (is : x ≡ cell_in c v) where
-  cell_line_lem : on_cells z c (Valued v) lent ≡ unless (cell_fault z x lent.dirs) (TakingCells z c) lent
+  cell_line_lem : on_cells z c (Some v) lent ≡ unless (cell_fault z x lent.dirs) (TakingCells z c) lent
       (accept (TakingCells z c) (cell_written z x lent))
   unfolding on_cells
   cell_line_lem = rw is
 
   pub cell_accepted : cell_fault z x lent.dirs ≡ 0
-      → on_cells z c (Valued v) lent ≡ accept (TakingCells z c) (cell_written z x lent)
+      → on_cells z c (Some v) lent ≡ accept (TakingCells z c) (cell_written z x lent)
   cell_accepted e = cell_line_lem ∙ unless_none _ _ _ e
 
   pub cell_refused : (cell_fault z x lent.dirs ≡ 0 → ⊥)
-      → on_cells z c (Valued v) lent ≡ refuse (TakingCells z c) lent (cell_fault z x lent.dirs)
+      → on_cells z c (Some v) lent ≡ refuse (TakingCells z c) lent (cell_fault z x lent.dirs)
   cell_refused n = cell_line_lem ∙ unless_some _ _ _ n
 
-  pub cell_none : (on_cells z c (Valued v) lent).taken.outcome ≡ Accepted → cell_fault z x lent.dirs ≡ 0
+  pub cell_none : (on_cells z c (Some v) lent).taken.outcome ≡ Accepted → cell_fault z x lent.dirs ≡ 0
   cell_none e =
       unless_accepted (cell_fault z x lent.dirs) (TakingCells z c) lent _
       (sym (ap (λ (a : After). a.taken.outcome) cell_line_lem) ∙ e)

@@ -8,12 +8,11 @@ use native.Mathlib.Omega.{arith}
 use lib.Dec.{ltb}
 use lib.ListN.{length, drop, replicate, set, get_or, get_or-replicate, get_or-append, length-replicate, length-set}
 use lib.Seq.{get_or-set_same, get_or-set_other}
-use Rattle.names.specs.declared.NamesLine.{NamesLine}
-use Rattle.names.specs.declared.NamesLine.TheVariants.{Columns as Named, Bad as BadNames}
+use Rattle.std.proofs.Common.{Some, None}
+use Rattle.names.specs.Names.{NamesLine}
 use Rattle.lines.specs.declared.columns.Columns.{Columns}
 use Rattle.lines.specs.declared.values.Values.{Values}
-use Rattle.lines.specs.declared.values.ValuesLine.{ValuesLine}
-use Rattle.lines.specs.declared.values.ValuesLine.TheVariants.{Values as Valued, Bad as BadValues}
+use Rattle.lines.specs.Values.{first_value, ValuesLine}
 use Rattle.names.specs.Columns.{weight_columns, cell_columns}
 use Rattle.names.specs.Names.{names_line, size_names_line}
 use Rattle.lines.specs.Values.{values_line}
@@ -26,7 +25,6 @@ use Rattle.intake.specs.declared.Stage.TheVariants.{WaitingForSizeNames, Waiting
 use Rattle.intake.specs.declared.Stage.TheVariants.{WaitingForWeightOrCellNames, WaitingForWeight}
 use Rattle.intake.specs.declared.Stage.TheVariants.{WaitingForCellNames, TakingCells, Ended}
 use Rattle.intake.specs.declared.Intake.{Intake}
-use Rattle.intake.specs.declared.TakenOutcome.TheVariants.{Accepted}
 use Rattle.intake.specs.Intake.{LentSheet, After, keep, accept, unless, sizes_written, weight_written}
 use Rattle.intake.specs.Intake.{on_size_names, on_sizes, on_cell_names, on_weight_or_cell_names, after_weights, on_weight}
 use Rattle.intake.specs.Intake.{cell_written, on_cells, state_fault, line_in, line_after, end_in, end_taken}
@@ -36,6 +34,7 @@ use Rattle.intake.proofs.LineLaws.{unless_none, unless_some, accepted_not_refuse
 use Rattle.intake.proofs.LineLaws.{sizes_none, weight_accepted, weight_fits_lem, line_good, line_none}
 use Rattle.intake.proofs.Laws.{fault_of, Reached, at_start, by_line, by_end}
 use Rattle.intake.proofs.Laws.{Holds, weight_or_names, weight_of_row, names, cells, ended}
+use Rattle.sheet.specs.Answer.{Accepted}
 
 -- ---- what is done to the weights
 
@@ -43,15 +42,15 @@ module _ (z : Sizes) (row : ℕ) (line : List ℕ) (lent : LentSheet) where
   abbrev after : After
   after = line_after (record { stage = WaitingForWeight z row }) line lent
 
-  written : (v : Values) → values_line weight_columns line ≡ Valued v → weight_fits v.first ≡ true
-      → row < length lent.weights → OwnWeight row line lent (weight_written row v.first lent)
+  written : (v : Values) → values_line weight_columns line ≡ Some v → weight_fits (first_value v) ≡ true
+      → row < length lent.weights → OwnWeight row line lent (weight_written row (first_value v) lent)
   unfolding weight_written
   written v is fits l = record {
     values = v;
     line_is = is;
     fits = fits;
-    own = get_or-set_same lent.weights row v.first 0 l;
-    others = λ other n. get_or-set_other lent.weights row other v.first 0 n;
+    own = get_or-set_same lent.weights row (first_value v) 0 l;
+    others = λ other n. get_or-set_other lent.weights row other (first_value v) 0 n;
     as_long = simp length-set;
     dirs_kept = refl;
   }
@@ -68,8 +67,8 @@ module _ (z : Sizes) (row : ℕ) (line : List ℕ) (lent : LentSheet) where
 
       read : fault_of (WaitingForWeight z row) lent ≡ 0 → (v : ValuesLine) → values_line weight_columns line ≡ v
           → after ≡ on_weight z row v lent → OwnWeight row line lent after.lent
-      read good BadValues is a = absurd (accepted_not_refused (sym e ∙ ap (λ (b : After). b.taken.outcome) a))
-      read good (Valued v) is a =
+      read good None is a = absurd (accepted_not_refused (sym e ∙ ap (λ (b : After). b.taken.outcome) a))
+      read good (Some v) is a =
           let fits = weight_fits_lem z row v lent (sym (ap (λ (b : After). b.taken.outcome) a) ∙ e) in
           subst (λ (b : After). OwnWeight row line lent b.lent) (sym (a ∙ weight_accepted z row v lent fits))
           (written v is fits (within good))
@@ -83,8 +82,8 @@ module _ (c : Columns) (line : List ℕ) (lent : LentSheet) where
   sizes_one e = read (values_line c line) (line_good _ line lent refl)
     where
       read : (v : ValuesLine) → after_sizes ≡ on_sizes c v lent → OnesSet lent after_sizes
-      read BadValues a = absurd (accepted_not_refused (sym e ∙ ap (λ (b : After). b.taken.outcome) a))
-      read (Valued v) a =
+      read None a = absurd (accepted_not_refused (sym e ∙ ap (λ (b : After). b.taken.outcome) a))
+      read (Some v) a =
           let none = sizes_none c v lent refl (sym (ap (λ (b : After). b.taken.outcome) a) ∙ e) in
           subst (λ (b : After). OnesSet lent b) (sym (a ∙ sizes_accepted c v lent refl none))
           (record { sizes = sizes_in c v; stage_is = refl; weights_are = refl })
@@ -99,8 +98,8 @@ unless_kept (suc n) stage lent next e =
 cells_kept : (z : Sizes) (c : Columns) (v : ValuesLine) (lent : LentSheet)
     → (on_cells z c v lent).lent.weights ≡ lent.weights
 unfolding on_cells cell_written
-cells_kept z c BadValues lent = refl
-cells_kept z c (Valued v) lent =
+cells_kept z c None lent = refl
+cells_kept z c (Some v) lent =
     unless_kept (cell_fault z (cell_in c v) lent.dirs) (TakingCells z c) lent
     (accept (TakingCells z c) (cell_written z (cell_in c v) lent)) refl
 
@@ -167,8 +166,8 @@ one_set rows row weight weights within fits h other l =
 
 sizes_good : (c : Columns) (v : ValuesLine) (lent : LentSheet) → Good (on_sizes c v lent)
 unfolding on_sizes sizes_written
-sizes_good c BadValues lent = λ row l. absurd (omega arith)
-sizes_good c (Valued v) lent =
+sizes_good c None lent = λ row l. absurd (omega arith)
+sizes_good c (Some v) lent =
     let z : Sizes = sizes_in c v in
     unless_good (sizes_fault z (length lent.dirs) (length lent.weights)) (WaitingForSizes c) lent
     (accept (WaitingForWeightOrCellNames z) (sizes_written z lent)) (λ row l. absurd (omega arith))
@@ -177,18 +176,18 @@ sizes_good c (Valued v) lent =
 cell_names_good : (stage : Stage) (z : Sizes) (n : NamesLine) (lent : LentSheet) → held_rows stage ≡ z.rows
     → Weighed z.rows lent.weights → Good (keep lent (on_cell_names stage z n))
 unfolding on_cell_names
-cell_names_good stage z (Named c) lent is h = h
-cell_names_good stage z BadNames lent is h = rw is h
+cell_names_good stage z (Some c) lent is h = h
+cell_names_good stage z None lent is h = rw is h
 
 weight_line_good : (z : Sizes) (row : ℕ) (v : ValuesLine) (lent : LentSheet) → row < length lent.weights
     → Weighed z.rows lent.weights → Good (on_weight z row v lent)
 unfolding on_weight weight_written
-weight_line_good z row BadValues lent l h = h
-weight_line_good z row (Valued v) lent l h =
-    unless_good (weight_fault v.first) (WaitingForWeight z row) lent
-    (accept (after_weights z (row + 1)) (weight_written row v.first lent)) h
+weight_line_good z row None lent l h = h
+weight_line_good z row (Some v) lent l h =
+    unless_good (weight_fault (first_value v)) (WaitingForWeight z row) lent
+    (accept (after_weights z (row + 1)) (weight_written row (first_value v) lent)) h
     (λ e. rw (rows (ltb (row + 1) z.rows))
-    (one_set z.rows row v.first lent.weights l (weight_good v.first e) h))
+    (one_set z.rows row (first_value v) lent.weights l (weight_good (first_value v) e) h))
   where
     rows : (t : Bool) → held_rows (cond t (WaitingForWeight z (row + 1)) (WaitingForCellNames z)) ≡ z.rows
     rows true = refl
@@ -197,8 +196,8 @@ weight_line_good z row (Valued v) lent l h =
 cells_good : (z : Sizes) (c : Columns) (v : ValuesLine) (lent : LentSheet) → Weighed z.rows lent.weights
     → Good (on_cells z c v lent)
 unfolding on_cells cell_written
-cells_good z c BadValues lent h = h
-cells_good z c (Valued v) lent h =
+cells_good z c None lent h = h
+cells_good z c (Some v) lent h =
     unless_good (cell_fault z (cell_in c v) lent.dirs) (TakingCells z c) lent
     (accept (TakingCells z c) (cell_written z (cell_in c v) lent)) h (λ e. h)
 
@@ -208,14 +207,14 @@ unfolding line_in
 line_in_good WaitingForSizeNames line lent h good = go (size_names_line line)
   where
     go : (n : NamesLine) → Good (keep lent (on_size_names n))
-    go (Named c) row l = absurd (omega arith)
-    go BadNames row l = absurd (omega arith)
+    go (Some c) row l = absurd (omega arith)
+    go None row l = absurd (omega arith)
 line_in_good (WaitingForSizes c) line lent h good = sizes_good c (values_line c line) lent
 line_in_good (WaitingForWeightOrCellNames z) line lent h good = go (names_line weight_columns line)
   where
     go : (n : NamesLine) → Good (keep lent (on_weight_or_cell_names z n (names_line cell_columns line)))
-    go (Named c) = h
-    go BadNames = cell_names_good (WaitingForWeightOrCellNames z) z (names_line cell_columns line) lent refl h
+    go (Some c) = h
+    go None = cell_names_good (WaitingForWeightOrCellNames z) z (names_line cell_columns line) lent refl h
 line_in_good (WaitingForWeight z row) line lent h good =
     let w = waits_for_row z row (length lent.dirs) (length lent.weights) refl good in
     weight_line_good z row (values_line weight_columns line) lent (omega (arith, w.0, w.1)) h

@@ -1,9 +1,9 @@
 -- Document 02, W4: which cell lines are accepted, and what they do to the direction bytes. Statements about line_after.
+use Rattle.std.specs.Prelude.{Some, None}
 use Rattle.std.specs.Prelude.{◌≡◌, Bool, true, cond, List, [], ◌∷◌, ℕ, ◌<◌, ◌≤◌, eqb, length, get_or}
 use Rattle.lines.specs.declared.columns.Columns.{Columns}
 use Rattle.lines.specs.declared.values.Values.{Values}
-use Rattle.lines.specs.declared.values.ValuesLine.{ValuesLine}
-use Rattle.lines.specs.declared.values.ValuesLine.TheVariants.{Values as Valued, Bad as BadValues}
+use Rattle.lines.specs.Values.{ValuesLine}
 use Rattle.lines.specs.Values.{values_line}
 use Rattle.sheet.specs.Direction.{is_code}
 use Rattle.sheet.specs.Refusal.{both}
@@ -24,7 +24,7 @@ taking_cells z c = record { stage = TakingCells z c }
 pub record CellLine (z : Sizes) (c : Columns) (line : List ℕ) (x : Cell) (lent : LentSheet) : Type 0 where
   pub state_good : state_fault (TakingCells z c) (length lent.dirs) (length lent.weights) ≡ 0
   pub values : Values
-  pub line_is : values_line c line ≡ Valued values
+  pub line_is : values_line c line ≡ Some values
   pub cell_is : x ≡ cell_in c values
   pub on_sheet_lem : on_sheet z x ≡ true
   pub code : is_code x.dir ≡ true
@@ -33,8 +33,8 @@ pub record CellLine (z : Sizes) (c : Columns) (line : List ℕ) (x : Cell) (lent
 
 -- the cells that lines list, in the order of the lines; a line that breaks the rules lists none
 abbrev pub with_cell : Columns → ValuesLine → List Cell → List Cell
-with_cell c (Valued v) cells = cell_in c v ∷ cells
-with_cell c BadValues cells = cells
+with_cell c (Some v) cells = cell_in c v ∷ cells
+with_cell c None cells = cells
 
 unfoldable pub cells_listed : Columns → List (List ℕ) → List Cell
 unfolding values_line cell_in

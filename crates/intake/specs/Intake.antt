@@ -1,11 +1,8 @@
 -- Document 01's intake, with document 02's weights, least and split: what a line and the end give in each stage.
-use Rattle.std.specs.Prelude.{cond, List, ◌++◌, ℕ, ◌+◌, ltb, eqb, length, drop, replicate, set}
-use Rattle.std.proofs.Math.Option.{Option, none, some}
+use Rattle.std.specs.Prelude.{cond, List, ◌++◌, ℕ, ◌+◌, ltb, eqb, length, drop, replicate, set, Err, None, Option, Some}
 use Rattle.lines.specs.declared.columns.Columns.{Columns}
-use Rattle.names.specs.declared.NamesLine.{NamesLine}
-use Rattle.names.specs.declared.NamesLine.TheVariants.{Columns as Named, Bad as BadNames}
-use Rattle.lines.specs.declared.values.ValuesLine.{ValuesLine}
-use Rattle.lines.specs.declared.values.ValuesLine.TheVariants.{Values as Valued, Bad as BadValues}
+use Rattle.names.specs.Names.{NamesLine}
+use Rattle.lines.specs.Values.{first_value, ValuesLine}
 use Rattle.names.specs.Columns.{weight_columns, cell_columns}
 use Rattle.names.specs.Names.{names_line, size_names_line}
 use Rattle.lines.specs.Values.{values_line}
@@ -18,18 +15,17 @@ use Rattle.intake.specs.declared.Stage.TheVariants.{WaitingForSizeNames, Waiting
 use Rattle.intake.specs.declared.Stage.TheVariants.{WaitingForWeightOrCellNames, WaitingForWeight}
 use Rattle.intake.specs.declared.Stage.TheVariants.{WaitingForCellNames, TakingCells, Ended}
 use Rattle.intake.specs.declared.Intake.{Intake}
-use Rattle.intake.specs.declared.TakenOutcome.{TakenOutcome}
-use Rattle.intake.specs.declared.TakenOutcome.TheVariants.{Accepted, Refused}
 use Rattle.intake.specs.declared.Taken.{Taken}
+use Rattle.sheet.specs.Answer.{Outcome, Accepted, Refused}
 
 -- document 01's number and place of an outcome: both 0 where it is accepted; all intake refusals give place 0
 pub record TakenValues : Type 0 where
   pub number : ℕ
   pub place : ℕ
 
-abbrev pub taken_values : TakenOutcome → TakenValues
+abbrev pub taken_values : Outcome → TakenValues
 taken_values Accepted = record { number = 0; place = 0 }
-taken_values (Refused number) = record { number = number; place = 0 }
+taken_values (Err refusal) = record { number = refusal.number; place = 0 }
 
 -- what is lent to the intake: direction bytes, and weights (16-bit), one place a row
 pub record LentSheet : Type 0 where
@@ -49,7 +45,7 @@ accepted next = record { intake = record { stage = next }; outcome = Accepted }
 
 -- a refused line or end returns the state it got
 abbrev pub refused : Stage → ℕ → Taken
-refused stage number = record { intake = record { stage = stage }; outcome = Refused number }
+refused stage number = record { intake = record { stage = stage }; outcome = Refused number 0 }
 
 abbrev pub keep : LentSheet → Taken → After
 keep lent t = record { taken = t; lent = lent }
@@ -86,28 +82,28 @@ cell_written z x lent =
 -- that takes lines (proofs/BadLines.antt); an ended intake gives 13 for it, and a state with a fault that fault's
 -- number, as for any line.
 unfoldable pub on_size_names : NamesLine → Taken
-on_size_names (Named c) = accepted (WaitingForSizes c)
-on_size_names BadNames = refused WaitingForSizeNames 8
+on_size_names (Some c) = accepted (WaitingForSizes c)
+on_size_names None = refused WaitingForSizeNames 8
 
 -- for a size line 8, then 1, 2, 19, 3
 unfoldable pub on_sizes : Columns → ValuesLine → LentSheet → After
 unfolding sizes_in sizes_fault unless sizes_written
-on_sizes c (Valued v) lent =
+on_sizes c (Some v) lent =
     let z : Sizes = sizes_in c v in
     unless (sizes_fault z (length lent.dirs) (length lent.weights)) (WaitingForSizes c) lent
     (accept (WaitingForWeightOrCellNames z) (sizes_written z lent))
-on_sizes c BadValues lent = refuse (WaitingForSizes c) lent 8
+on_sizes c None lent = refuse (WaitingForSizes c) lent 8
 
 -- cell names, in a stage that takes them
 unfoldable pub on_cell_names : Stage → Sizes → NamesLine → Taken
-on_cell_names stage z (Named c) = accepted (TakingCells z c)
-on_cell_names stage z BadNames = refused stage 8
+on_cell_names stage z (Some c) = accepted (TakingCells z c)
+on_cell_names stage z None = refused stage 8
 
 -- after the sizes: the line is the name of the weights, or cell names
 unfoldable pub on_weight_or_cell_names : Sizes → NamesLine → NamesLine → Taken
 unfolding on_cell_names
-on_weight_or_cell_names z (Named c) cell_names = accepted (WaitingForWeight z 0)
-on_weight_or_cell_names z BadNames cell_names = on_cell_names (WaitingForWeightOrCellNames z) z cell_names
+on_weight_or_cell_names z (Some c) cell_names = accepted (WaitingForWeight z 0)
+on_weight_or_cell_names z None cell_names = on_cell_names (WaitingForWeightOrCellNames z) z cell_names
 
 -- the stage after the weights of so many rows: it waits for the next row's, and after the last for cell names
 unfoldable pub after_weights : Sizes → ℕ → Stage
@@ -116,19 +112,19 @@ after_weights z count = cond (ltb count z.rows) (WaitingForWeight z count) (Wait
 -- for a weight line 8, then 17
 unfoldable pub on_weight : Sizes → ℕ → ValuesLine → LentSheet → After
 unfolding weight_fault unless after_weights weight_written
-on_weight z row (Valued v) lent =
-    let weight : ℕ = v.first in
+on_weight z row (Some v) lent =
+    let weight : ℕ = first_value v in
     unless (weight_fault weight) (WaitingForWeight z row) lent
     (accept (after_weights z (row + 1)) (weight_written row weight lent))
-on_weight z row BadValues lent = refuse (WaitingForWeight z row) lent 8
+on_weight z row None lent = refuse (WaitingForWeight z row) lent 8
 
 -- for a cell line 8, then 9, 4, 10
 unfoldable pub on_cells : Sizes → Columns → ValuesLine → LentSheet → After
 unfolding cell_in cell_fault unless cell_written
-on_cells z c (Valued v) lent =
+on_cells z c (Some v) lent =
     let x : Cell = cell_in c v in
     unless (cell_fault z x lent.dirs) (TakingCells z c) lent (accept (TakingCells z c) (cell_written z x lent))
-on_cells z c BadValues lent = refuse (TakingCells z c) lent 8
+on_cells z c None lent = refuse (TakingCells z c) lent 8
 
 -- The sizes, if the state has them, by 1, 2, 19, 3; then 9 if it waits for the weight of a row outside its sheet. An
 -- ended state is left to 13, which goes before them.
@@ -178,13 +174,13 @@ end_taken i = end_in i.stage
 
 -- the sizes, if the intake has ended
 unfoldable pub ended_sizes : Stage → Option Sizes
-ended_sizes WaitingForSizeNames = none
-ended_sizes (WaitingForSizes c) = none
-ended_sizes (WaitingForWeightOrCellNames z) = none
-ended_sizes (WaitingForWeight z row) = none
-ended_sizes (WaitingForCellNames z) = none
-ended_sizes (TakingCells z c) = none
-ended_sizes (Ended z) = some z
+ended_sizes WaitingForSizeNames = None
+ended_sizes (WaitingForSizes c) = None
+ended_sizes (WaitingForWeightOrCellNames z) = None
+ended_sizes (WaitingForWeight z row) = None
+ended_sizes (WaitingForCellNames z) = None
+ended_sizes (TakingCells z c) = None
+ended_sizes (Ended z) = Some z
 
 abbrev pub new_intake : Intake
 new_intake = record { stage = WaitingForSizeNames }

@@ -1,8 +1,8 @@
 -- Lines that are accepted one after the other.
 use Rattle.std.specs.Prelude.{◌≡◌, List, [], ◌∷◌, ℕ}
 use Rattle.intake.specs.declared.Intake.{Intake}
-use Rattle.intake.specs.declared.TakenOutcome.TheVariants.{Accepted}
 use Rattle.intake.specs.Intake.{LentSheet, line_after}
+use Rattle.sheet.specs.Answer.{Accepted}
 
 -- the intake i accepts the lines one after the other; it is then j, and what is lent to it is then U
 pub data Takes : Intake → LentSheet → List (List ℕ) → Intake → LentSheet → Type 0 where

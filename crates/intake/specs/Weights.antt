@@ -1,10 +1,10 @@
 -- What lines do to the weights: statements about line_after.
+use Rattle.std.specs.Prelude.{Some}
 use Rattle.std.specs.Prelude.{◌≡◌, Bool, true, false, List, ℕ, length, get_or}
 use Rattle.lines.specs.declared.columns.Columns.{Columns}
 use Rattle.lines.specs.declared.values.Values.{Values}
-use Rattle.lines.specs.declared.values.ValuesLine.TheVariants.{Values as Valued}
 use Rattle.names.specs.Columns.{weight_columns}
-use Rattle.lines.specs.Values.{values_line}
+use Rattle.lines.specs.Values.{first_value, values_line}
 use Rattle.sheet.specs.Refusal.{weight_fits}
 use Rattle.faults.specs.declared.Sizes.{Sizes}
 use Rattle.intake.specs.declared.Stage.{Stage}
@@ -12,15 +12,15 @@ use Rattle.intake.specs.declared.Stage.TheVariants.{WaitingForSizeNames, Waiting
 use Rattle.intake.specs.declared.Stage.TheVariants.{WaitingForWeightOrCellNames, WaitingForWeight}
 use Rattle.intake.specs.declared.Stage.TheVariants.{WaitingForCellNames, TakingCells, Ended}
 use Rattle.intake.specs.declared.Intake.{Intake}
-use Rattle.intake.specs.declared.TakenOutcome.TheVariants.{Accepted}
 use Rattle.intake.specs.Intake.{LentSheet, After, first_set, line_after}
+use Rattle.sheet.specs.Answer.{Accepted}
 
 -- what an accepted weight line leaves: its row's weight is its value, from 1 to 1000, and all else is as it was
 pub record OwnWeight (row : ℕ) (line : List ℕ) (lent new : LentSheet) : Type 0 where
   pub values : Values
-  pub line_is : values_line weight_columns line ≡ Valued values
-  pub fits : weight_fits values.first ≡ true
-  pub own : get_or new.weights row 0 ≡ values.first
+  pub line_is : values_line weight_columns line ≡ Some values
+  pub fits : weight_fits (first_value values) ≡ true
+  pub own : get_or new.weights row 0 ≡ first_value values
   pub others : (other : ℕ) → (other ≡ row → ⊥) → get_or new.weights other 0 ≡ get_or lent.weights other 0
   pub as_long : length new.weights ≡ length lent.weights
   pub dirs_kept : new.dirs ≡ lent.dirs

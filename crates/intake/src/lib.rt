@@ -3,6 +3,8 @@
 
 ghost use Rattle.std.specs.Prelude.{◌≡◌, length};
 ghost use Rattle.intake.specs.Intake.{taken_values, lent_sheet, new_intake, state_fault, line_in, line_after, end_taken};
+ghost use Rattle.intake.specs.Intake.{ended_sizes, accepted, refused};
+ghost use Rattle.sheet.specs.Answer.{outcome_of_fault};
 
 mod cell_lines;
 mod name_lines;
@@ -14,6 +16,7 @@ use faults::Sizes;
 use faults::size_faults::{row_fault, sizes_fault};
 use lines::columns::Columns;
 use name_lines::{cell_names_line, size_names_line, weight_or_cell_names_line};
+use sheet::Refusal;
 use size_lines::sizes_line;
 use weight_lines::weight_line;
 
@@ -35,52 +38,59 @@ pub struct Intake {
     pub stage: Stage,
 }
 
-// The outcome of a line or of the end: accepted, or refused with document 01's number.
-#[derive(Clone, Copy)]
-pub enum TakenOutcome {
-    Accepted,
-    Refused(u8),
-}
-
-// The next state beside the outcome.
+// The next state beside the outcome of a line or of the end: both are handed back, on a refusal too.
 #[derive(Clone, Copy)]
 pub struct Taken {
     pub intake: Intake,
-    pub outcome: TakenOutcome,
+    pub outcome: Result<(), Refusal>,
 }
 
 // Document 01's number of an outcome; 0 is accepted.
-pub fn refusal_number(outcome: TakenOutcome) -> u8
+pub fn refusal_number(outcome: Result<(), Refusal>) -> u8
     ensures { result ≡ (taken_values outcome).number }
 {
     match outcome {
-        TakenOutcome::Accepted => 0,
-        TakenOutcome::Refused(number) => number,
+        Ok(()) => 0,
+        Err(refusal) => refusal.number,
     }
 }
 
-fn answer(stage: Stage, outcome: TakenOutcome) -> Taken
+// A line or an end that is accepted, and the state after it.
+fn accepted(next: Stage) -> Taken
+    ensures { result ≡ accepted next }
+{
+    answer(next, Ok(()))
+}
+
+// A refused line or end returns the state that it got.
+fn refused(stage: Stage, number: u8) -> Taken
+    ensures { result ≡ refused stage number }
+{
+    answer(stage, Err(Refusal::numbered(number)))
+}
+
+fn answer(stage: Stage, outcome: Result<(), Refusal>) -> Taken
     ensures { result ≡ record { intake = record { stage = stage }; outcome = outcome } }
 {
     Taken {
-        intake: Intake { stage: stage },
-        outcome: outcome,
+        intake: Intake { stage },
+        outcome,
     }
 }
 
-// The refusal of a state by its sizes, or by the row whose weight it waits for, or 0. An ended state has none: 13 goes
-// before it.
-fn state_fault(stage: Stage, dirs: usize, weights: usize) -> u8
-    ensures { result ≡ state_fault stage dirs weights }
+// The refusal of a state by its sizes, or by the row whose weight it waits for. An ended state has none: 13 goes before
+// it.
+fn state_fault(stage: Stage, dirs: usize, weights: usize) -> Result<(), Refusal>
+    ensures { result ≡ outcome_of_fault (state_fault stage dirs weights) }
 {
     match stage {
-        Stage::WaitingForSizeNames => 0,
-        Stage::WaitingForSizes(_) => 0,
+        Stage::WaitingForSizeNames => Ok(()),
+        Stage::WaitingForSizes(_) => Ok(()),
         Stage::WaitingForWeightOrCellNames(sizes) => sizes_fault(sizes, dirs, weights),
         Stage::WaitingForWeight(sizes, row) => row_fault(sizes, row, dirs, weights),
         Stage::WaitingForCellNames(sizes) => sizes_fault(sizes, dirs, weights),
         Stage::TakingCells(sizes, _) => sizes_fault(sizes, dirs, weights),
-        Stage::Ended(_) => 0,
+        Stage::Ended(_) => Ok(()),
     }
 }
 
@@ -97,7 +107,7 @@ fn line_in(stage: Stage, line: &[u8], dirs: &mut [u8], weights: &mut [u16]) -> T
         Stage::WaitingForWeight(sizes, row) => weight_line(sizes, row, line, weights),
         Stage::WaitingForCellNames(sizes) => cell_names_line(stage, sizes, line),
         Stage::TakingCells(sizes, columns) => cell_line(sizes, columns, line, dirs),
-        Stage::Ended(_) => answer(stage, TakenOutcome::Refused(13)),
+        Stage::Ended(_) => refused(stage, 13),
     }
 }
 
@@ -119,27 +129,37 @@ impl Intake {
             (lent_sheet dirs.old weights.old)).taken.outcome }
     {
         let stage = self.stage;
-        let fault = state_fault(stage, dirs.len(), weights.len());
-        if fault == 0 {
-            return line_in(stage, line, dirs, weights);
+        match state_fault(stage, dirs.len(), weights.len()) {
+            Ok(()) => line_in(stage, line, dirs, weights),
+            Err(refusal) => answer(stage, Err(refusal)),
         }
-        answer(stage, TakenOutcome::Refused(fault))
     }
 
     // Takes the end of the file.
+    #[tactic(auto, unfolding(crate::specs::Intake::end_taken, crate::specs::Intake::end_in))]
     pub fn end(self) -> Taken
         ensures taken { result ≡ end_taken self }
         ensures values { taken_values result.outcome ≡ taken_values (end_taken self).outcome }
     {
         let stage = self.stage;
         match stage {
-            Stage::WaitingForSizeNames => answer(stage, TakenOutcome::Refused(14)),
-            Stage::WaitingForSizes(_) => answer(stage, TakenOutcome::Refused(14)),
-            Stage::WaitingForWeightOrCellNames(_) => answer(stage, TakenOutcome::Refused(14)),
-            Stage::WaitingForWeight(_, _) => answer(stage, TakenOutcome::Refused(14)),
-            Stage::WaitingForCellNames(_) => answer(stage, TakenOutcome::Refused(14)),
-            Stage::TakingCells(sizes, _) => answer(Stage::Ended(sizes), TakenOutcome::Accepted),
-            Stage::Ended(_) => answer(stage, TakenOutcome::Refused(13)),
+            Stage::WaitingForSizeNames => refused(stage, 14),
+            Stage::WaitingForSizes(_) => refused(stage, 14),
+            Stage::WaitingForWeightOrCellNames(_) => refused(stage, 14),
+            Stage::WaitingForWeight(_, _) => refused(stage, 14),
+            Stage::WaitingForCellNames(_) => refused(stage, 14),
+            Stage::TakingCells(sizes, _) => accepted(Stage::Ended(sizes)),
+            Stage::Ended(_) => refused(stage, 13),
+        }
+    }
+
+    // The sizes of the sheet, if the intake has ended.
+    pub fn ended_sizes(self) -> Option<Sizes>
+        ensures { result ≡ ended_sizes self.stage }
+    {
+        match self.stage {
+            Stage::Ended(sizes) => Some(sizes),
+            _ => None,
         }
     }
 }

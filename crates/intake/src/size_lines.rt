@@ -1,56 +1,26 @@
 // Sizes and their line.
-ghost use Rattle.std.specs.Prelude.{◌≡◌, ◌≤◌, length};
+ghost use Rattle.std.specs.Prelude.{◌≡◌, Some};
 ghost use Rattle.lines.specs.Values.{values_line};
-ghost use Rattle.lines.specs.declared.values.ValuesLine.{ValuesLine};
-ghost use Rattle.intake.specs.Intake.{lent_sheet, first_set, on_sizes};
+ghost use Rattle.intake.specs.Intake.{lent_sheet, on_sizes};
 
-use super::{Stage, Taken, TakenOutcome, answer};
+use super::{Stage, Taken, accepted, answer, refused};
 use faults::size_faults::{sizes_fault, sizes_in};
 use lines::columns::Columns;
-use lines::values::{Values, ValuesLine, read_values};
-
-// Sets the first n bytes to 0.
-fn clear(dirs: &mut [u8], n: usize)
-    requires { n ≤ length dirs.old }
-    ensures { dirs.new ≡ first_set n 0 dirs.old }
-{
-    let mut i = 0;
-    while i < n {
-        dirs[i] = 0;
-        i += 1;
-    }
-}
-
-// Sets the first n weights to 1.
-fn set_to_one(weights: &mut [u16], n: usize)
-    requires { n ≤ length weights.old }
-    ensures { weights.new ≡ first_set n 1 weights.old }
-{
-    let mut row = 0;
-    while row < n {
-        weights[row] = 1;
-        row += 1;
-    }
-}
+use lines::values::{Values, read_values};
 
 fn take_sizes(columns: Columns, values: Values, dirs: &mut [u8], weights: &mut [u16]) -> Taken
     ensures { record { taken = result; lent = lent_sheet dirs.new weights.new }
-        ≡ on_sizes columns (ValuesLine.Values values) (lent_sheet dirs.old weights.old) }
+        ≡ on_sizes columns (Some values) (lent_sheet dirs.old weights.old) }
 {
     let sizes = sizes_in(columns, values);
-    let fault = sizes_fault(sizes, dirs.len(), weights.len());
-    if fault == 0 {
-        clear(dirs, sizes.rows * sizes.cols);
-        set_to_one(weights, sizes.rows);
-        return answer(
-            Stage::WaitingForWeightOrCellNames(sizes),
-            TakenOutcome::Accepted,
-        );
+    match sizes_fault(sizes, dirs.len(), weights.len()) {
+        Ok(()) => {
+            dirs[..sizes.rows * sizes.cols].fill(0);
+            weights[..sizes.rows].fill(1);
+            accepted(Stage::WaitingForWeightOrCellNames(sizes))
+        }
+        Err(refusal) => answer(Stage::WaitingForSizes(columns), Err(refusal)),
     }
-    answer(
-        Stage::WaitingForSizes(columns),
-        TakenOutcome::Refused(fault),
-    )
 }
 
 pub fn sizes_line(columns: Columns, line: &[u8], dirs: &mut [u8], weights: &mut [u16]) -> Taken
@@ -58,8 +28,8 @@ pub fn sizes_line(columns: Columns, line: &[u8], dirs: &mut [u8], weights: &mut 
         ≡ on_sizes columns (values_line columns line.now)
         (lent_sheet dirs.old weights.old) }
 {
-    let ValuesLine::Values(values) = read_values(line, columns) else {
-        return answer(Stage::WaitingForSizes(columns), TakenOutcome::Refused(8));
+    let Some(values) = read_values(line, columns) else {
+        return refused(Stage::WaitingForSizes(columns), 8);
     };
     take_sizes(columns, values, dirs, weights)
 }

@@ -1,14 +1,13 @@
 // The weight of a row and its line.
-ghost use Rattle.std.specs.Prelude.{◌≡◌, List, ℕ, ◌<◌, ◌≤◌, length};
+ghost use Rattle.std.specs.Prelude.{◌≡◌, Some, List, ℕ, ◌<◌, ◌≤◌, length};
 ghost use Rattle.lines.specs.Values.{values_line};
 ghost use Rattle.names.specs.Columns.{weight_columns};
-ghost use Rattle.lines.specs.declared.values.ValuesLine.{ValuesLine};
 ghost use Rattle.intake.specs.Intake.{lent_sheet, after_weights, on_weight};
 
-use super::{Stage, Taken, TakenOutcome, answer};
+use super::{Stage, Taken, accepted, refused};
 use checks::weight_fits;
 use faults::Sizes;
-use lines::values::{Values, ValuesLine, read_values};
+use lines::values::{Values, read_values};
 
 // The stage after the weights of so many rows: it waits for the next row's, and after the last for cell names.
 fn after_weights(sizes: Sizes, count: usize) -> Stage
@@ -24,19 +23,16 @@ fn take_weight(sizes: Sizes, row: usize, values: Values, weights: &mut [u16]) ->
     requires row_lt_rows { row < sizes.rows }
     requires rows_in_bounds { sizes.rows ≤ length weights.old }
     ensures { (dirs : List ℕ) → record { taken = result; lent = lent_sheet dirs weights.new }
-        ≡ on_weight sizes row (ValuesLine.Values values) (lent_sheet dirs weights.old) }
+        ≡ on_weight sizes row (Some values) (lent_sheet dirs weights.old) }
 {
-    let weight = values.first;
+    let weight = values.places[0];
     let count = row + 1;
     if weight_fits(weight) {
         weights[row] = weight as u16;
         let next = after_weights(sizes, count);
-        return answer(next, TakenOutcome::Accepted);
+        return accepted(next);
     }
-    answer(
-        Stage::WaitingForWeight(sizes, row),
-        TakenOutcome::Refused(17),
-    )
+    refused(Stage::WaitingForWeight(sizes, row), 17)
 }
 
 pub fn weight_line(sizes: Sizes, row: usize, line: &[u8], weights: &mut [u16]) -> Taken
@@ -46,11 +42,8 @@ pub fn weight_line(sizes: Sizes, row: usize, line: &[u8], weights: &mut [u16]) -
         ≡ on_weight sizes row (values_line weight_columns line.now)
         (lent_sheet dirs weights.old) }
 {
-    let ValuesLine::Values(values) = read_values(line, names::weight_columns()) else {
-        return answer(
-            Stage::WaitingForWeight(sizes, row),
-            TakenOutcome::Refused(8),
-        );
+    let Some(values) = read_values(line, names::weight_columns()) else {
+        return refused(Stage::WaitingForWeight(sizes, row), 8);
     };
     take_weight(sizes, row, values, weights)
 }

@@ -8,8 +8,6 @@ use lib.Dec.{leb, eqb}
 use lib.ListN.{length, take, drop, replicate, length-replicate}
 use lib.Seq.{length-take-le}
 use borrow.Author.Tests.{leb-true, le-leb, eqb-true}
-use Rattle.sheet.specs.declared.Outcome.{Outcome}
-use Rattle.sheet.specs.declared.Outcome.TheVariants.{Accepted, Refused}
 use Rattle.sheet.specs.Sheet.{Sheet, cells}
 use Rattle.sheet.specs.Label.{areas_of, labels_of}
 use Rattle.sheet.specs.Basins.{basin_areas, basin_labels, basins_of}
@@ -22,6 +20,8 @@ use Rattle.sheet.proofs.Cells.{cells_most}
 use Rattle.sheet.proofs.Within.{both_true, no_fault, rows_cols_most, cols_some, depth_most, least_bounds}
 use Rattle.sheet.proofs.Within.{split_bounds}
 use Rattle.labelling.specs.Labelling.{checked_first, first_checks, Fitting}
+use Rattle.sheet.specs.Answer.{Outcome, Accepted, Refused}
+use Rattle.std.specs.Prelude.{Err}
 
 -- rows and columns, within their bounds
 pub record Bounded (rows cols : ℕ) : Type 0 where
@@ -217,14 +217,14 @@ module _ (S : Sheet) (L : Lent) where
     direct_areas Accepted e =
         ap (λ (new : List ℕ). written new L.areas)
         (sym (alone_is_direct S (accepted_from_17 S (sym e)).1).areas)
-    direct_areas (Refused number place) e = refl
+    direct_areas (Err refusal) e = refl
 
     direct_labels : (r : Outcome) → r ≡ outcome_from17 S
         → if_accepted r (labels_of S) L.labels ≡ if_accepted r (basin_labels S) L.labels
     direct_labels Accepted e =
         ap (λ (new : List ℕ). written new L.labels)
         (sym (alone_is_direct S (accepted_from_17 S (sym e)).1).labels)
-    direct_labels (Refused number place) e = refl
+    direct_labels (Err refusal) e = refl
 
     -- after checks 17 and 4 to 6
     pub labelled : {r : Outcome} {areas labels basins work : List ℕ} → r ≡ outcome_from17 S

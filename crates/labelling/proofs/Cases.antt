@@ -3,7 +3,6 @@
 use mathlib.Core.Path.{◌≡◌, refl}
 use mathlib.Core.List.{[], ◌∷◌}
 use lib.ListN.{replicate}
-use Rattle.sheet.specs.declared.Outcome.TheVariants.{Accepted, Refused}
 use Rattle.sheet.specs.Refusal.{Lent}
 use Rattle.faults.specs.declared.Sizes.{Sizes}
 use Rattle.intake.specs.declared.Stage.TheVariants.{WaitingForSizeNames, WaitingForSizes}
@@ -13,6 +12,7 @@ use Rattle.intake.specs.Intake.{LentSheet, lent_sheet}
 use Rattle.names.specs.Columns.{size_columns, cell_columns}
 use Rattle.labelling.specs.Labelling.{lent}
 use Rattle.labelling.specs.FromIntake.{intake_outcome, intake_lent}
+use Rattle.sheet.specs.Answer.{Accepted, Refused}
 
 abbrev one : Lent
 one = lent (7 ∷ 7 ∷ []) (7 ∷ 7 ∷ 7 ∷ []) (7 ∷ 7 ∷ []) (replicate 9 7)

@@ -1,9 +1,7 @@
 -- The statements of specs/Demand.antt hold of what the calls wrote.
 use mathlib.Core.Path.{◌≡◌, refl}
-use mathlib.Core.Option.{Option, none, some}
 use Prim.Native.Nat.{ℕ}
 use native.Mathlib.Omega.{arith}
-use Rattle.sheet.specs.declared.Outcome.TheVariants.{Accepted}
 use Rattle.sheet.specs.Sheet.{Sheet}
 use Rattle.sheet.specs.Refusal.{Lent, outcome, lent_after}
 use Rattle.faults.specs.declared.Sizes.{Sizes}
@@ -17,6 +15,8 @@ use Rattle.labelling.specs.FromIntake.{sheet_of, outcome_with, lent_with, intake
 use Rattle.labelling.specs.Demand.{LabelledDirectly, OfIntake, ForAllAccepted, DemandThreeWhole, FlowWhole}
 use Rattle.labelling.specs.Demand.{AsBeforeWhole, OneNumberWhole, OutletFlowWhole, BasinsWhole, AloneWhole}
 use Rattle.labelling.specs.Demand.{DirectWhole}
+use Rattle.sheet.specs.Answer.{Accepted}
+use Rattle.std.specs.Prelude.{None, Option, Some}
 
 -- what holds of every accepted sheet and what the definition writes, holds however it is labelled
 module _ (Statement : Sheet → Lent → Type 0)
@@ -27,8 +27,8 @@ module _ (Statement : Sheet → Lent → Type 0)
   from_sizes : (i : Intake) (sizes : Option Sizes) (T : LentSheet) (L L' : Lent) → ended_sizes i.stage ≡ sizes
       → outcome_with sizes T L ≡ Accepted → L' ≡ lent_with sizes T L → OfIntake Statement i T L'
   unfolding outcome_with lent_with
-  from_sizes i none T L L' e a f = let z : ◌≡◌ {A = ℕ} 0 1 = cc in absurd (omega arith)
-  from_sizes i (some z) T L L' e a f = record {
+  from_sizes i None T L L' e a f = let z : ◌≡◌ {A = ℕ} 0 1 = cc in absurd (omega arith)
+  from_sizes i (Some z) T L L' e a f = record {
     sizes = z;
     ended = e;
     holds = directly (sheet_of z T) L L' (record { accepted = a; after = f });

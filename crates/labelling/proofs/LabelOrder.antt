@@ -8,10 +8,7 @@ use Prim.Native.Nat.{ℕ, zero, suc, ◌+◌, ◌≤◌, ◌<◌}
 use native.Mathlib.Decide.{ℕ_discrete, dec_lt}
 use native.Mathlib.Omega.{arith}
 use lib.ListN.{length, get_or}
-use Rattle.sheet.specs.declared.Outcome.TheVariants.{Accepted}
 use Rattle.sheet.specs.Sheet.{Grid, Sheet, cells, inside, is_outlet, next}
-use Rattle.sheet.specs.declared.Next.{Next}
-use Rattle.sheet.specs.declared.Next.TheVariants.{Outlet}
 use Rattle.sheet.specs.Water.{Passes, here, there, DrainsTo}
 use Rattle.sheet.proofs.Cells.{next_goes}
 use Rattle.sheet.specs.Area.{count}
@@ -35,9 +32,11 @@ use Rattle.rivers.proofs.LabelOrder.{river_in_order}
 use Rattle.rivers.proofs.WrittenOrder.{same_in_order}
 use Rattle.order.specs.Places.{cells_in, sizes_in, BasinAt, Arranged}
 use Rattle.labelling.proofs.Steps.{network_in_lem}
+use Rattle.sheet.specs.Answer.{Next, Accepted}
+use Rattle.std.specs.Prelude.{None}
 
 -- water that goes nowhere passes its own cell alone
-nowhere : {next : ℕ → Next} {q p : ℕ} → next q ≡ Outlet → Passes next q p → q ≡ p
+nowhere : {next : ℕ → Next} {q p : ℕ} → next q ≡ None → Passes next q p → q ≡ p
 nowhere e here = refl
 nowhere e (there f h) = let z : ◌≡◌ {A = ℕ} 0 1 = cc in absurd (omega arith)
 

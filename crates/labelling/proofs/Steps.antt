@@ -9,7 +9,6 @@ use lib.ListN.{length, get_or, get_or-append, take, drop, replicate, length-take
 use lib.ListN.{get_or-eq_default}
 use lib.Seq.{get_or-take, get_or-append-add, length-take-le}
 use borrow.Rule.Slice.PartMut.{put_mid, mid_of, post_of, mid_len, same_len_mid}
-use Rattle.sheet.specs.declared.Outcome.TheVariants.{Accepted, Refused}
 use Rattle.sheet.specs.Sheet.{Grid, Sheet, cells, inside}
 use Rattle.sheet.specs.Area.{area}
 use Rattle.sheet.specs.River.{network, network_by}
@@ -37,6 +36,7 @@ use Rattle.order.specs.Network.{area_in, network_in}
 use Rattle.order.specs.Places.{cells_in, sizes_in, Surveyed, Arranged}
 use Rattle.labelling.specs.Labelling.{Fitting, Inspected, BasinsOf, InspectedAs}
 use Rattle.labelling.proofs.Labels.{written_length, outside_past, labels_over, basins_over}
+use Rattle.sheet.specs.Answer.{Accepted, Refused}
 
 module _ (S : Sheet) where
   areas_length : (areas : List ℕ) → cells S.grid ≤ length areas → length (written (areas_of S) areas) ≡ length areas

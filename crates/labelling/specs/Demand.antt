@@ -1,8 +1,6 @@
 -- The third demand, what the flow question and the outlet question say, basins, and the labels of document 01, about
 -- what the calls wrote: directly, and from an intake.
-use Rattle.std.specs.Prelude.{◌≡◌, ℕ}
-use Rattle.std.proofs.Math.Option.{some}
-use Rattle.sheet.specs.declared.Outcome.TheVariants.{Accepted}
+use Rattle.std.specs.Prelude.{◌≡◌, ℕ, Some}
 use Rattle.sheet.specs.Sheet.{Sheet}
 use Rattle.sheet.specs.Refusal.{Lent, outcome, lent_after}
 use Rattle.faults.specs.declared.Sizes.{Sizes}
@@ -13,6 +11,7 @@ use Rattle.claims.specs.Alone.{BasinsMeaning, AloneMeaning, DirectMeaning}
 use Rattle.claims.specs.AsBefore.{AsBefore, OneNumber}
 use Rattle.claims.specs.Flow.{FlowMeaning, OutletFlowMeaning}
 use Rattle.labelling.specs.FromIntake.{sheet_of, intake_outcome, intake_lent}
+use Rattle.sheet.specs.Answer.{Accepted}
 
 -- what the contract of `label` promises of an accepted call: L was lent, and L' is what the slices hold afterwards
 pub record LabelledDirectly (S : Sheet) (L L' : Lent) : Type 0 where
@@ -27,7 +26,7 @@ pub record LabelledFrom (i : Intake) (T : LentSheet) (L L' : Lent) : Type 0 wher
 -- a statement about a sheet and what was written for it, of the sheet of an intake that had ended
 pub record OfIntake (Statement : Sheet → Lent → Type 0) (i : Intake) (T : LentSheet) (L : Lent) : Type 0 where
   pub sizes : Sizes
-  pub ended : ended_sizes i.stage ≡ some sizes
+  pub ended : ended_sizes i.stage ≡ Some sizes
   pub holds : Statement (sheet_of sizes T) L
 
 -- a statement for all accepted sheets, however they are labelled; acceptance is the only hypothesis

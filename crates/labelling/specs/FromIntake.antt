@@ -1,13 +1,12 @@
 -- Labelling from an intake: 15 if it has not ended, then as a direct call with its sizes.
-use Rattle.std.proofs.Math.Option.{Option, none, some}
-use Rattle.sheet.specs.declared.Outcome.{Outcome}
-use Rattle.sheet.specs.declared.Outcome.TheVariants.{Refused}
 use Rattle.sheet.specs.Sheet.{Sheet}
 use Rattle.sheet.specs.Refusal.{Lent, outcome, lent_after}
 use Rattle.faults.specs.declared.Sizes.{Sizes}
 use Rattle.intake.specs.declared.Intake.{Intake}
 use Rattle.intake.specs.Intake.{LentSheet, ended_sizes}
 use Rattle.labelling.specs.Labelling.{sheet}
+use Rattle.sheet.specs.Answer.{Outcome, Refused}
+use Rattle.std.specs.Prelude.{None, Option, Some}
 
 -- the sheet of an intake's sizes z, with the direction bytes and weights T that were lent to it
 abbrev pub sheet_of : Sizes → LentSheet → Sheet
@@ -15,13 +14,13 @@ sheet_of z T = sheet z.rows z.cols z.depth z.least z.split T.dirs T.weights
 
 unfoldable pub outcome_with : Option Sizes → LentSheet → Lent → Outcome
 unfolding outcome
-outcome_with none T L = Refused 15 0
-outcome_with (some z) T L = outcome (sheet_of z T) L
+outcome_with None T L = Refused 15 0
+outcome_with (Some z) T L = outcome (sheet_of z T) L
 
 unfoldable pub lent_with : Option Sizes → LentSheet → Lent → Lent
 unfolding lent_after
-lent_with none T L = L
-lent_with (some z) T L = lent_after (sheet_of z T) L
+lent_with None T L = L
+lent_with (Some z) T L = lent_after (sheet_of z T) L
 
 -- the outcome of labelling from an intake
 unfoldable pub intake_outcome : Intake → LentSheet → Lent → Outcome

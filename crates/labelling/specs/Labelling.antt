@@ -7,12 +7,11 @@ use Rattle.sheet.specs.Label.{areas_of, labels_of}
 use Rattle.sheet.specs.Basins.{basins_of}
 use Rattle.sheet.specs.Refusal.{Lent, both, sheet_fault, outcome_on, outcome_from17, if_accepted}
 use Rattle.sheet.specs.River.{network}
-use Rattle.sheet.specs.declared.Outcome.{Outcome}
-use Rattle.sheet.specs.declared.Outcome.TheVariants.{Accepted, Refused}
 use Rattle.upstream.specs.Search.{Drained}
 use Rattle.drainage.specs.declared.Inspection.{Inspection}
 use Rattle.rivers.specs.Layout.{LayoutOf}
 use Rattle.order.specs.Places.{BasinAt, Arranged}
+use Rattle.sheet.specs.Answer.{Outcome, Accepted, Refused}
 
 abbrev pub sheet : ℕ → ℕ → ℕ → ℕ → ℕ → List ℕ → List ℕ → Sheet
 sheet rows cols depth least split dirs weights = record {

@@ -36,6 +36,7 @@ pub(crate) fn label_basins(
     let rule = Rule { split, least };
     let mut number = 1;
     let mut j = 0;
+    // A `while`, since a turn leaps over a basin.
     while j < cell.len() {
         label_basin(j, number, depth, rule, cell, size, area, labels, basins);
         number += 1;

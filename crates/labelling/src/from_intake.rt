@@ -6,8 +6,8 @@ ghost use Rattle.labelling.specs.Labelling.{lent};
 ghost use Rattle.labelling.specs.FromIntake.{intake_outcome, intake_lent};
 
 use crate::label;
-use intake::{Intake, Stage};
-use sheet::Outcome;
+use intake::Intake;
+use sheet::Refusal;
 
 // Labels the sheet of an intake: refused 15 if it has not ended, then as a direct call with its sizes.
 pub fn label_intake(
@@ -18,7 +18,7 @@ pub fn label_intake(
     labels: &mut [u64],
     basins: &mut [u32],
     work: &mut [u32],
-) -> Outcome
+) -> Result<(), Refusal>
     ensures outcome { result ≡ intake_outcome intake (lent_sheet dirs.now weights.now)
         (lent areas.old labels.old basins.old work.old) }
     ensures values { outcome_values result
@@ -28,28 +28,8 @@ pub fn label_intake(
         ≡ intake_lent intake (lent_sheet dirs.now weights.now)
         (lent areas.old labels.old basins.old work.old) }
 {
-    let stage = intake.stage;
-    match stage {
-        Stage::WaitingForSizeNames => Outcome::Refused(15, 0),
-        Stage::WaitingForSizes(_) => Outcome::Refused(15, 0),
-        Stage::WaitingForWeightOrCellNames(_) => Outcome::Refused(15, 0),
-        Stage::WaitingForWeight(_, _) => Outcome::Refused(15, 0),
-        Stage::WaitingForCellNames(_) => Outcome::Refused(15, 0),
-        Stage::TakingCells(_, _) => Outcome::Refused(15, 0),
-        Stage::Ended(sizes) => {
-            label(
-                sizes.rows,
-                sizes.cols,
-                sizes.depth,
-                sizes.least,
-                sizes.split,
-                dirs,
-                weights,
-                areas,
-                labels,
-                basins,
-                work,
-            )
-        }
-    }
+    let Some(sizes) = intake.ended_sizes() else {
+        return Err(Refusal::numbered(15));
+    };
+    label(sizes, dirs, weights, areas, labels, basins, work)
 }

@@ -10,35 +10,26 @@ ghost use Rattle.sheet.specs.Record.{label_places};
 ghost use Rattle.sheet.specs.Label.{areas_of, labels_of};
 ghost use Rattle.sheet.specs.Basins.{basins_of};
 ghost use Rattle.sheet.specs.Refusal.{written, if_accepted, both, outcome_from17, outcome, outcome_values, lent_after};
+ghost use Rattle.sheet.specs.Answer.{Accepted};
 ghost use Rattle.directions.specs.Sizes.{most_cells, Sized};
 ghost use Rattle.upstream.specs.Work.{Unranked};
+ghost use Rattle.intake.specs.Intake.{lent_sheet};
+ghost use Rattle.labelling.specs.FromIntake.{sheet_of};
 ghost use Rattle.labelling.specs.Labelling.{sheet, lent, checked_first, Fitting, Inspected, InspectedAs};
 ghost use Rattle.labelling.specs.Labelling.{LabelledInOrder};
 ghost use Rattle.order.specs.Places.{Arranged};
 
 use crate::basins::label_basins;
 use checks::{clear_first, clear_places};
+use directions::Grid;
 use drainage::Inspection;
-use sheet::Outcome;
+use faults::Sizes;
+use sheet::Refusal;
 use upstream::parts;
-
-// Sets the first numbers of a slice of labels to 0, so many.
-fn clear_labels(labels: &mut [u64], numbers: usize)
-    requires { numbers ≤ length labels.old }
-    ensures { labels.new ≡ written (replicate numbers 0) labels.old }
-{
-    for i in 0..numbers {
-        labels[i] = 0;
-    }
-}
 
 // Writes the areas, labels and basins of an accepted sheet, and leaves its order along rivers in the work places.
 fn write_labels(
-    rows: usize,
-    cols: usize,
-    depth: usize,
-    least: usize,
-    split: usize,
+    sizes: Sizes,
     dirs: &[u8],
     weights: &[u16],
     queued: usize,
@@ -47,35 +38,40 @@ fn write_labels(
     basins: &mut [u32],
     work: &mut [u32],
 )
-    requires fitting { Fitting (sheet rows cols depth least split dirs.now weights.now)
+    requires fitting { Fitting (sheet_of sizes (lent_sheet dirs.now weights.now))
         (lent areas.old labels.old basins.old work.old) }
-    requires inspected { Inspected (sheet rows cols depth least split dirs.now weights.now) work.old queued }
+    requires inspected { Inspected (sheet_of sizes (lent_sheet dirs.now weights.now)) work.old queued }
     ensures areas { areas.new
-        ≡ written (areas_of (sheet rows cols depth least split dirs.now weights.now))
+        ≡ written (areas_of (sheet_of sizes (lent_sheet dirs.now weights.now)))
         areas.old }
     ensures labels { labels.new
-        ≡ written (labels_of (sheet rows cols depth least split dirs.now weights.now))
+        ≡ written (labels_of (sheet_of sizes (lent_sheet dirs.now weights.now)))
         labels.old }
     ensures basins { basins.new
-        ≡ written (basins_of (grid rows cols dirs.now)) basins.old }
-    ensures order { Arranged (grid rows cols dirs.now) areas.new
+        ≡ written (basins_of (grid sizes.rows sizes.cols dirs.now)) basins.old }
+    ensures order { Arranged (grid sizes.rows sizes.cols dirs.now) areas.new
         work.new queued }
 {
-    let n = rows * cols;
-    clear_labels(labels, 2 * n);
+    let n = sizes.rows * sizes.cols;
+    let grid = Grid {
+        rows: sizes.rows,
+        cols: sizes.cols,
+        dirs,
+    };
+    labels[..2 * n].fill(0);
     clear_first(basins, n);
-    drainage::measure::measure(dirs, rows, cols, weights, work, queued, areas);
-    order::positions::arrange(dirs, rows, cols, areas, queued, work);
+    drainage::measure::measure(grid, weights, work, queued, areas);
+    order::positions::arrange(grid, areas, queued, work);
     let cells = parts::CELLS * n;
     let cells_end = cells + queued;
-    let sizes = parts::ORDERED_SIZES * n;
-    let sizes_end = sizes + queued;
+    let ordered_sizes = parts::ORDERED_SIZES * n;
+    let ordered_sizes_end = ordered_sizes + queued;
     label_basins(
-        depth,
-        split,
-        least as u32,
+        sizes.depth,
+        sizes.split,
+        sizes.least as u32,
         &work[cells..cells_end],
-        &work[sizes..sizes_end],
+        &work[ordered_sizes..ordered_sizes_end],
         areas,
         labels,
         basins,
@@ -85,11 +81,7 @@ fn write_labels(
 // The same, if the sheet is accepted.
 fn write_if_accepted(
     found: Inspection,
-    rows: usize,
-    cols: usize,
-    depth: usize,
-    least: usize,
-    split: usize,
+    sizes: Sizes,
     dirs: &[u8],
     weights: &[u16],
     areas: &mut [u32],
@@ -97,55 +89,51 @@ fn write_if_accepted(
     basins: &mut [u32],
     work: &mut [u32],
 )
-    requires fitting { Fitting (sheet rows cols depth least split dirs.now weights.now)
+    requires fitting { Fitting (sheet_of sizes (lent_sheet dirs.now weights.now))
         (lent areas.old labels.old basins.old work.old) }
     requires inspected { found.outcome
-        ≡ Outcome.Accepted
-        → Inspected (sheet rows cols depth least split dirs.now weights.now) work.old found.queued }
+        ≡ Accepted
+        → Inspected (sheet_of sizes (lent_sheet dirs.now weights.now)) work.old found.queued }
     ensures areas { areas.new
-        ≡ if_accepted found.outcome (areas_of (sheet rows cols depth least split dirs.now
-        weights.now))
+        ≡ if_accepted found.outcome (areas_of (sheet_of sizes (lent_sheet dirs.now weights.now)))
         areas.old }
     ensures labels { labels.new
-        ≡ if_accepted found.outcome (labels_of (sheet rows cols depth least split dirs.now
-        weights.now))
+        ≡ if_accepted found.outcome (labels_of (sheet_of sizes (lent_sheet dirs.now weights.now)))
         labels.old }
     ensures basins { basins.new
-        ≡ if_accepted found.outcome (basins_of (grid rows cols dirs.now)) basins.old }
+        ≡ if_accepted found.outcome (basins_of (grid sizes.rows sizes.cols dirs.now)) basins.old }
     ensures order { found.outcome
-        ≡ Outcome.Accepted
-        → Arranged (grid rows cols dirs.now) areas.new work.new found.queued }
+        ≡ Accepted
+        → Arranged (grid sizes.rows sizes.cols dirs.now) areas.new work.new found.queued }
 {
-    let outcome = found.outcome;
-    let queued = found.queued;
-    match outcome {
-        Outcome::Accepted => {
-            write_labels(
-                rows, cols, depth, least, split, dirs, weights, queued, areas, labels, basins, work,
-            )
-        }
-        Outcome::Refused(_, _) => {}
+    match found.outcome {
+        Ok(()) => write_labels(
+            sizes,
+            dirs,
+            weights,
+            found.queued,
+            areas,
+            labels,
+            basins,
+            work,
+        ),
+        Err(_) => {}
     }
 }
 
 // Check 17, then 4 to 6, of a sheet that passed the checks before.
-fn inspect_sheet(
-    rows: usize,
-    cols: usize,
-    dirs: &[u8],
-    weights: &[u16],
-    work: &mut [u32],
-) -> Inspection
-    requires { Sized rows cols dirs.now × (rows ≤ length weights.now) × Unranked (rows * cols) work.old }
+fn inspect_sheet(grid: Grid<'_>, weights: &[u16], work: &mut [u32]) -> Inspection
+    requires { Sized grid.rows grid.cols grid.dirs.now × (grid.rows ≤ length weights.now)
+        × Unranked (grid.rows * grid.cols) work.old }
     ensures { (depth least split : ℕ) → InspectedAs
-        (sheet rows cols depth least split dirs.now weights.now)
+        (sheet grid.entry.rows grid.entry.cols depth least split grid.entry.dirs.now weights.now)
         work.new result }
 {
-    if checks::weights_fit(weights, rows) {
-        return drainage::inspect::inspect(dirs, rows, cols, work);
+    if checks::weights_fit(weights, grid.rows) {
+        return drainage::inspect::inspect(grid, work);
     }
     Inspection {
-        outcome: Outcome::Refused(17, 0),
+        outcome: Err(Refusal::numbered(17)),
         queued: 0,
     }
 }
@@ -153,11 +141,7 @@ fn inspect_sheet(
 // Labels a sheet that passed the first checks. Of an accepted sheet the order along rivers is left in the work places,
 // with the number of its cells.
 pub fn label_in_order(
-    rows: usize,
-    cols: usize,
-    depth: usize,
-    least: usize,
-    split: usize,
+    sizes: Sizes,
     dirs: &[u8],
     weights: &[u16],
     areas: &mut [u32],
@@ -165,58 +149,55 @@ pub fn label_in_order(
     basins: &mut [u32],
     work: &mut [u32],
 ) -> Inspection
-    requires { Fitting (sheet rows cols depth least split dirs.now weights.now)
+    requires { Fitting (sheet_of sizes (lent_sheet dirs.now weights.now))
         (lent areas.old labels.old basins.old work.old) }
-    ensures { LabelledInOrder (sheet rows cols depth least split dirs.now weights.now)
+    ensures { LabelledInOrder (sheet_of sizes (lent_sheet dirs.now weights.now))
         (lent areas.old labels.old basins.old work.old)
         (lent areas.new labels.new basins.new work.new) result }
 {
-    let n = rows * cols;
+    let n = sizes.rows * sizes.cols;
     let ranks = parts::RANKS * n;
     let end = ranks + n;
     clear_places(&mut work[ranks..end]);
-    let found = inspect_sheet(rows, cols, dirs, weights, work);
-    write_if_accepted(
-        found, rows, cols, depth, least, split, dirs, weights, areas, labels, basins, work,
-    );
+    let grid = Grid {
+        rows: sizes.rows,
+        cols: sizes.cols,
+        dirs,
+    };
+    let found = inspect_sheet(grid, weights, work);
+    write_if_accepted(found, sizes, dirs, weights, areas, labels, basins, work);
     found
 }
 
 // Labels a sheet that passed the first checks. The work places are 0 afterwards.
 fn label_fitting(
-    rows: usize,
-    cols: usize,
-    depth: usize,
-    least: usize,
-    split: usize,
+    sizes: Sizes,
     dirs: &[u8],
     weights: &[u16],
     areas: &mut [u32],
     labels: &mut [u64],
     basins: &mut [u32],
     work: &mut [u32],
-) -> Outcome
-    requires { Fitting (sheet rows cols depth least split dirs.now weights.now)
+) -> Result<(), Refusal>
+    requires { Fitting (sheet_of sizes (lent_sheet dirs.now weights.now))
         (lent areas.old labels.old basins.old work.old) }
-    ensures outcome { result ≡ outcome_from17 (sheet rows cols depth least split dirs.now
-        weights.now) }
+    ensures outcome { result ≡ outcome_from17 (sheet_of sizes (lent_sheet dirs.now weights.now)) }
     ensures areas { areas.new
-        ≡ if_accepted result (areas_of (sheet rows cols depth least split dirs.now weights.now))
+        ≡ if_accepted result (areas_of (sheet_of sizes (lent_sheet dirs.now weights.now)))
         areas.old }
     ensures labels { labels.new
-        ≡ if_accepted result (labels_of (sheet rows cols depth least split dirs.now weights.now))
+        ≡ if_accepted result (labels_of (sheet_of sizes (lent_sheet dirs.now weights.now)))
         labels.old }
     ensures basins { basins.new
-        ≡ if_accepted result (basins_of (grid rows cols dirs.now)) basins.old }
-    ensures work { work.new ≡ replicate (8 * (rows * cols)) 0 }
+        ≡ if_accepted result (basins_of (grid sizes.rows sizes.cols dirs.now)) basins.old }
+    ensures work { work.new ≡ replicate (8 * (sizes.rows * sizes.cols)) 0 }
 {
-    let found = label_in_order(
-        rows, cols, depth, least, split, dirs, weights, areas, labels, basins, work,
-    );
+    let found = label_in_order(sizes, dirs, weights, areas, labels, basins, work);
     clear_places(work);
     found.outcome
 }
 
+#[tactic(auto, unfolding(sheet::specs::Record::label_places))]
 // Enough places are lent for n cells in so many rows.
 fn slices_fit(
     n: usize,
@@ -233,112 +214,73 @@ fn slices_fit(
         (both (leb rows weights) (both (leb n areas)
         (both (leb n (label_places labels)) (both (leb n basins) (leb (8 * n) work))))) }
 {
-    if dirs < n {
-        return false;
-    }
-    if weights < rows {
-        return false;
-    }
-    if areas < n {
-        return false;
-    }
-    if labels / 2 < n {
-        return false;
-    }
-    if basins < n {
-        return false;
-    }
-    8 * n <= work
+    dirs >= n && weights >= rows && areas >= n && labels / 2 >= n && basins >= n && work >= 8 * n
 }
 
 // Checks 1, 2, 19 and 3, in this order, of a sheet's numbers and the lengths of its slices.
 pub fn first_checks(
-    rows: usize,
-    cols: usize,
-    depth: usize,
-    least: usize,
-    split: usize,
+    sizes: Sizes,
     dirs: usize,
     weights: usize,
     areas: usize,
     labels: usize,
     basins: usize,
     work: usize,
-) -> Outcome
-    ensures { result ≡ checked_first rows cols depth least split dirs weights areas labels basins work }
+) -> Result<(), Refusal>
+    ensures { result ≡ checked_first sizes.rows sizes.cols sizes.depth sizes.least sizes.split dirs weights
+        areas labels basins work }
 {
-    let fault = checks::sheet_fault(rows, cols, depth, least, split);
-    if fault == 0 {
-        if slices_fit(
-            rows * cols,
-            rows,
-            dirs,
-            weights,
-            areas,
-            labels,
-            basins,
-            work,
-        ) {
-            return Outcome::Accepted;
-        }
-        return Outcome::Refused(3, 0);
+    checks::sheet_fault(
+        sizes.rows,
+        sizes.cols,
+        sizes.depth,
+        sizes.least,
+        sizes.split,
+    )?;
+    let n = sizes.rows * sizes.cols;
+    if !slices_fit(n, sizes.rows, dirs, weights, areas, labels, basins, work) {
+        return Err(Refusal::numbered(3));
     }
-    Outcome::Refused(fault, 0)
+    Ok(())
 }
 
 // Labels a sheet, whose weights are one a row: refusals 1, 2, 19, 3, 17, 4, 5 and 6, in this order, with their numbers
 // and places; accepted, the first rows × cols areas, labels and basins are written.
 pub fn label(
-    rows: usize,
-    cols: usize,
-    depth: usize,
-    least: usize,
-    split: usize,
+    sizes: Sizes,
     dirs: &[u8],
     weights: &[u16],
     areas: &mut [u32],
     labels: &mut [u64],
     basins: &mut [u32],
     work: &mut [u32],
-) -> Outcome
-    ensures outcome { result ≡ outcome (sheet rows cols depth least split dirs.now weights.now)
+) -> Result<(), Refusal>
+    ensures outcome { result ≡ outcome (sheet_of sizes (lent_sheet dirs.now weights.now))
         (lent areas.old labels.old basins.old work.old) }
     ensures values { outcome_values result
-        ≡ outcome_values (outcome (sheet rows cols depth least split dirs.now weights.now)
+        ≡ outcome_values (outcome (sheet_of sizes (lent_sheet dirs.now weights.now))
         (lent areas.old labels.old basins.old work.old)) }
     ensures lent { lent areas.new labels.new basins.new work.new
-        ≡ lent_after (sheet rows cols depth least split dirs.now weights.now)
+        ≡ lent_after (sheet_of sizes (lent_sheet dirs.now weights.now))
         (lent areas.old labels.old basins.old work.old) }
 {
-    match first_checks(
-        rows,
-        cols,
-        depth,
-        least,
-        split,
+    first_checks(
+        sizes,
         dirs.len(),
         weights.len(),
         areas.len(),
         labels.len(),
         basins.len(),
         work.len(),
-    ) {
-        Outcome::Accepted => {
-            let places = 8 * (rows * cols);
-            label_fitting(
-                rows,
-                cols,
-                depth,
-                least,
-                split,
-                dirs,
-                weights,
-                areas,
-                labels,
-                basins,
-                &mut work[..places],
-            )
-        }
-        Outcome::Refused(number, place) => Outcome::Refused(number, place),
-    }
+    )?;
+    let places = 8 * (sizes.rows * sizes.cols);
+    label_fitting(
+        sizes,
+        dirs,
+        weights,
+        areas,
+        labels,
+        basins,
+        &mut work[..places],
+    )
 }

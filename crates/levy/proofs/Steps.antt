@@ -7,8 +7,6 @@ use native.Mathlib.Nat.{add-zero}
 use native.Mathlib.Omega.{arith}
 use lib.Dec.{leb}
 use lib.ListN.{length, get_or, drop, replicate, length-take, length-drop}
-use Rattle.sheet.specs.declared.Outcome.{Outcome}
-use Rattle.sheet.specs.declared.Outcome.TheVariants.{Accepted, Refused as NotLabelled}
 use Rattle.sheet.specs.Sheet.{Sheet, cells}
 use Rattle.sheet.specs.Area.{row_weight, weight, area}
 use Rattle.sheet.specs.Record.{label_places}
@@ -24,8 +22,6 @@ use Rattle.drainage.specs.declared.Inspection.{Inspection}
 use Rattle.upstream.specs.Work.{ordered_sizes_part}
 use Rattle.order.specs.Places.{cells_in, sizes_in, Arranged}
 use Rattle.labelling.specs.Labelling.{lent, first_checks, Fitting, LabelledInOrder}
-use Rattle.index.specs.declared.Indexed.{Indexed}
-use Rattle.index.specs.declared.Indexed.TheVariants.{Units, Refused}
 use Rattle.index.specs.Units.{UnitEntry, units}
 use Rattle.index.specs.Index.{LentIndex, index_fits, room_for, indexed_on, if_indexed}
 use Rattle.index.specs.Steps.{CellsLabelled, groups_of}
@@ -37,6 +33,8 @@ use Rattle.dues.specs.Steps.{LevyInOrder, LeviedInOrder, LeviedFitting}
 use Rattle.dues.proofs.BasinParts.{sizes, part_within, part_outlet, part_long, part_at}
 use Rattle.dues.proofs.UnitWeights.{dues_are, outlet_inside, outlet_area, whole_some, whole_most, listed_weight}
 use Rattle.dues.proofs.UnitWeights.{groups_long, listed_parts}
+use Rattle.sheet.specs.Answer.{Outcome, Counted, Accepted, Refused}
+use Rattle.std.specs.Prelude.{Err, Ok}
 
 -- the lengths of the slices after labelling
 pub record Lengths (S : Sheet) (L' : Lent) : Type 0 where
@@ -210,10 +208,10 @@ module _ (S : Sheet) (L : Lent) (passed : first_checks S L ≡ Accepted) (fit : 
           → with_dues (indexed_on x (length groups) I) places D
           ≡ with_dues (indexed_on x (length (units S)) I) (length (units_of_basin S basin)) D
       go Accepted e = rw (groups_of_accepted S L passed o e, wanted e) refl
-      go (NotLabelled number place) e = refl
+      go (Err refusal) e = refl
 
   -- an answer other than a refusal comes of an accepted labelling
-  index_is : (I : LentIndex) (D : List ℕ) {r : Indexed}
+  index_is : (I : LentIndex) (D : List ℕ) {r : Counted}
       → r ≡ with_dues (indexed_on found.outcome (length groups) I) places D
       → if_indexed r groups I ≡ if_indexed r (units S) I
   unfolding indexed_on with_dues
@@ -222,9 +220,9 @@ module _ (S : Sheet) (L : Lent) (passed : first_checks S L ≡ Accepted) (fit : 
       go : (x : Outcome) → found.outcome ≡ x → r ≡ with_dues (indexed_on x (length groups) I) places D
           → if_indexed r groups I ≡ if_indexed r (units S) I
       go Accepted e h = rw (groups_of_accepted S L passed o e) refl
-      go (NotLabelled number place) e h = rw h refl
+      go (Err refusal) e h = rw h refl
 
-  dues_is : (I : LentIndex) (D : List ℕ) {r : Indexed}
+  dues_is : (I : LentIndex) (D : List ℕ) {r : Counted}
       → r ≡ with_dues (indexed_on found.outcome (length groups) I) places D
       → if_levied r (dues_by total (sum row_weight_of part) 0 (group_weights row_weight_of part L'.labels L'.basins)) D
       ≡ if_levied r (dues_of S basin total) D
@@ -236,9 +234,9 @@ module _ (S : Sheet) (L : Lent) (passed : first_checks S L ≡ Accepted) (fit : 
           (dues_by total (sum row_weight_of part) 0 (group_weights row_weight_of part L'.labels L'.basins)) D
           ≡ if_levied r (dues_of S basin total) D
       go Accepted e h = ap (λ (new : List ℕ). if_levied r new D) (dues_by_lem e)
-      go (NotLabelled number place) e h = rw h refl
+      go (Err refusal) e h = rw h refl
 
-  pub levied_fitting : {I I' : LentIndex} {D D' work : List ℕ} {r : Indexed}
+  pub levied_fitting : {I I' : LentIndex} {D D' work : List ℕ} {r : Counted}
       → LeviedInOrder found.outcome total S.grid.cols S.weights L'.labels L'.basins cs part I I' D D' r
       → work ≡ replicate (8 * cells S.grid) 0
       → LeviedFitting S L (lent L'.areas L'.labels L'.basins work) I I' basin total D D' r
@@ -271,11 +269,11 @@ module _ (total cols : ℕ) (weights labels basins all those D : List ℕ) (I : 
   unfolding with_dues indexed_on room_for
   too_short h = record { answer = rw labelled (go (index_fits count I)); index = refl; dues = refl }
     where
-      go : (b : Bool) → Refused 3 0 ≡ with_dues (cond b (Units count) (Refused 3 0)) asked D
+      go : (b : Bool) → Refused 3 0 ≡ with_dues (cond b (Ok count) (Refused 3 0)) asked D
       go true = rw h refl
       go false = refl
 
-  pub filled : {I' : LentIndex} {D' : List ℕ} {r : Indexed} → leb asked (length D) ≡ true → r ≡ indexed_on o count I
+  pub filled : {I' : LentIndex} {D' : List ℕ} {r : Counted} → leb asked (length D) ≡ true → r ≡ indexed_on o count I
       → I' ≡ if_indexed r (groups_of all labels basins) I
       → D' ≡ if_levied r (dues_by total (sum (row_weight cols weights) those) 0
       (group_weights (row_weight cols weights) those labels basins)) D
@@ -283,13 +281,13 @@ module _ (total cols : ℕ) (weights labels basins all those D : List ℕ) (I : 
   unfolding with_dues
   filled h a i d = record { answer = a ∙ kept (indexed_on o count I); index = i; dues = d }
     where
-      kept : (x : Indexed) → x ≡ with_dues x asked D
-      kept (Units u) = rw h refl
-      kept (Refused number place) = refl
+      kept : (x : Counted) → x ≡ with_dues x asked D
+      kept (Ok u) = rw h refl
+      kept (Err refusal) = refl
 
 -- as labelling was
 pub not_labelled : (total cols : ℕ) (weights labels basins all those D : List ℕ) (I : LentIndex) {o : Outcome}
-    {number place : ℕ} → o ≡ NotLabelled number place
+    {number place : ℕ} → o ≡ Refused number place
     → LeviedInOrder o total cols weights labels basins all those I I D D (Refused number place)
 unfolding with_dues indexed_on
 not_labelled total cols weights labels basins all those D I e = record { answer = rw e refl; index = refl; dues = refl }

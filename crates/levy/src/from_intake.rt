@@ -6,8 +6,8 @@ ghost use Rattle.index.specs.Index.{lent_index, indexed_values};
 ghost use Rattle.dues.specs.FromIntake.{intake_levied, intake_lent_after_levy, intake_index_after_levy, intake_dues_after};
 
 use crate::{GREATEST_TOTAL, levy};
-use index::Indexed;
-use intake::{Intake, Stage};
+use intake::Intake;
+use sheet::Refusal;
 
 // Labels the sheet of an intake and fills the index of its units and the dues of one basin's: refused by 18 if the
 // total is too large, by 15 if the intake has not ended, then as a direct call with its sizes.
@@ -26,7 +26,7 @@ pub fn levy_intake(
     basin: u32,
     total: u64,
     dues: &mut [u64],
-) -> Indexed
+) -> Result<usize, Refusal>
     ensures answer { result ≡ intake_levied intake (lent_sheet dirs.now weights.now)
         (lent areas.old labels.old basins.old work.old)
         (lent_index units.old outlets.old counts.old unit_basins.old)
@@ -52,37 +52,25 @@ pub fn levy_intake(
         basin total dues.old }
 {
     if total > GREATEST_TOTAL {
-        return Indexed::Refused(18, 0);
+        return Err(Refusal::numbered(18));
     }
-    let stage = intake.stage;
-    match stage {
-        Stage::WaitingForSizeNames => Indexed::Refused(15, 0),
-        Stage::WaitingForSizes(_) => Indexed::Refused(15, 0),
-        Stage::WaitingForWeightOrCellNames(_) => Indexed::Refused(15, 0),
-        Stage::WaitingForWeight(_, _) => Indexed::Refused(15, 0),
-        Stage::WaitingForCellNames(_) => Indexed::Refused(15, 0),
-        Stage::TakingCells(_, _) => Indexed::Refused(15, 0),
-        Stage::Ended(sizes) => {
-            levy(
-                sizes.rows,
-                sizes.cols,
-                sizes.depth,
-                sizes.least,
-                sizes.split,
-                dirs,
-                weights,
-                areas,
-                labels,
-                basins,
-                work,
-                units,
-                outlets,
-                counts,
-                unit_basins,
-                basin,
-                total,
-                dues,
-            )
-        }
-    }
+    let Some(sizes) = intake.ended_sizes() else {
+        return Err(Refusal::numbered(15));
+    };
+    levy(
+        sizes,
+        dirs,
+        weights,
+        areas,
+        labels,
+        basins,
+        work,
+        units,
+        outlets,
+        counts,
+        unit_basins,
+        basin,
+        total,
+        dues,
+    )
 }

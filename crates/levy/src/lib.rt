@@ -5,15 +5,18 @@ pub mod from_intake;
 
 ghost use Rattle.std.specs.Prelude.{◌≡◌, ◌≤◌};
 ghost use Rattle.order.specs.Places.{cells_in, sizes_in};
-ghost use Rattle.labelling.specs.Labelling.{sheet, lent, first_checks, Fitting};
+ghost use Rattle.intake.specs.Intake.{lent_sheet};
+ghost use Rattle.labelling.specs.FromIntake.{sheet_of};
+ghost use Rattle.labelling.specs.Labelling.{lent, first_checks, Fitting};
 ghost use Rattle.index.specs.Index.{lent_index, indexed_values};
 ghost use Rattle.dues.specs.Levy.{greatest_total, levied, lent_after_levy, index_after_levy, dues_after};
 ghost use Rattle.dues.specs.Steps.{basin_cells, LevyInOrder, LeviedInOrder, LeviedFitting};
+ghost use Rattle.sheet.specs.Answer.{Accepted};
 
 use drainage::Inspection;
 use dues::{basin_part, dues_fit, dues_in_order};
-use index::Indexed;
-use sheet::Outcome;
+use faults::Sizes;
+use sheet::Refusal;
 
 // The greatest total, in cents.
 pub const GREATEST_TOTAL: u64 = 100000000000;
@@ -36,8 +39,8 @@ fn levy_accepted(
     basin: u32,
     total: u64,
     dues: &mut [u64],
-) -> Indexed
-    requires outcome_value { found.outcome ≡ Outcome.Accepted }
+) -> Result<usize, Refusal>
+    requires outcome_value { found.outcome ≡ Accepted }
     requires levy_in_order { LevyInOrder n found.queued basin total cols weights.now areas.now labels.now basins.now
         work.now dues.old }
     ensures { LeviedInOrder found.outcome total cols weights.now labels.now
@@ -50,9 +53,7 @@ fn levy_accepted(
 {
     let queued = found.queued;
     let part = basin_part(n, queued, work, basin);
-    let first = part.first;
-    let end = part.end;
-    if dues_fit(&work[first..end], labels, basins, dues.len()) {
+    if dues_fit(&work[part.first..part.end], labels, basins, dues.len()) {
         let answer = index::index_in_order(
             found,
             n,
@@ -70,14 +71,14 @@ fn levy_accepted(
             cols,
             weights,
             areas,
-            &work[first..end],
+            &work[part.first..part.end],
             labels,
             basins,
             dues,
         );
         return answer;
     }
-    Indexed::Refused(3, 0)
+    Err(Refusal::numbered(3))
 }
 
 // The same of a sheet whose labelling came to `found`: refused as labelling was.
@@ -97,9 +98,9 @@ fn levy_in_order(
     basin: u32,
     total: u64,
     dues: &mut [u64],
-) -> Indexed
+) -> Result<usize, Refusal>
     requires { found.outcome
-        ≡ Outcome.Accepted
+        ≡ Accepted
         → LevyInOrder n found.queued basin total cols weights.now areas.now labels.now basins.now
         work.now dues.old }
     ensures { LeviedInOrder found.outcome total cols weights.now labels.now
@@ -110,39 +111,30 @@ fn levy_in_order(
         (lent_index units.new outlets.new counts.new unit_basins.new)
         dues.old dues.new result }
 {
-    let outcome = found.outcome;
-    match outcome {
-        Outcome::Accepted => {
-            levy_accepted(
-                found,
-                n,
-                cols,
-                weights,
-                areas,
-                labels,
-                basins,
-                work,
-                units,
-                outlets,
-                counts,
-                unit_basins,
-                basin,
-                total,
-                dues,
-            )
-        }
-        Outcome::Refused(number, place) => Indexed::Refused(number, place),
-    }
+    found.outcome?;
+    levy_accepted(
+        found,
+        n,
+        cols,
+        weights,
+        areas,
+        labels,
+        basins,
+        work,
+        units,
+        outlets,
+        counts,
+        unit_basins,
+        basin,
+        total,
+        dues,
+    )
 }
 
 // Labels a sheet that passed the first checks, and fills the index of its units and the dues of one basin's. The work
 // places are 0 afterwards.
 fn levy_fitting(
-    rows: usize,
-    cols: usize,
-    depth: usize,
-    least: usize,
-    split: usize,
+    sizes: Sizes,
     dirs: &[u8],
     weights: &[u16],
     areas: &mut [u32],
@@ -156,27 +148,25 @@ fn levy_fitting(
     basin: u32,
     total: u64,
     dues: &mut [u64],
-) -> Indexed
-    requires fitting { Fitting (sheet rows cols depth least split dirs.now weights.now)
+) -> Result<usize, Refusal>
+    requires fitting { Fitting (sheet_of sizes (lent_sheet dirs.now weights.now))
         (lent areas.old labels.old basins.old work.old) }
-    requires work_value { first_checks (sheet rows cols depth least split dirs.now weights.now)
+    requires work_value { first_checks (sheet_of sizes (lent_sheet dirs.now weights.now))
         (lent areas.old labels.old basins.old work.old)
-        ≡ Outcome.Accepted }
+        ≡ Accepted }
     requires total_le_greatest_total { total ≤ greatest_total }
-    ensures { LeviedFitting (sheet rows cols depth least split dirs.now weights.now)
+    ensures { LeviedFitting (sheet_of sizes (lent_sheet dirs.now weights.now))
         (lent areas.old labels.old basins.old work.old)
         (lent areas.new labels.new basins.new work.new)
         (lent_index units.old outlets.old counts.old unit_basins.old)
         (lent_index units.new outlets.new counts.new unit_basins.new)
         basin total dues.old dues.new result }
 {
-    let found = labelling::label_in_order(
-        rows, cols, depth, least, split, dirs, weights, areas, labels, basins, work,
-    );
+    let found = labelling::label_in_order(sizes, dirs, weights, areas, labels, basins, work);
     let answer = levy_in_order(
         found,
-        rows * cols,
-        cols,
+        sizes.rows * sizes.cols,
+        sizes.cols,
         weights,
         areas,
         labels,
@@ -199,11 +189,7 @@ fn levy_fitting(
 // if the total is too large, before all else; then as the index call, and by 3 if the dues have fewer places than the
 // basin has units. Refused, no place of the index or of the dues is written.
 pub fn levy(
-    rows: usize,
-    cols: usize,
-    depth: usize,
-    least: usize,
-    split: usize,
+    sizes: Sizes,
     dirs: &[u8],
     weights: &[u16],
     areas: &mut [u32],
@@ -217,70 +203,58 @@ pub fn levy(
     basin: u32,
     total: u64,
     dues: &mut [u64],
-) -> Indexed
-    ensures answer { result ≡ levied (sheet rows cols depth least split dirs.now weights.now)
+) -> Result<usize, Refusal>
+    ensures answer { result ≡ levied (sheet_of sizes (lent_sheet dirs.now weights.now))
         (lent areas.old labels.old basins.old work.old)
         (lent_index units.old outlets.old counts.old unit_basins.old)
         basin total dues.old }
     ensures values { indexed_values result
-        ≡ indexed_values (levied (sheet rows cols depth least split dirs.now weights.now)
+        ≡ indexed_values (levied (sheet_of sizes (lent_sheet dirs.now weights.now))
         (lent areas.old labels.old basins.old work.old)
         (lent_index units.old outlets.old counts.old unit_basins.old)
         basin total dues.old) }
     ensures lent { lent areas.new labels.new basins.new work.new
-        ≡ lent_after_levy (sheet rows cols depth least split dirs.now weights.now)
+        ≡ lent_after_levy (sheet_of sizes (lent_sheet dirs.now weights.now))
         (lent areas.old labels.old basins.old work.old) total }
     ensures index { lent_index units.new outlets.new counts.new
         unit_basins.new
-        ≡ index_after_levy (sheet rows cols depth least split dirs.now weights.now)
+        ≡ index_after_levy (sheet_of sizes (lent_sheet dirs.now weights.now))
         (lent areas.old labels.old basins.old work.old)
         (lent_index units.old outlets.old counts.old unit_basins.old)
         basin total dues.old }
     ensures dues { dues.new
-        ≡ dues_after (sheet rows cols depth least split dirs.now weights.now)
+        ≡ dues_after (sheet_of sizes (lent_sheet dirs.now weights.now))
         (lent areas.old labels.old basins.old work.old)
         (lent_index units.old outlets.old counts.old unit_basins.old)
         basin total dues.old }
 {
     if total > GREATEST_TOTAL {
-        return Indexed::Refused(18, 0);
+        return Err(Refusal::numbered(18));
     }
-    match labelling::first_checks(
-        rows,
-        cols,
-        depth,
-        least,
-        split,
+    labelling::first_checks(
+        sizes,
         dirs.len(),
         weights.len(),
         areas.len(),
         labels.len(),
         basins.len(),
         work.len(),
-    ) {
-        Outcome::Accepted => {
-            let places = 8 * (rows * cols);
-            levy_fitting(
-                rows,
-                cols,
-                depth,
-                least,
-                split,
-                dirs,
-                weights,
-                areas,
-                labels,
-                basins,
-                &mut work[..places],
-                units,
-                outlets,
-                counts,
-                unit_basins,
-                basin,
-                total,
-                dues,
-            )
-        }
-        Outcome::Refused(number, place) => Indexed::Refused(number, place),
-    }
+    )?;
+    let places = 8 * (sizes.rows * sizes.cols);
+    levy_fitting(
+        sizes,
+        dirs,
+        weights,
+        areas,
+        labels,
+        basins,
+        &mut work[..places],
+        units,
+        outlets,
+        counts,
+        unit_basins,
+        basin,
+        total,
+        dues,
+    )
 }

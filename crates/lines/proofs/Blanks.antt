@@ -1,24 +1,24 @@
 -- Blanks in front of the values of a line: the statements of specs/Blanks, proved.
+use Rattle.std.proofs.Common.{Some, None}
 use Prim.Native.Nat.{ℕ, ◌+◌, ◌<◌, ◌≤◌}
 use mathlib.Core.Path.{◌≡◌, refl, sym, ap, ◌∙◌}
 use mathlib.Core.List.{List, [], ◌∷◌, ◌++◌, append_assoc, append-nil}
 use mathlib.Core.Bool.{Bool, true, false, cond}
 use native.Mathlib.Omega.{arith}
-use borrow.Author.Tests.{eq-eqb, ne_eqb, eqb-true}
+use borrow.Author.Tests.{eq-eqb, eqb-true}
 use lib.ListN.{length, take, drop, replicate, length-append, length-replicate, take-append-drop}
 use lib.Seq.{take-length}
 use lib.Dec.{eqb}
 use Rattle.decimal.specs.Ascii.{blank}
-use Rattle.decimal.specs.declared.Value.{Value}
-use Rattle.decimal.specs.declared.Value.TheVariants.{Found, Bad as NoValue}
+use Rattle.decimal.specs.Value.{Value, Found}
 use Rattle.decimal.specs.Value.{is_digit, take_while, digit_run, most_digits, most_blanks, unpadded_at, value_at}
 use Rattle.decimal.specs.Blanks.{with_blanks}
 use Rattle.decimal.proofs.TakeWhile.{while_stop, while_take, while_append}
-use Rattle.decimal.proofs.ValueLaws.{unpadded_found}
+use Rattle.decimal.proofs.ValueLaws.{unpadded_found, found_same}
+use Rattle.std.proofs.lemmas.List.{set_past as set_past_end}
 use Rattle.decimal.proofs.Blanks.{unpadded_moved, padded_values}
 use Rattle.lines.specs.declared.columns.Columns.{Columns}
 use Rattle.lines.specs.declared.values.Values.{Values}
-use Rattle.lines.specs.declared.values.ValuesLine.TheVariants.{Values as Valued, Bad}
 use Rattle.lines.specs.Fields.{fits_line, fields}
 use Rattle.lines.specs.Columns.{column_at, column_digits, column_count}
 use Rattle.lines.specs.Values.{if_whole, field_value, no_values, with_value, values_from, values_line}
@@ -31,12 +31,14 @@ use Rattle.lines.proofs.ValuesLaws.{field_none, field_whole, field_more, values_
 
 -- where if_whole gives a value, it stops at the field's end
 whole_is : (f : List ℕ) (x : Value) {v end : ℕ} → if_whole f x ≡ Found v end → x ≡ Found v (length f)
-whole_is f NoValue e = let z : ◌≡◌ {A = ℕ} 0 1 = cc in absurd (omega arith)
+whole_is f None e = let z : ◌≡◌ {A = ℕ} 0 1 = cc in absurd (omega arith)
 whole_is f (Found w stop) {v} {end} e = go (eqb stop (length f)) refl e
   where
-    go : (t : Bool) → eqb stop (length f) ≡ t → cond t (Found w stop) NoValue ≡ Found v end
+    go : (t : Bool) → eqb stop (length f) ≡ t → cond t (Found w stop) None ≡ Found v end
         → Found w stop ≡ Found v (length f)
-    go true h e = let p : stop ≡ length f = eqb-true stop (length f) h in cc
+    go true h e =
+        let p : stop ≡ length f = eqb-true stop (length f) h in
+        rw (p, (found_same e).0)
     go false h e = let z : ◌≡◌ {A = ℕ} 0 1 = cc in absurd (omega arith)
 
 unpadded_is : (most : ℕ) (f : List ℕ) {v end : ℕ} → unpadded_field most f ≡ Found v end
@@ -106,19 +108,11 @@ set_from : ℕ → List ℕ → Values → Values
 set_from place [] v = v
 set_from place (x ∷ xs) v = set_from (place + 1) xs (with_value v place x)
 
--- there are places for five
-set_past : (place : ℕ) (xs : List ℕ) (v : Values) → 5 ≤ place → set_from place xs v ≡ v
+-- there are no more places than columns
+set_past : (place : ℕ) (xs : List ℕ) (v : Values) → length v.places ≤ place → set_from place xs v ≡ v
 unfolding set_from with_value
 set_past place [] v h = refl
-set_past place (x ∷ xs) v h =
-    rw (
-      ne_eqb place 0 (λ e. omega arith),
-      ne_eqb place 1 (λ e. omega arith),
-      ne_eqb place 2 (λ e. omega arith),
-      ne_eqb place 3 (λ e. omega arith),
-      ne_eqb place 4 (λ e. omega arith),
-    )
-    (set_past (place + 1) xs v (omega arith))
+set_past place (x ∷ xs) v h = rw (set_past_end v.places place x h) (set_past (place + 1) xs v (omega arith))
 
 set_five : (xs : List ℕ) → set_from 0 xs no_values ≡ first_five xs
 unfolding set_from with_value
@@ -128,41 +122,41 @@ set_five (a ∷ b ∷ []) = refl
 set_five (a ∷ b ∷ c ∷ []) = refl
 set_five (a ∷ b ∷ c ∷ d ∷ []) = refl
 set_five (a ∷ b ∷ c ∷ d ∷ e ∷ xs) =
-    set_past 5 xs (record { first = a; second = b; third = c; fourth = d; fifth = e }) (omega arith)
+    set_past 5 xs (record { places = a ∷ b ∷ c ∷ d ∷ e ∷ [] }) (omega arith)
 
 module _ (Field : ℕ → List ℕ → ℕ → Type 0)
     (is : (most : ℕ) → most ≤ most_digits → (f : List ℕ) (v : ℕ) → Field most f v
     → field_value most f ≡ Found v (length f)) (c : Columns) where
   from_fields : (place : ℕ) (v : Values) {fs : List (List ℕ)} {xs : List ℕ} → EachField Field c place fs xs
-      → place + length xs ≡ column_count c → values_from c place fs v ≡ Valued (set_from place xs v)
+      → place + length xs ≡ column_count c → values_from c place fs v ≡ Some (set_from place xs v)
   unfolding values_from set_from
   from_fields place v no_field e = rw (eq-eqb place (column_count c) (omega arith))
   from_fields place v (field {f = f} {x = x} {fs = fs} {xs = xs} h hs) e =
       values_value c place v f fs (is _ (digits_allowed (column_at c place)) f x h)
       ∙ from_fields (place + 1) (with_value v place x) hs (omega arith)
 
-  line_of_lem : (s : List ℕ) (v : Values) → ValueFields Field c s v → values_line c s ≡ Valued v
+  line_of_lem : (s : List ℕ) (v : Values) → ValueFields Field c s v → values_line c s ≡ Some v
   unfolding values_line
   line_of_lem s v t =
       rw t.fits
       (from_fields 0 no_values t.fields_are (omega (arith, t.count_is))
-      ∙ ap Valued (set_five t.values ∙ sym t.values_are))
+      ∙ ap Some (set_five t.values ∙ sym t.values_are))
 
 -- a line's values, field by field from a place on
 record FirstValue (c : Columns) (place : ℕ) (f : List ℕ) (fs : List (List ℕ)) (v w : Values) : Type 0 where
   value : ℕ
   field : PaddedField (column_digits (column_at c place)) f value
-  later : values_from c (place + 1) fs (with_value v place value) ≡ Valued w
+  later : values_from c (place + 1) fs (with_value v place value) ≡ Some w
 
 first_value : (c : Columns) (place : ℕ) (f : List ℕ) (fs : List (List ℕ)) (v w : Values)
-    → values_from c place (f ∷ fs) v ≡ Valued w → FirstValue c place f fs v w
+    → values_from c place (f ∷ fs) v ≡ Some w → FirstValue c place f fs v w
 first_value c place f fs v w e = go (field_value (column_digits (column_at c place)) f) refl
   where
     go : (x : Value) → field_value (column_digits (column_at c place)) f ≡ x → FirstValue c place f fs v w
     go (Found x end) h =
         record { value = x; field = field_padded _ f h; later = sym (values_value c place v f fs h) ∙ e }
-    go NoValue h =
-        let b : Bad ≡ Valued w = sym (values_other c place v f fs h) ∙ e in
+    go None h =
+        let b : None ≡ Some w = sym (values_other c place v f fs h) ∙ e in
         let z : ◌≡◌ {A = ℕ} 0 1 = cc in absurd (omega arith)
 
 -- the values of a good line
@@ -172,12 +166,12 @@ record ReadFrom (c : Columns) (place : ℕ) (fs : List (List ℕ)) (v w : Values
   count_is : place + length values ≡ column_count c
   values_are : w ≡ set_from place values v
 
-read_from_lem : (c : Columns) (place : ℕ) (fs : List (List ℕ)) (v w : Values) → values_from c place fs v ≡ Valued w
+read_from_lem : (c : Columns) (place : ℕ) (fs : List (List ℕ)) (v w : Values) → values_from c place fs v ≡ Some w
     → ReadFrom c place fs v w
 unfolding values_from set_from
 read_from_lem c place [] v w e = go (eqb place (column_count c)) refl e
   where
-    go : (t : Bool) → eqb place (column_count c) ≡ t → cond t (Valued v) Bad ≡ Valued w → ReadFrom c place [] v w
+    go : (t : Bool) → eqb place (column_count c) ≡ t → cond t (Some v) None ≡ Some w → ReadFrom c place [] v w
     go true h e =
         let is : w ≡ v = cc in
         record {
@@ -197,11 +191,11 @@ read_from_lem c place (f ∷ fs) v w e =
       values_are = r.values_are;
     }
 
-value_fields : (c : Columns) (s : List ℕ) (v : Values) → values_line c s ≡ Valued v → ValueFields PaddedField c s v
+value_fields : (c : Columns) (s : List ℕ) (v : Values) → values_line c s ≡ Some v → ValueFields PaddedField c s v
 unfolding values_line
 value_fields c s v e = go (fits_line s) refl e
   where
-    go : (t : Bool) → fits_line s ≡ t → cond t (values_from c 0 (fields s) no_values) Bad ≡ Valued v
+    go : (t : Bool) → fits_line s ≡ t → cond t (values_from c 0 (fields s) no_values) None ≡ Some v
         → ValueFields PaddedField c s v
     go true fits e =
         let r = read_from_lem c 0 (fields s) no_values v e in
@@ -216,10 +210,10 @@ value_fields c s v e = go (fits_line s) refl e
 
 -- ---- what is no value
 
-too_many : (most blanks : ℕ) (f : List ℕ) → most_blanks < blanks → field_value most (with_blanks blanks f) ≡ NoValue
+too_many : (most blanks : ℕ) (f : List ℕ) → most_blanks < blanks → field_value most (with_blanks blanks f) ≡ None
 too_many most blanks f h = field_none most (with_blanks blanks f) (padded_values.too_many most blanks [] f h)
 
-blanks_alone : (most blanks : ℕ) → field_value most (with_blanks blanks []) ≡ NoValue
+blanks_alone : (most blanks : ℕ) → field_value most (with_blanks blanks []) ≡ None
 unfolding take_while
 blanks_alone most blanks =
     field_none most (with_blanks blanks []) (padded_values.no_digit most blanks [] [] refl refl)
@@ -235,7 +229,7 @@ stops_at most f b g {v} e n =
     rw run (unpadded_is most f e)
 
 nothing_after : (most : ℕ) (f : List ℕ) (b : ℕ) (g : List ℕ) {v end : ℕ} → field_value most f ≡ Found v end
-    → is_digit b ≡ false → field_value most (f ++ (b ∷ g)) ≡ NoValue
+    → is_digit b ≡ false → field_value most (f ++ (b ∷ g)) ≡ None
 nothing_after most f b g {v} e n =
     let p = field_padded most f e in
     let k = p.blanks in

@@ -1,4 +1,5 @@
--- A values line with a byte that the rules do not allow, such as a line feed, is Bad.
+-- A values line with a byte that the rules do not allow, such as a line feed, is None.
+use Rattle.std.proofs.Common.{None}
 use Prim.Native.Nat.{ℕ, zero, suc, ◌+◌, ◌<◌}
 use mathlib.Core.Path.{◌≡◌, refl, sym, ap, ◌∙◌}
 use mathlib.Core.List.{List, [], ◌∷◌}
@@ -8,14 +9,12 @@ use borrow.Author.Tests.{eq-eqb, ne_eqb, eqb-true}
 use lib.ListN.{length, get_or}
 use lib.Dec.{eqb}
 use Rattle.decimal.specs.Ascii.{comma, line_feed}
-use Rattle.decimal.specs.declared.Value.{Value}
-use Rattle.decimal.specs.declared.Value.TheVariants.{Found, Bad as NoValue}
+use Rattle.decimal.specs.Value.{Value, Found}
 use Rattle.decimal.specs.Value.{is_digit, value_at}
 use Rattle.decimal.proofs.Answers.{either_way}
 use Rattle.decimal.proofs.ValueLaws.{is_value_byte, value_bytes}
 use Rattle.lines.specs.declared.columns.Columns.{Columns}
 use Rattle.lines.specs.declared.values.Values.{Values}
-use Rattle.lines.specs.declared.values.ValuesLine.TheVariants.{Bad as BadValues}
 use Rattle.lines.specs.Fields.{fits_line, longer, fields}
 use Rattle.lines.specs.Columns.{column_at, column_digits}
 use Rattle.lines.specs.Values.{field_value, if_whole, with_value, no_values, values_from, values_line}
@@ -63,12 +62,12 @@ fields_contain b (x ∷ s) n = go (eqb x comma) refl (fields_contain b s n)
 
 -- A values line and a byte that is no comma and cannot stand in a value.
 module _ (b : ℕ) (other : is_value_byte b ≡ false) where
-  field_other : (most : ℕ) (f : List ℕ) → contains b f ≡ true → field_value most f ≡ NoValue
+  field_other : (most : ℕ) (f : List ℕ) → contains b f ≡ true → field_value most f ≡ None
   unfolding field_value
   field_other most f h = go (value_at most f 0) refl
     where
       whole : (v end : ℕ) → value_at most f 0 ≡ Found v end → (t : Bool) → eqb end (length f) ≡ t
-          → cond t (Found v end) NoValue ≡ NoValue
+          → cond t (Found v end) None ≡ None
       whole v end e true w =
           let (i, l, g) = at_contains b f h in
           absurd (false≢true
@@ -76,38 +75,38 @@ module _ (b : ℕ) (other : is_value_byte b ≡ false) where
           (omega (arith, eqb-true end (length f) w))))
       whole v end e false w = refl
 
-      go : (x : Value) → value_at most f 0 ≡ x → if_whole f x ≡ NoValue
+      go : (x : Value) → value_at most f 0 ≡ x → if_whole f x ≡ None
       go (Found v end) e = whole v end e (eqb end (length f)) refl
-      go NoValue e = refl
+      go None e = refl
 
   values_from_other : (c : Columns) (place : ℕ) (fs : List (List ℕ)) (v : Values) → contains_any b fs ≡ true
-      → values_from c place fs v ≡ BadValues
+      → values_from c place fs v ≡ None
   unfolding contains_any
   values_from_other c place [] v h = absurd (false≢true h)
   values_from_other c place (f ∷ fs) v h =
       go (contains b f) refl h (λ (x : ℕ). values_from_other c (place + 1) fs (with_value v place x))
     where
       known : (x : Value) → field_value (column_digits (column_at c place)) f ≡ x
-          → ((y : ℕ) → values_from c (place + 1) fs (with_value v place y) ≡ BadValues) → values_from c place
-          (f ∷ fs) v ≡ BadValues
+          → ((y : ℕ) → values_from c (place + 1) fs (with_value v place y) ≡ None) → values_from c place
+          (f ∷ fs) v ≡ None
       known (Found y end) e ih = values_value c place v f fs e ∙ ih y
-      known NoValue e ih = values_other c place v f fs e
+      known None e ih = values_other c place v f fs e
 
       go : (t : Bool) → contains b f ≡ t → (t || contains_any b fs) ≡ true
-          → ((x : ℕ) → contains_any b fs ≡ true → values_from c (place + 1) fs (with_value v place x) ≡ BadValues)
-          → values_from c place (f ∷ fs) v ≡ BadValues
+          → ((x : ℕ) → contains_any b fs ≡ true → values_from c (place + 1) fs (with_value v place x) ≡ None)
+          → values_from c place (f ∷ fs) v ≡ None
       go true e h ih = values_other c place v f fs (field_other (column_digits (column_at c place)) f e)
       go false e h ih = known (field_value (column_digits (column_at c place)) f) refl (λ y. ih y h)
 
   pub values_other_byte : (b ≡ comma → ⊥) → (c : Columns) (s : List ℕ) (i : ℕ) → i < length s → get_or s i 0 ≡ b
-      → values_line c s ≡ BadValues
+      → values_line c s ≡ None
   unfolding values_line
   values_other_byte no_comma c s i h e =
       rw (values_from_other c 0 (fields s) no_values
-      (sym (fields_contain b s no_comma) ∙ contains_at b s i h e)) (either_way (fits_line s) BadValues)
+      (sym (fields_contain b s no_comma) ∙ contains_at b s i h e)) (either_way (fits_line s) None)
 
 -- A line feed.
 pub values_line_feed : (c : Columns) (s : List ℕ) (i : ℕ) → i < length s → get_or s i 0 ≡ line_feed
-    → values_line c s ≡ BadValues
+    → values_line c s ≡ None
 unfolding is_digit
 values_line_feed = values_other_byte line_feed refl (λ e. omega arith)

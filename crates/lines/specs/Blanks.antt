@@ -1,12 +1,9 @@
 -- Blanks in front of the values of a line, as decimal's reader takes them: statements about fields and value lines.
-use Rattle.std.specs.Prelude.{ℕ, ◌+◌, ◌<◌, ◌≤◌, ◌≡◌, List, [], ◌∷◌, ◌++◌, true, false, length, get_or}
-use Rattle.decimal.specs.declared.Value.{Value}
-use Rattle.decimal.specs.declared.Value.TheVariants.{Found, Bad as NoValue}
-use Rattle.decimal.specs.Value.{is_digit, most_blanks, unpadded_at}
+use Rattle.std.specs.Prelude.{ℕ, ◌+◌, ◌<◌, ◌≤◌, ◌≡◌, List, [], ◌∷◌, ◌++◌, true, false, length, get_or, Some, None}
+use Rattle.decimal.specs.Value.{Value, Found, is_digit, most_blanks, unpadded_at}
 use Rattle.decimal.specs.Blanks.{with_blanks}
 use Rattle.lines.specs.declared.columns.Columns.{Columns}
 use Rattle.lines.specs.declared.values.Values.{Values}
-use Rattle.lines.specs.declared.values.ValuesLine.TheVariants.{Values as Valued}
 use Rattle.lines.specs.Fields.{fits_line, fields}
 use Rattle.lines.specs.Columns.{column_at, column_digits, column_count}
 use Rattle.lines.specs.Values.{if_whole, field_value, values_line}
@@ -37,13 +34,8 @@ pub data EachField (Field : ℕ → List ℕ → ℕ → Type 0) (c : Columns) :
 
 -- the values of a line as a list: the first five; 0 stands for one that is not there
 abbrev pub first_five : List ℕ → Values
-first_five xs = record {
-  first = get_or xs 0 0;
-  second = get_or xs 1 0;
-  third = get_or xs 2 0;
-  fourth = get_or xs 3 0;
-  fifth = get_or xs 4 0;
-}
+first_five xs =
+    record { places = get_or xs 0 0 ∷ get_or xs 1 0 ∷ get_or xs 2 0 ∷ get_or xs 3 0 ∷ get_or xs 4 0 ∷ [] }
 
 -- a line of at most 80 bytes with a field for each column that is named, each of which is a value as Field says; and
 -- these values
@@ -56,14 +48,14 @@ pub record ValueFields (Field : ℕ → List ℕ → ℕ → Type 0) (c : Column
 
 pub record PaddedLines : Type 0 where
   -- a line that was good by document 01's rule, without blanks, is good and has the same values
-  pub as_before : (c : Columns) (s : List ℕ) (v : Values) → ValueFields IsUnpadded c s v → values_line c s ≡ Valued v
+  pub as_before : (c : Columns) (s : List ℕ) (v : Values) → ValueFields IsUnpadded c s v → values_line c s ≡ Some v
   -- up to eight blanks may stand in front of each of its values
-  pub padded_line : (c : Columns) (s : List ℕ) (v : Values) → ValueFields PaddedField c s v → values_line c s ≡ Valued v
+  pub padded_line : (c : Columns) (s : List ℕ) (v : Values) → ValueFields PaddedField c s v → values_line c s ≡ Some v
   -- and no other line is good
-  pub no_other : (c : Columns) (s : List ℕ) (v : Values) → values_line c s ≡ Valued v → ValueFields PaddedField c s v
+  pub no_other : (c : Columns) (s : List ℕ) (v : Values) → values_line c s ≡ Some v → ValueFields PaddedField c s v
   -- no value is a field with more than eight blanks in front, one of blanks alone, or one in which a value is followed
   -- by a byte that is no digit
-  pub too_many : (most blanks : ℕ) (f : List ℕ) → most_blanks < blanks → field_value most (with_blanks blanks f) ≡ NoValue
-  pub blanks_alone : (most blanks : ℕ) → field_value most (with_blanks blanks []) ≡ NoValue
+  pub too_many : (most blanks : ℕ) (f : List ℕ) → most_blanks < blanks → field_value most (with_blanks blanks f) ≡ None
+  pub blanks_alone : (most blanks : ℕ) → field_value most (with_blanks blanks []) ≡ None
   pub nothing_after : (most : ℕ) (f : List ℕ) (b : ℕ) (g : List ℕ) {v end : ℕ} → field_value most f ≡ Found v end
-      → is_digit b ≡ false → field_value most (f ++ (b ∷ g)) ≡ NoValue
+      → is_digit b ≡ false → field_value most (f ++ (b ∷ g)) ≡ None

@@ -1,7 +1,8 @@
--- Columns, by a number, and when two are the same; the columns of a line, and the most digits of a value in a column.
-use Rattle.std.specs.Prelude.{ℕ, ◌+◌, ◌≡◌, Bool, false, cond, eqb}
+-- Columns, by a number, None for no column, and when two are the same; the columns of a line, and the most digits of a
+-- value in a column.
+use Rattle.std.specs.Prelude.{ℕ, ◌≡◌, Bool, false, cond, eqb, get_or, Option, Some, None, is_some, count_by}
 use Rattle.lines.specs.declared.columns.Column.{Column}
-use Rattle.lines.specs.declared.columns.Column.TheVariants.{Absent, Rows, Cols, Depth, Least, Split}
+use Rattle.lines.specs.declared.columns.Column.TheVariants.{Rows, Cols, Depth, Least, Split}
 use Rattle.lines.specs.declared.columns.Column.TheVariants.{Row, Col, Dir, Weight}
 use Rattle.lines.specs.declared.columns.Columns.{Columns}
 
@@ -9,29 +10,24 @@ use Rattle.lines.specs.declared.columns.Columns.{Columns}
 abbrev pub most_columns : ℕ
 most_columns = 5
 
-abbrev pub column_number : Column → ℕ
-column_number Absent = 0
-column_number Rows = 1
-column_number Cols = 2
-column_number Depth = 3
-column_number Least = 4
-column_number Split = 5
-column_number Row = 6
-column_number Col = 7
-column_number Dir = 8
-column_number Weight = 9
+abbrev pub column_number : Option Column → ℕ
+column_number None = 0
+column_number (Some Rows) = 1
+column_number (Some Cols) = 2
+column_number (Some Depth) = 3
+column_number (Some Least) = 4
+column_number (Some Split) = 5
+column_number (Some Row) = 6
+column_number (Some Col) = 7
+column_number (Some Dir) = 8
+column_number (Some Weight) = 9
 
-unfoldable pub same_column : Column → Column → Bool
+unfoldable pub same_column : Option Column → Option Column → Bool
 same_column a b = eqb (column_number a) (column_number b)
 
--- the column at a place from 0; Absent past the fifth
-unfoldable pub column_at : Columns → ℕ → Column
-column_at c place =
-    cond (eqb place 0) c.first
-    (cond (eqb place 1) c.second
-    (cond (eqb place 2) c.third
-    (cond (eqb place 3) c.fourth
-    (cond (eqb place 4) c.fifth Absent))))
+-- the column at a place from 0; None past the last
+unfoldable pub column_at : Columns → ℕ → Option Column
+column_at c place = get_or c.places place None
 
 -- the most digits of a value, in every column but `least`, and of a value of `least`
 abbrev pub value_digits : ℕ
@@ -41,20 +37,14 @@ abbrev pub least_digits : ℕ
 least_digits = 8
 
 -- the most digits of a value in a column
-unfoldable pub column_digits : Column → ℕ
+unfoldable pub column_digits : Option Column → ℕ
 unfolding same_column
-column_digits x = cond (same_column x Least) least_digits value_digits
-
--- 0 for Absent, and 1 for every other column
-unfoldable pub named : Column → ℕ
-unfolding same_column
-named x = cond (same_column x Absent) 0 1
+column_digits x = cond (same_column x (Some Least)) least_digits value_digits
 
 -- how many columns are named
 unfoldable pub column_count : Columns → ℕ
-unfolding named
-column_count c = named c.first + named c.second + named c.third + named c.fourth + named c.fifth
+column_count c = count_by is_some c.places
 
 -- no column has this name
 abbrev pub Unnamed : Columns → Column → Type 0
-Unnamed c x = (place : ℕ) → same_column (column_at c place) x ≡ false
+Unnamed c x = (place : ℕ) → same_column (column_at c place) (Some x) ≡ false

@@ -2,7 +2,6 @@
 #![tactic(auto)]
 
 pub mod columns;
-pub mod fields;
 pub mod values;
 
 // A line has at most 80 bytes before its line feed.

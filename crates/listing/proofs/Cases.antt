@@ -8,10 +8,11 @@ use Rattle.decimal.specs.Ascii.{ascii, line_feed}
 use Rattle.sheet.specs.Sheet.{grid}
 use Rattle.sheet.specs.Basins.{basin_areas, basin_labels, basins_of}
 use Rattle.sheet.specs.Cases.{sample_a, sheet}
-use Rattle.listing.specs.declared.Listing.TheVariants.{Bytes, Refused}
 use Rattle.listing.specs.Listing.{listing_text, refusal_text}
 use Rattle.listing.specs.AsBefore.{listing_of_numbers, in_front, with_basin1}
 use Rattle.listing.specs.Writing.{listing_values, listing_into, refusal_into}
+use Rattle.sheet.specs.Answer.{Refused}
+use Rattle.std.specs.Prelude.{Ok}
 
 -- the bytes of lines, each ended by a line feed
 abbrev lines : List String → List ℕ
@@ -108,17 +109,17 @@ abbrev one_cell : List ℕ
 one_cell = lines ("basin,row,col,area,label" ∷ "1,0,0,1,0" ∷ [])
 
 pub room_to_spare : listing_into (grid 1 1 (1 ∷ [])) (1 ∷ []) (0 ∷ 0 ∷ []) (1 ∷ [])
-    (replicate 37 46) ≡ record { answer = Bytes 35; buffer = one_cell ++ (46 ∷ 46 ∷ []) }
+    (replicate 37 46) ≡ record { answer = Ok 35; buffer = one_cell ++ (46 ∷ 46 ∷ []) }
 unfolding listing_into
 room_to_spare = refl
 
 pub just_room : listing_into (grid 1 1 (1 ∷ [])) (1 ∷ []) (0 ∷ 0 ∷ []) (1 ∷ [])
-    (replicate 35 46) ≡ record { answer = Bytes 35; buffer = one_cell }
+    (replicate 35 46) ≡ record { answer = Ok 35; buffer = one_cell }
 unfolding listing_into
 just_room = refl
 
 pub one_byte_short : listing_into (grid 1 1 (1 ∷ [])) (1 ∷ []) (0 ∷ 0 ∷ []) (1 ∷ [])
-    (replicate 34 46) ≡ record { answer = Refused 3; buffer = replicate 34 46 }
+    (replicate 34 46) ≡ record { answer = Refused 3 0; buffer = replicate 34 46 }
 unfolding listing_into
 one_byte_short = refl
 
@@ -144,12 +145,12 @@ no_basin = refl
 
 -- an odd number at the end is no place
 pub odd_number : listing_into (grid 1 1 (1 ∷ [])) (1 ∷ []) (0 ∷ 0 ∷ 7 ∷ []) (1 ∷ [])
-    (replicate 35 46) ≡ record { answer = Bytes 35; buffer = one_cell }
+    (replicate 35 46) ≡ record { answer = Ok 35; buffer = one_cell }
 unfolding listing_into
 odd_number = refl
 
 pub refusal_in_buffer : refusal_into 14 1
-    (replicate 20 46) ≡ record { answer = Bytes 19; buffer = lines ("refused,place" ∷ "14,1" ∷ []) ++ (46 ∷ []) }
+    (replicate 20 46) ≡ record { answer = Ok 19; buffer = lines ("refused,place" ∷ "14,1" ∷ []) ++ (46 ∷ []) }
 unfolding refusal_into
 refusal_in_buffer = refl
 

@@ -5,19 +5,17 @@ use Prim.Native.Nat.{ℕ, ◌+◌, ◌<◌, ◌≤◌}
 use native.Mathlib.Nat.{add-zero, zero-add}
 use native.Mathlib.Omega.{arith}
 use borrow.Author.Tests.{le-leb, lt-leb}
-use lib.ListN.{length, take, drop, set, length-append, take-append-drop}
-use lib.Seq.{paste, take-length}
-use Rattle.decimal.specs.declared.Written.{Written}
-use Rattle.decimal.specs.declared.Written.TheVariants.{End}
+use lib.ListN.{length, set, length-append, take-append-drop}
+use Rattle.std.proofs.Common.{Option, Some}
 use Rattle.decimal.specs.Text.{overwrite, write_text, Writing}
 use Rattle.decimal.proofs.TextLaws.{overwrite_then, overwrite_one, overwrite_length}
-use Rattle.listing.specs.declared.Listing.{Listing}
-use Rattle.listing.specs.declared.Listing.TheVariants.{Bytes, Refused}
 use Rattle.sheet.specs.Sheet.{Grid, cells, dir_at}
 use Rattle.listing.specs.Listing.{field, lines_below}
 use Rattle.listing.specs.Writing.{listing_values, Listed, text_into}
 use Rattle.listing.specs.Steps.{Put}
 use Rattle.listing.proofs.Lengths.{field_length, lines_outside, lines_inside}
+use Rattle.sheet.specs.Answer.{Counted, Refused}
+use Rattle.std.specs.Prelude.{Ok}
 
 -- ---- one text, and another after it
 
@@ -51,28 +49,19 @@ put_nothing buffer at =
 put_one : (buffer : List ℕ) (at b : ℕ) → at < length buffer → Put buffer (set buffer at b) at (at + 1) (b ∷ [])
 put_one buffer at b room = record { next_is = refl; after_is = overwrite_one buffer at b room }
 
--- a text that was copied byte by byte
-pub put_copied : (text a : List ℕ) {b : List ℕ} {at i : ℕ} → b ≡ paste a at text i → i ≡ length text
-    → Put a b at (at + i) text
-unfolding overwrite
-put_copied text a {b} {at} {i} e whole = record {
-  next_is = ap (λ (k : ℕ). at + k) whole;
-  after_is = e ∙ rw (whole, take-length) (append_assoc (take at a) text (drop (at + length text) a));
-}
-
 -- ---- a number that fits is written whole
 
-module _ (text buffer : List ℕ) (at : ℕ) {answer : Written} {after : List ℕ} (room : at + length text ≤ length buffer)
+module _ (text buffer : List ℕ) (at : ℕ) {answer : Option ℕ} {after : List ℕ} (room : at + length text ≤ length buffer)
     (wrote : record { answer = answer; buffer = after } ≡ write_text text buffer at) where
   wrote_is : ◌≡◌ {A = Writing} (record { answer = answer; buffer = after })
-      (record { answer = End (at + length text); buffer = overwrite buffer at text })
+      (record { answer = Some (at + length text); buffer = overwrite buffer at text })
   unfolding write_text
   wrote_is = wrote ∙ rw (le-leb (at + length text) (length buffer) room)
 
-  pub wrote_answer : answer ≡ End (at + length text)
+  pub wrote_answer : answer ≡ Some (at + length text)
   wrote_answer = ap (λ (w : Writing). w.answer) wrote_is
 
-  pub wrote_put : {end : ℕ} → answer ≡ End end → Put buffer after at end text
+  pub wrote_put : {end : ℕ} → answer ≡ Some end → Put buffer after at end text
   wrote_put {end} e =
       let f = wrote_answer in record { next_is = cc; after_is = ap (λ (w : Writing). w.buffer) wrote_is }
 
@@ -98,16 +87,16 @@ field_join s t after = sym (append_assoc s t (after ∷ []))
 
 module _ (text buffer : List ℕ) where
   pub put_whole : {after : List ℕ} {next : ℕ} → length text ≤ length buffer → Put buffer after 0 next text
-      → record { answer = Bytes next; buffer = after } ≡ text_into text buffer
+      → record { answer = Ok next; buffer = after } ≡ text_into text buffer
   unfolding text_into overwrite
   put_whole room p = rw (le-leb (length text) (length buffer) room, p.next_is, p.after_is, zero-add)
 
-  pub put_none : length buffer < length text → record { answer = Refused 3; buffer = buffer } ≡ text_into text buffer
+  pub put_none : length buffer < length text → record { answer = Refused 3 0; buffer = buffer } ≡ text_into text buffer
   unfolding text_into
   put_none short = rw (lt-leb (length text) (length buffer) short)
 
 -- an answer and a buffer that are the definition's have its number and values
-pub promises : {answer : Listing} {buffer : List ℕ} {w : Listed} → record { answer = answer; buffer = buffer } ≡ w
+pub promises : {answer : Counted} {buffer : List ℕ} {w : Listed} → record { answer = answer; buffer = buffer } ≡ w
     → (record { answer = answer; buffer = buffer } ≡ w) × (listing_values answer ≡ listing_values w.answer)
 promises e = (e, ap (λ (x : Listed). listing_values x.answer) e)
 

@@ -2,3 +2,4 @@ pub mod Listing
 pub mod Writing
 pub mod Steps
 pub mod AsBefore
+pub mod Labelled

@@ -1,33 +1,32 @@
 -- What the calls that write a text answer, and what the lent buffer holds afterwards.
-use Rattle.std.specs.Prelude.{Bool, cond, List, ℕ, leb, length}
+use Rattle.std.specs.Prelude.{Bool, cond, List, ℕ, leb, length, Err, Ok}
 use Rattle.sheet.specs.Record.{label_places}
 use Rattle.sheet.specs.Sheet.{Grid, cells}
 use Rattle.sheet.specs.Refusal.{both, sizes_fit, written}
-use Rattle.listing.specs.declared.Listing.{Listing}
-use Rattle.listing.specs.declared.Listing.TheVariants.{Bytes, Refused}
 use Rattle.listing.specs.Listing.{listing_text, refusal_text}
+use Rattle.sheet.specs.Answer.{Counted, Refused}
 
 -- document 01's number of an answer, 0 where it is no refusal, and how many bytes were written
 pub record ListingValues : Type 0 where
   pub number : ℕ
   pub bytes : ℕ
 
-abbrev pub listing_values : Listing → ListingValues
-listing_values (Bytes count) = record { number = 0; bytes = count }
-listing_values (Refused number) = record { number = number; bytes = 0 }
+abbrev pub listing_values : Counted → ListingValues
+listing_values (Ok count) = record { number = 0; bytes = count }
+listing_values (Err refusal) = record { number = refusal.number; bytes = 0 }
 
 -- the answer of a call that writes, and the buffer afterwards
 pub record Listed : Type 0 where
-  pub answer : Listing
+  pub answer : Counted
   pub buffer : List ℕ
 
 -- a refused call writes no byte
 abbrev pub refused : ℕ → List ℕ → Listed
-refused number buffer = record { answer = Refused number; buffer = buffer }
+refused number buffer = record { answer = Refused number 0; buffer = buffer }
 
 -- the first bytes of the buffer are the text, and the others keep their values
 abbrev pub accepted : List ℕ → List ℕ → Listed
-accepted text buffer = record { answer = Bytes (length text); buffer = written text buffer }
+accepted text buffer = record { answer = Ok (length text); buffer = written text buffer }
 
 -- a text in a lent buffer, which 3 refuses where it is too short
 unfoldable pub text_into : List ℕ → List ℕ → Listed

@@ -3,20 +3,51 @@
 
 ghost use Rattle.std.specs.Prelude.{◌≡◌, ◌+◌, ◌*◌, ◌<◌, ◌≤◌, length};
 ghost use Rattle.decimal.specs.Text.{decimal_text};
-ghost use Rattle.sheet.specs.Sheet.{grid};
-ghost use Rattle.listing.specs.Listing.{label_text, field, cell_line, line_of, lines_below};
+ghost use Rattle.sheet.specs.Answer.{outcome_of_fault};
+ghost use Rattle.listing.specs.Listing.{label_text, field};
+ghost use Rattle.listing.specs.Labelled.{CanBeListed, grid_of, lines_of, values_at, values_line};
 ghost use Rattle.listing.specs.Writing.{listing_values, listing_fault, listing_into, refusal_into};
-ghost use Rattle.listing.specs.Steps.{Listable, Put};
+ghost use Rattle.listing.specs.Steps.{Put};
 
-use checks::sizes_fit;
-use decimal::{COMMA, LINE_FEED, Written, decimal_length};
-use sheet::Label;
+use checks::{label_count, sizes_fit};
+use decimal::{COMMA, LINE_FEED, decimal_length};
+use sheet::{Label, Refusal};
 
-// The answer of a call that writes a text: the count of its bytes, or document 01's number of a refusal.
+// A sheet whose texts are written: its sizes, and a direction, an area, a label and a basin for each of its cells.
 #[derive(Clone, Copy)]
-pub enum Listing {
-    Bytes(usize),
-    Refused(u8),
+pub struct LabelledSheet<'a> {
+    pub rows: usize,
+    pub cols: usize,
+    pub dirs: &'a [u8],
+    pub areas: &'a [u32],
+    pub labels: &'a [u64],
+    pub basins: &'a [u32],
+}
+
+// What the line of a cell tells.
+#[derive(Clone, Copy)]
+pub struct CellValues {
+    pub basin: u32,
+    pub row: usize,
+    pub col: usize,
+    pub area: u32,
+    pub label: Label,
+}
+
+impl LabelledSheet<'_> {
+    // The values of a cell.
+    pub fn values_at(self, cell: usize) -> CellValues
+        requires { CanBeListed self × (cell < self.rows * self.cols) }
+        ensures { result ≡ values_at self.entry cell }
+    {
+        CellValues {
+            basin: self.basins[cell],
+            row: cell / self.cols,
+            col: cell % self.cols,
+            area: self.areas[cell],
+            label: checks::label_at(self.labels, cell),
+        }
+    }
 }
 
 // The bytes of a label.
@@ -35,39 +66,31 @@ pub fn label_length(label: Label) -> usize
 }
 
 // The bytes of the line of a cell.
-fn cell_length(basin: u32, row: usize, col: usize, area: u32, label: Label) -> usize
-    ensures { result ≡ length (cell_line basin row col area (label_text label)) }
+fn cell_length(values: CellValues) -> usize
+    ensures bytes { result ≡ length (values_line values) }
+    ensures few { result ≤ 105 }
 {
-    let basin_digits = decimal_length(basin as u64);
-    let row_digits = decimal_length(row as u64);
-    let col_digits = decimal_length(col as u64);
-    let area_digits = decimal_length(area as u64);
-    let label_bytes = label_length(label);
+    let basin_digits = decimal_length(values.basin as u64);
+    let row_digits = decimal_length(values.row as u64);
+    let col_digits = decimal_length(values.col as u64);
+    let area_digits = decimal_length(values.area as u64);
+    let label_bytes = label_length(values.label);
     basin_digits + row_digits + col_digits + area_digits + label_bytes + 5
 }
 
 // The bytes of the lines of all inside cells.
-fn lines_length(
-    rows: usize,
-    cols: usize,
-    dirs: &[u8],
-    areas: &[u32],
-    labels: &[u64],
-    basins: &[u32],
-) -> usize
-    requires { Listable rows cols dirs.now areas.now labels.now basins.now }
-    ensures { result ≡ length (lines_below (grid rows cols dirs.now)
-        (line_of (grid rows cols dirs.now) areas.now labels.now basins.now)
-        (rows * cols)) }
+fn lines_length(sheet: LabelledSheet) -> usize
+    requires { CanBeListed sheet }
+    ensures bytes { result ≡ length (lines_of sheet.entry) }
+    ensures few { result ≤ 105 * (sheet.entry.rows * sheet.entry.cols) }
 {
-    let n = rows * cols;
+    let n = sheet.rows * sheet.cols;
     let mut count = 0;
     for cell in 0..n {
-        if dirs[cell] == 0 {
+        if sheet.dirs[cell] == 0 {
             continue;
         }
-        let label = checks::label_at(labels, cell);
-        count += cell_length(basins[cell], cell / cols, cell % cols, areas[cell], label);
+        count += cell_length(sheet.values_at(cell));
     }
     count
 }
@@ -77,12 +100,9 @@ pub fn put_text(text: &[u8], out: &mut [u8], at: usize) -> usize
     requires { at + length text.now ≤ length out.old }
     ensures { Put out.old out.new at result text.now }
 {
-    let mut i = 0;
-    while i < text.len() {
-        out[at + i] = text[i];
-        i += 1;
-    }
-    at + i
+    let end = at + text.len();
+    out[at..end].copy_from_slice(text);
+    end
 }
 
 // Writes a value.
@@ -90,10 +110,7 @@ pub fn put_value(value: u64, out: &mut [u8], at: usize) -> usize
     requires { at + length (decimal_text value) ≤ length out.old }
     ensures { Put out.old out.new at result (decimal_text value) }
 {
-    let Written::End(end) = decimal::write_decimal(value, out, at) else {
-        return at;
-    };
-    end
+    decimal::write_decimal(value, out, at).unwrap_or(at)
 }
 
 // Writes a value and the byte after it.
@@ -122,130 +139,75 @@ pub fn put_label(label: Label, after: u8, out: &mut [u8], at: usize) -> usize
 }
 
 // Writes the line of a cell.
-fn put_cell(
-    basin: u32,
-    row: usize,
-    col: usize,
-    area: u32,
-    label: Label,
-    out: &mut [u8],
-    at: usize,
-) -> usize
-    requires { at + length (cell_line basin row col area (label_text label)) ≤ length out.old }
-    ensures { Put out.old out.new at result (cell_line basin row col area (label_text label)) }
+fn put_cell(values: CellValues, out: &mut [u8], at: usize) -> usize
+    requires { at + length (values_line values) ≤ length out.old }
+    ensures { Put out.old out.new at result (values_line values) }
 {
-    let row_at = put_field(basin as u64, COMMA, out, at);
-    let col_at = put_field(row as u64, COMMA, out, row_at);
-    let area_at = put_field(col as u64, COMMA, out, col_at);
-    let label_at = put_field(area as u64, COMMA, out, area_at);
-    put_label(label, LINE_FEED, out, label_at)
+    let row_at = put_field(values.basin as u64, COMMA, out, at);
+    let col_at = put_field(values.row as u64, COMMA, out, row_at);
+    let area_at = put_field(values.col as u64, COMMA, out, col_at);
+    let label_at = put_field(values.area as u64, COMMA, out, area_at);
+    put_label(values.label, LINE_FEED, out, label_at)
 }
 
 // Writes the lines of all inside cells.
-fn put_lines(
-    rows: usize,
-    cols: usize,
-    dirs: &[u8],
-    areas: &[u32],
-    labels: &[u64],
-    basins: &[u32],
-    out: &mut [u8],
-    at: usize,
-) -> usize
-    requires { Listable rows cols dirs.now areas.now labels.now basins.now
-        × (at + length (lines_below (grid rows cols dirs.now)
-        (line_of (grid rows cols dirs.now) areas.now labels.now basins.now) (rows * cols))
-        ≤ length out.old) }
-    ensures { Put out.old out.new at result
-        (lines_below (grid rows cols dirs.now)
-        (line_of (grid rows cols dirs.now) areas.now labels.now basins.now)
-        (rows * cols)) }
+fn put_lines(sheet: LabelledSheet, out: &mut [u8], at: usize) -> usize
+    requires { CanBeListed sheet × (at + length (lines_of sheet) ≤ length out.old) }
+    ensures { Put out.old out.new at result (lines_of sheet.entry) }
 {
-    let n = rows * cols;
+    let n = sheet.rows * sheet.cols;
     let mut next = at;
     for cell in 0..n {
-        let code = dirs[cell];
+        let code = sheet.dirs[cell];
         if code == 0 {
             continue;
         }
-        let label = checks::label_at(labels, cell);
-        next = put_cell(
-            basins[cell],
-            cell / cols,
-            cell % cols,
-            areas[cell],
-            label,
-            out,
-            next,
-        );
+        next = put_cell(sheet.values_at(cell), out, next);
     }
     next
 }
 
-// The refusal of what is lent for a text about a sheet's cells, by 1 for its sizes, then by 3 for a slice that is too
-// short, or 0.
-pub fn listing_fault(
-    rows: usize,
-    cols: usize,
-    dirs: &[u8],
-    areas: &[u32],
-    labels: &[u64],
-    basins: &[u32],
-) -> u8
-    ensures { result ≡ listing_fault (grid rows cols dirs.now) areas.now labels.now
-        basins.now }
+// Check 1 of the sizes, then 3 of the slices that are lent for a text about a sheet's cells.
+#[tactic(auto, unfolding(crate::specs::Writing::listing_fault, sheet::specs::Record::label_places))]
+pub fn listing_fault(sheet: LabelledSheet) -> Result<(), Refusal>
+    ensures { result ≡ outcome_of_fault (listing_fault (grid_of sheet.entry)
+        sheet.entry.areas.now sheet.entry.labels.now sheet.entry.basins.now) }
 {
-    if sizes_fit(rows, cols) {
-        let n = rows * cols;
-        if dirs.len() < n {
-            return 3;
-        }
-        if areas.len() < n {
-            return 3;
-        }
-        if labels.len() / 2 < n {
-            return 3;
-        }
-        if basins.len() < n {
-            return 3;
-        }
-        return 0;
+    if !sizes_fit(sheet.rows, sheet.cols) {
+        return Err(Refusal::numbered(1));
     }
-    1
+    let n = sheet.rows * sheet.cols;
+    if sheet.dirs.len() < n
+        || sheet.areas.len() < n
+        || label_count(sheet.labels) < n
+        || sheet.basins.len() < n
+    {
+        return Err(Refusal::numbered(3));
+    }
+    Ok(())
 }
 
 // Writes the listing to the start of a buffer.
-pub fn write_listing(
-    rows: usize,
-    cols: usize,
-    dirs: &[u8],
-    areas: &[u32],
-    labels: &[u64],
-    basins: &[u32],
-    out: &mut [u8],
-) -> Listing
+pub fn write_listing(sheet: LabelledSheet, out: &mut [u8]) -> Result<usize, Refusal>
     ensures listing { record { answer = result; buffer = out.new }
-        ≡ listing_into (grid rows cols dirs.now) areas.now labels.now
-        basins.now out.old }
+        ≡ listing_into (grid_of sheet.entry) sheet.entry.areas.now
+        sheet.entry.labels.now sheet.entry.basins.now out.old }
     ensures values { listing_values result
-        ≡ listing_values (listing_into (grid rows cols dirs.now) areas.now labels.now
-        basins.now out.old).answer }
+        ≡ listing_values (listing_into (grid_of sheet.entry)
+        sheet.entry.areas.now sheet.entry.labels.now sheet.entry.basins.now out.old).answer }
 {
-    let fault = listing_fault(rows, cols, dirs, areas, labels, basins);
-    if fault != 0 {
-        return Listing::Refused(fault);
-    }
+    listing_fault(sheet)?;
     let heading = b"basin,row,col,area,label\n";
-    let length = heading.len() + lines_length(rows, cols, dirs, areas, labels, basins);
+    let length = heading.len() + lines_length(sheet);
     if out.len() < length {
-        return Listing::Refused(3);
+        return Err(Refusal::numbered(3));
     }
     let at = put_text(heading, out, 0);
-    Listing::Bytes(put_lines(rows, cols, dirs, areas, labels, basins, out, at))
+    Ok(put_lines(sheet, out, at))
 }
 
 // Writes the two lines after a refusal to the start of a buffer.
-pub fn write_refusal(number: u8, place: usize, out: &mut [u8]) -> Listing
+pub fn write_refusal(number: u8, place: usize, out: &mut [u8]) -> Result<usize, Refusal>
     ensures refusal { record { answer = result; buffer = out.new }
         ≡ refusal_into number place out.old }
     ensures values { listing_values result ≡ listing_values (refusal_into number place out.old).answer }
@@ -254,9 +216,9 @@ pub fn write_refusal(number: u8, place: usize, out: &mut [u8]) -> Listing
     let number_digits = decimal_length(number as u64);
     let place_digits = decimal_length(place as u64);
     if out.len() < heading.len() + number_digits + place_digits + 2 {
-        return Listing::Refused(3);
+        return Err(Refusal::numbered(3));
     }
     let number_at = put_text(heading, out, 0);
     let place_at = put_field(number as u64, COMMA, out, number_at);
-    Listing::Bytes(put_field(place as u64, LINE_FEED, out, place_at))
+    Ok(put_field(place as u64, LINE_FEED, out, place_at))
 }

@@ -12,49 +12,42 @@ use Rattle.sheet.specs.declared.UnitName.{UnitName}
 use Rattle.sheet.specs.Record.{labels_in, numbers_of, units_in}
 use Rattle.sheet.specs.Flow.{every, is_label}
 use Rattle.sheet.proofs.Slices.{labels_length, labels_drop, places_enough}
-use Rattle.lookup.specs.declared.LookupAnswer.{LookupAnswer}
-use Rattle.lookup.specs.declared.LookupAnswer.TheVariants.{Part, Refused}
 use Rattle.lookup.specs.Lookup.{greatest_depth, is_rising, part_found}
 use Rattle.lookup.specs.Lookup.{lookup_answer, lookup_values, lookup_part, lookup_place}
+use Rattle.lookup.specs.Answer.{PartFrom}
+use Rattle.sheet.specs.declared.Refusal.{Refusal}
+use Rattle.sheet.specs.Answer.{Refused}
+use Rattle.std.specs.Prelude.{Ok, Err}
 
 -- ---- the answer
 
--- an answer that is the defined one has its values too
-abbrev Answered : UnitName → List Label → List ℕ → LookupAnswer → Type 0
-Answered leading labels basins a =
-    (a ≡ lookup_answer leading labels basins)
-    × (lookup_values a ≡ lookup_values (lookup_answer leading labels basins))
-
 module _ (leading : UnitName) (labels : List Label) (basins : List ℕ) where
-  answered : (a : LookupAnswer) → a ≡ lookup_answer leading labels basins → Answered leading labels basins a
-  answered a e = (e, ap lookup_values e)
-
-  pub answer_3 : length basins < length labels → Answered leading labels basins (Refused 3)
+  pub answer_3 : length basins < length labels → Refused 3 0 ≡ lookup_answer leading labels basins
   unfolding lookup_answer
-  answer_3 h = answered (Refused 3) (rw (lt-leb (length labels) (length basins) h))
+  answer_3 h = rw (lt-leb (length labels) (length basins) h)
 
   module _ (enough : length labels ≤ length basins) where
     fit : leb (length labels) (length basins) ≡ true
     fit = le-leb (length labels) (length basins) enough
 
-    pub answer_11 : is_label greatest_depth leading.label ≡ false → Answered leading labels basins (Refused 11)
+    pub answer_11 : is_label greatest_depth leading.label ≡ false → Refused 11 0 ≡ lookup_answer leading labels basins
     unfolding lookup_answer
-    answer_11 e = answered (Refused 11) (rw (fit, e))
+    answer_11 e = rw (fit, e)
 
     module _ (label : is_label greatest_depth leading.label ≡ true) where
-      pub entries_11 : every (is_label greatest_depth) labels ≡ false → Answered leading labels basins (Refused 11)
+      pub entries_11 : every (is_label greatest_depth) labels ≡ false → Refused 11 0 ≡ lookup_answer leading labels basins
       unfolding lookup_answer
-      entries_11 e = answered (Refused 11) (rw (fit, label, e))
+      entries_11 e = rw (fit, label, e)
 
       module _ (entries : every (is_label greatest_depth) labels ≡ true) where
-        pub answer_16 : is_rising (units_in basins labels) ≡ false → Answered leading labels basins (Refused 16)
+        pub answer_16 : is_rising (units_in basins labels) ≡ false → Refused 16 0 ≡ lookup_answer leading labels basins
         unfolding lookup_answer
-        answer_16 e = answered (Refused 16) (rw (fit, label, entries, e))
+        answer_16 e = rw (fit, label, entries, e)
 
-        pub answer_part : is_rising (units_in basins labels) ≡ true → (a : LookupAnswer)
-            → a ≡ part_found leading (units_in basins labels) → Answered leading labels basins a
+        pub answer_part : is_rising (units_in basins labels) ≡ true
+            → Ok (part_found leading (units_in basins labels)) ≡ lookup_answer leading labels basins
         unfolding lookup_answer
-        answer_part e a f = answered a (f ∙ rw (fit, label, entries, e))
+        answer_part e = rw (fit, label, entries, e)
 
 -- ---- what is handed back
 
@@ -79,7 +72,7 @@ part_numbers start count l h =
     (sym (numbers_labels count (drop (2 * start) l) (omega (arith, length-drop (2 * start) l))))
 
 module _ (leading : UnitName) (l basins : List ℕ) (start count : ℕ)
-    (is : lookup_answer leading (labels_in l) basins ≡ Part start count) where
+    (is : lookup_answer leading (labels_in l) basins ≡ PartFrom start count) where
   pub found_part : start + count ≤ length (labels_in l) → take (2 * start + 2 * count - 2 * start) (drop (2 * start) l)
       ≡ numbers_of (lookup_part leading (labels_in l) basins)
   unfolding lookup_part
@@ -93,8 +86,8 @@ module _ (leading : UnitName) (l basins : List ℕ) (start count : ℕ)
   pub found_number : 0 ≡ (lookup_values (lookup_answer leading (labels_in l) basins)).number
   found_number = rw is
 
-module _ (leading : UnitName) (l basins : List ℕ) (number : ℕ)
-    (is : lookup_answer leading (labels_in l) basins ≡ Refused number) where
+module _ (leading : UnitName) (l basins : List ℕ) (refusal : Refusal)
+    (is : lookup_answer leading (labels_in l) basins ≡ Err refusal) where
   pub refused_part : [] ≡ numbers_of (lookup_part leading (labels_in l) basins)
   unfolding lookup_part numbers_of
   refused_part = rw is
@@ -103,5 +96,5 @@ module _ (leading : UnitName) (l basins : List ℕ) (number : ℕ)
   unfolding lookup_place
   refused_place first = let e : first.1 + 16 * 0 ≡ first.1 = omega arith in rw (is, e)
 
-  pub refused_number : number ≡ (lookup_values (lookup_answer leading (labels_in l) basins)).number
+  pub refused_number : refusal.number ≡ (lookup_values (lookup_answer leading (labels_in l) basins)).number
   refused_number = rw is

@@ -6,9 +6,9 @@ use lib.ListN.{length, replicate}
 use Rattle.sheet.specs.declared.Label.{Label}
 use Rattle.sheet.specs.declared.UnitName.{UnitName}
 use Rattle.sheet.specs.Record.{label_of_numbers, labels_in, numbers_of, unit_name}
-use Rattle.lookup.specs.declared.LookupAnswer.{LookupAnswer}
-use Rattle.lookup.specs.declared.LookupAnswer.TheVariants.{Part, Refused}
 use Rattle.lookup.specs.Lookup.{lookup_answer, lookup_part, lookup_place, lookup_values}
+use Rattle.lookup.specs.Answer.{LookupAnswer, PartFrom}
+use Rattle.sheet.specs.Answer.{Refused}
 
 -- ---- labels of up to 18 digits
 
@@ -38,31 +38,31 @@ numbers = 1 ∷ 2 ∷ 21 ∷ 3 ∷ 91 ∷ 92 ∷ 93 ∷ []
 
 -- leading 9; 2, which begins 21 and stands before it; no digits at all, which begin every label
 pub lookup_found : lookup_short 9 numbers ∷ lookup_short 2 numbers ∷ lookup_short 92 numbers ∷ lookup_short 0 numbers ∷
-    [] ≡ Part 4 3 ∷ Part 1 2 ∷ Part 5 1 ∷ Part 0 7 ∷ []
+    [] ≡ PartFrom 4 3 ∷ PartFrom 1 2 ∷ PartFrom 5 1 ∷ PartFrom 0 7 ∷ []
 unfolding lookup_answer
 lookup_found = refl
 
 -- the empty part at the place that the leading digits would take
 pub lookup_empty : lookup_short 11 numbers ∷ lookup_short 5 numbers ∷ lookup_short 94 numbers ∷ lookup_short 9 [] ∷
-    [] ≡ Part 1 0 ∷ Part 4 0 ∷ Part 7 0 ∷ Part 0 0 ∷ []
+    [] ≡ PartFrom 1 0 ∷ PartFrom 4 0 ∷ PartFrom 7 0 ∷ PartFrom 0 0 ∷ []
 unfolding lookup_answer
 lookup_empty = refl
 
 -- labels of different lengths between those that begin so
 pub lookup_lengths : lookup_short 2 (0 ∷ 19 ∷ 2 ∷ 21 ∷ 211 ∷ 29 ∷ 3 ∷ []) ∷ lookup_short 21 (0 ∷ 19 ∷ 2 ∷ 211 ∷ []) ∷
-    [] ≡ Part 2 4 ∷ Part 3 1 ∷ []
+    [] ≡ PartFrom 2 4 ∷ PartFrom 3 1 ∷ []
 unfolding lookup_answer
 lookup_lengths = refl
 
 -- 11 for the leading digits, though the list does not rise, and for an entry, though the list does not rise
 pub lookup_label : lookup_short 105 (2 ∷ 1 ∷ []) ∷ lookup_short 9 (2 ∷ 1 ∷ 105 ∷ []) ∷ lookup_short 9 (1 ∷ 20 ∷ []) ∷
-    [] ≡ Refused 11 ∷ Refused 11 ∷ Refused 11 ∷ []
+    [] ≡ Refused 11 0 ∷ Refused 11 0 ∷ Refused 11 0 ∷ []
 unfolding lookup_answer
 lookup_label = refl
 
 -- 16 for equal neighbours, for 21 before 2, for 9 before 12
 pub lookup_rising : lookup_short 9 (1 ∷ 2 ∷ 2 ∷ []) ∷ lookup_short 9 (21 ∷ 2 ∷ []) ∷ lookup_short 9 (9 ∷ 12 ∷ []) ∷
-    [] ≡ Refused 16 ∷ Refused 16 ∷ Refused 16 ∷ []
+    [] ≡ Refused 16 0 ∷ Refused 16 0 ∷ Refused 16 0 ∷ []
 unfolding lookup_answer
 lookup_rising = refl
 
@@ -81,7 +81,7 @@ long rest = label_of_numbers nines rest
 pub lookup_depth : lookup_one (short nines) (short 9 ∷ short nines ∷ []) ∷ lookup_one (long nines)
     (short nines ∷ long nines ∷ []) ∷ lookup_one (short 1111111111111111111) [] ∷ lookup_one
     (long 1111111111111111111) [] ∷ lookup_one (label_of_numbers 99999999999999999 1) [] ∷ lookup_one (short 9)
-    (long 10 ∷ []) ∷ [] ≡ Part 1 1 ∷ Part 1 1 ∷ Refused 11 ∷ Refused 11 ∷ Refused 11 ∷ Refused 11 ∷ []
+    (long 10 ∷ []) ∷ [] ≡ PartFrom 1 1 ∷ PartFrom 1 1 ∷ Refused 11 0 ∷ Refused 11 0 ∷ Refused 11 0 ∷ Refused 11 0 ∷ []
 unfolding lookup_answer
 lookup_depth = refl
 
@@ -91,14 +91,14 @@ longs = short 998 ∷ short nines ∷ long 1 ∷ long 12 ∷ long 2 ∷ long nin
 
 pub lookup_long : lookup_one (short 9) longs ∷ lookup_one (short nines) longs ∷ lookup_one (long 1)
     longs ∷ lookup_one (long 2) longs ∷ lookup_one (long 9) longs ∷ lookup_one (long nines) longs ∷ lookup_one
-    (long 13) longs ∷ [] ≡ Part 0 6 ∷ Part 1 5 ∷ Part 2 2 ∷ Part 4 1 ∷ Part 5 1 ∷ Part 5 1 ∷ Part 4 0 ∷ []
+    (long 13) longs ∷ [] ≡ PartFrom 0 6 ∷ PartFrom 1 5 ∷ PartFrom 2 2 ∷ PartFrom 4 1 ∷ PartFrom 5 1 ∷ PartFrom 5 1 ∷ PartFrom 4 0 ∷ []
 unfolding lookup_answer
 lookup_long = refl
 
 -- 16 for neighbours that differ only in the second number, in the wrong order, and for equal ones; a label of 19 digits
 -- before the 18 that it begins with
 pub long_rising : lookup_one (short 9) (long 2 ∷ long 12 ∷ []) ∷ lookup_one (short 9) (long 2 ∷ long 2 ∷ []) ∷
-    lookup_one (short 9) (long 1 ∷ short nines ∷ []) ∷ [] ≡ Refused 16 ∷ Refused 16 ∷ Refused 16 ∷ []
+    lookup_one (short 9) (long 1 ∷ short nines ∷ []) ∷ [] ≡ Refused 16 0 ∷ Refused 16 0 ∷ Refused 16 0 ∷ []
 unfolding lookup_answer
 long_rising = refl
 
@@ -114,13 +114,13 @@ lookup_in basin leading =
 
 -- the labels of the named basin alone, and all of these where there are no leading digits
 pub basins_found : lookup_in 1 9 ∷ lookup_in 2 9 ∷ lookup_in 4 9 ∷ lookup_in 1 0 ∷ lookup_in 2 0 ∷ lookup_in 4 0 ∷ [] ≡
-    Part 1 2 ∷ Part 3 2 ∷ Part 6 1 ∷ Part 0 3 ∷ Part 3 2 ∷ Part 5 2 ∷ []
+    PartFrom 1 2 ∷ PartFrom 3 2 ∷ PartFrom 6 1 ∷ PartFrom 0 3 ∷ PartFrom 3 2 ∷ PartFrom 5 2 ∷ []
 unfolding lookup_answer
 basins_found = refl
 
 -- the empty part at the place that they would take: in a basin that has others, in basins that the list lacks
 pub basins_empty : lookup_in 1 2 ∷ lookup_in 2 1 ∷ lookup_in 2 92 ∷ lookup_in 0 9 ∷ lookup_in 3 9 ∷ lookup_in 5 1 ∷ [] ≡
-    Part 1 0 ∷ Part 3 0 ∷ Part 5 0 ∷ Part 0 0 ∷ Part 5 0 ∷ Part 7 0 ∷ []
+    PartFrom 1 0 ∷ PartFrom 3 0 ∷ PartFrom 5 0 ∷ PartFrom 0 0 ∷ PartFrom 5 0 ∷ PartFrom 7 0 ∷ []
 unfolding lookup_answer
 basins_empty = refl
 
@@ -129,7 +129,7 @@ basins_empty = refl
 pub basins_rising : lookup_answer (unit_name 2 (short 9)) (shorts (9 ∷ 9 ∷ 1 ∷ [])) (1 ∷ 2 ∷ 3 ∷ []) ∷
     lookup_answer (unit_name 2 (short 9)) (shorts (1 ∷ 2 ∷ [])) (2 ∷ 1 ∷ []) ∷
     lookup_answer (unit_name 2 (short 9)) (shorts (1 ∷ 1 ∷ [])) (2 ∷ 2 ∷ []) ∷ [] ≡
-    Part 1 1 ∷ Refused 16 ∷ Refused 16 ∷ []
+    PartFrom 1 1 ∷ Refused 16 0 ∷ Refused 16 0 ∷ []
 unfolding lookup_answer
 basins_rising = refl
 
@@ -138,7 +138,7 @@ pub basins_three : lookup_answer (unit_name 1 (short 9)) (shorts (1 ∷ 2 ∷ []
     lookup_answer (unit_name 1 (short 105)) (shorts (2 ∷ 1 ∷ [])) (1 ∷ []) ∷
     lookup_answer (unit_name 1 (short 2)) (shorts (1 ∷ 105 ∷ [])) (2 ∷ []) ∷
     lookup_answer (unit_name 1 (short 2)) (shorts (1 ∷ 2 ∷ [])) (1 ∷ 1 ∷ 0 ∷ []) ∷ [] ≡
-    Refused 3 ∷ Refused 3 ∷ Refused 3 ∷ Part 1 1 ∷ []
+    Refused 3 0 ∷ Refused 3 0 ∷ Refused 3 0 ∷ PartFrom 1 1 ∷ []
 unfolding lookup_answer
 basins_three = refl
 
@@ -165,7 +165,7 @@ lookup_places = refl
 
 -- an odd number at the end of a slice, here no label, is no entry, and needs no basin
 pub lookup_odd : lookup_answer (in_basin (short 9)) (labels_in (2 ∷ 0 ∷ 9 ∷ 0 ∷ 105 ∷ [])) (1 ∷ 1 ∷ []) ∷ lookup_answer
-    (in_basin (short 9)) (labels_in (105 ∷ [])) [] ∷ [] ≡ Part 1 1 ∷ Part 0 0 ∷ []
+    (in_basin (short 9)) (labels_in (105 ∷ [])) [] ∷ [] ≡ PartFrom 1 1 ∷ PartFrom 0 0 ∷ []
 unfolding lookup_answer labels_in
 lookup_odd = refl
 

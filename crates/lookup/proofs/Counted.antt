@@ -1,5 +1,5 @@
 -- How many entries pass a test: place by place, for two tests, and where those that pass stand first.
-use mathlib.Core.Path.{◌≡◌, refl, sym, ◌∙◌}
+use mathlib.Core.Path.{◌≡◌, refl, sym, ap, ◌∙◌}
 use mathlib.Core.Bool.{Bool, true, false, cond, true≢false}
 use mathlib.Core.List.{List, [], ◌∷◌}
 use Prim.Native.Nat.{ℕ, zero, suc, ◌+◌, ◌/◌, ◌≤◌, ◌<◌}
@@ -9,6 +9,7 @@ use borrow.Author.Tests.{lt-ltb, le-ltb}
 use lib.Dec.{ltb, leb-suc-suc}
 use lib.ListN.{length, drop, get_or, drop_of_length-le}
 use lib.Seq.{drop-cons}
+use Rattle.std.specs.List.{filter, range_with_len}
 use Rattle.sheet.specs.declared.UnitName.{UnitName}
 use Rattle.sheet.specs.Record.{no_digits, unit_name, labels_in, label_places, units_in, unit_at}
 use Rattle.sheet.specs.Flow.{every}
@@ -17,7 +18,6 @@ use Rattle.sheet.proofs.Units.{units_length, unit_listed}
 use Rattle.sheet.proofs.Within.{both_true}
 use Rattle.lookup.specs.Lookup.{counted, stands_before, rising_from, is_rising}
 use Rattle.lookup.specs.Exactly.{entry_at}
-use Rattle.lookup.specs.Padded.{is_below, count_below}
 use Rattle.lookup.proofs.Rising.{rising_rest}
 
 -- a unit for places past the last
@@ -59,21 +59,18 @@ module _ (test : UnitName → Bool) (units : List UnitName) (i : ℕ) where
   unfolding counted
   counted_no h e = rw (add-one i, drop-cons units i no_unit, e)
 
--- the same for what stands before a limit in a basin
-module _ (basin limit : ℕ) (units : List UnitName) (i : ℕ) where
-  pub below_end : length units ≤ i → count_below basin limit (drop i units) ≡ 0
-  unfolding count_below
-  below_end h = counted_end (is_below basin limit) units i h
+-- told over the places of the entries
+module _ (test : UnitName → Bool) (units : List UnitName) (at : ℕ → Bool)
+    (agrees : (k : ℕ) → k < length units → at k ≡ test (entry_at units k)) where
+  one_place : (i : ℕ) (r : List ℕ) → i < length units → length r ≡ counted test (drop (i + 1) units) → (b : Bool)
+      → test (entry_at units i) ≡ b → length (cond (at i) (i ∷ r) r) ≡ counted test (drop i units)
+  one_place i r place rest true e = rw (agrees i place, e, counted_yes test units i place e) (ap suc rest)
+  one_place i r place rest false e = rw (agrees i place, e, counted_no test units i place e) rest
 
-  pub below_yes : i < length units → is_below basin limit (entry_at units i) ≡ true
-      → count_below basin limit (drop i units) ≡ suc (count_below basin limit (drop (i + 1) units))
-  unfolding count_below
-  below_yes h e = counted_yes (is_below basin limit) units i h e
-
-  pub below_no : i < length units → is_below basin limit (entry_at units i) ≡ false
-      → count_below basin limit (drop i units) ≡ count_below basin limit (drop (i + 1) units)
-  unfolding count_below
-  below_no h e = counted_no (is_below basin limit) units i h e
+  pub counted_places : (i n : ℕ) → i + n ≡ length units
+      → length (filter at (range_with_len i n)) ≡ counted test (drop i units)
+  counted_places i zero h = sym (counted_end test units i (omega arith))
+  counted_places i (suc n) h = one_place i _ (omega arith) (counted_places (i + 1) n (omega arith)) _ refl
 
 -- what every entry passes, each does
 pub every_at : {A : Type 0} (none : A) (test : A → Bool) (x : List A) (i : ℕ) → every test x ≡ true → i < length x

@@ -1,5 +1,5 @@
 -- A lookup hands back exactly the basin's labels that begin with the leading digits.
-use mathlib.Core.Path.{◌≡◌, refl, sym, ◌∙◌}
+use mathlib.Core.Path.{◌≡◌, refl, sym, ap, ◌∙◌}
 use mathlib.Core.Bool.{Bool, true, false, cond, true≢false}
 use mathlib.Core.List.{List}
 use Prim.Native.Nat.{ℕ, ◌+◌, ◌≤◌, ◌<◌}
@@ -14,7 +14,9 @@ use Rattle.sheet.specs.Record.{digits_of, basin_and_digits, units_in}
 use Rattle.sheet.specs.Flow.{every, is_label}
 use Rattle.sheet.proofs.Units.{units_most}
 use Rattle.sheet.proofs.Within.{both_true}
-use Rattle.lookup.specs.declared.LookupAnswer.TheVariants.{Part, Refused}
+use Rattle.std.specs.Prelude.{Ok}
+use Rattle.sheet.specs.Answer.{Refused}
+use Rattle.lookup.specs.Answer.{LookupAnswer, PartFrom}
 use Rattle.lookup.specs.Lookup.{
   greatest_depth,
   begins,
@@ -26,6 +28,7 @@ use Rattle.lookup.specs.Lookup.{
   length_of,
   part_found,
   lookup_answer,
+  lookup_values,
 }
 use Rattle.lookup.specs.Exactly.{entry_at, BeginsSo, Exactly}
 use Rattle.lookup.proofs.Begins.{begins_agrees, begins_not_before, begins_between, past_after}
@@ -158,7 +161,7 @@ pub record FoundBy (leading : UnitName) (labels : List Label) (basins : List ℕ
   pub count_is : length_of leading (units_in basins labels) ≡ count
 
 pub found_by : (leading : UnitName) (labels : List Label) (basins : List ℕ) (start count : ℕ)
-    → lookup_answer leading labels basins ≡ Part start count → FoundBy leading labels basins start count
+    → lookup_answer leading labels basins ≡ PartFrom start count → FoundBy leading labels basins start count
 unfolding lookup_answer
 found_by leading labels basins start count e =
     go (leb (length labels) (length basins)) refl (is_label greatest_depth leading.label) refl
@@ -167,16 +170,16 @@ found_by leading labels basins start count e =
     go : (b : Bool) → leb (length labels) (length basins) ≡ b → (f : Bool)
         → is_label greatest_depth leading.label ≡ f → (g : Bool) → every (is_label greatest_depth) labels ≡ g
         → (h : Bool) → is_rising (units_in basins labels) ≡ h
-        → cond b (cond f (cond g (cond h (part_found leading (units_in basins labels)) (Refused 16)) (Refused 11))
-        (Refused 11)) (Refused 3) ≡ Part start count → FoundBy leading labels basins start count
+        → cond b (cond f (cond g (cond h (Ok (part_found leading (units_in basins labels))) (Refused 16 0)) (Refused 11 0))
+        (Refused 11 0)) (Refused 3 0) ≡ PartFrom start count → FoundBy leading labels basins start count
     go true b true f true g true h e =
         record {
           basins_enough = leb-true (length labels) (length basins) b;
           leading_label = f;
           entries = g;
           rises = h;
-          start_is = cc;
-          count_is = cc;
+          start_is = ap (λ (answer : LookupAnswer). (lookup_values answer).start) e;
+          count_is = ap (λ (answer : LookupAnswer). (lookup_values answer).length) e;
         }
     go true b true f true g false h e = let z : ◌≡◌ {A = ℕ} 0 1 = cc in absurd (omega arith)
     go true b true f false g h k e = let z : ◌≡◌ {A = ℕ} 0 1 = cc in absurd (omega arith)
@@ -184,13 +187,13 @@ found_by leading labels basins start count e =
     go false b f g h k j i e = let z : ◌≡◌ {A = ℕ} 0 1 = cc in absurd (omega arith)
 
 pub found_exactly : (leading : UnitName) (labels : List Label) (basins : List ℕ) (start count : ℕ)
-    → lookup_answer leading labels basins ≡ Part start count → Exactly leading (units_in basins labels) start count
+    → lookup_answer leading labels basins ≡ PartFrom start count → Exactly leading (units_in basins labels) start count
 found_exactly leading labels basins start count e =
     let f = found_by leading labels basins start count e in
     rw (← f.start_is, ← f.count_is) (rising_exactly leading (units_in basins labels) f.rises)
 
 -- the part lies among the labels
 pub found_within : (leading : UnitName) (labels : List Label) (basins : List ℕ) (start count : ℕ)
-    → lookup_answer leading labels basins ≡ Part start count → start + count ≤ length labels
+    → lookup_answer leading labels basins ≡ PartFrom start count → start + count ≤ length labels
 found_within leading labels basins start count e =
     omega (arith, (found_exactly leading labels basins start count e).within, units_most basins labels)

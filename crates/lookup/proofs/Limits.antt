@@ -9,17 +9,11 @@ use Rattle.sheet.specs.declared.UnitName.{UnitName}
 use Rattle.sheet.specs.Record.{units_in}
 use Rattle.sheet.specs.Flow.{every, is_label}
 use Rattle.sheet.proofs.Units.{units_pass}
-use Rattle.lookup.specs.declared.LookupAnswer.TheVariants.{Part}
-use Rattle.lookup.specs.Lookup.{greatest_depth, start_of, length_of, part_found}
+use Rattle.lookup.specs.Lookup.{greatest_depth, start_of, length_of}
 use Rattle.lookup.specs.Padded.{padded, padded_end, is_below, count_below}
 use Rattle.lookup.proofs.Counted.{counted_agree}
 use Rattle.lookup.proofs.Exactly.{ahead, not_past, not_past_counted}
 use Rattle.lookup.proofs.PaddedOrder.{unit_before_padded, unit_not_past_padded}
-
--- the part, by its two numbers
-pub part_by : (leading : UnitName) (units : List UnitName) (start count : ℕ) → start ≡ start_of leading units
-    → count ≡ length_of leading units → Part start count ≡ part_found leading units
-part_by leading units start count e f = rw (e, f)
 
 -- the unit has a label
 abbrev labelled : UnitName → Bool

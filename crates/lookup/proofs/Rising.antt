@@ -1,6 +1,6 @@
 -- The test of a rising list agrees with the relation of all its entries, and goes from place to place.
-use mathlib.Core.Path.{◌≡◌, refl}
-use mathlib.Core.Bool.{true, false}
+use mathlib.Core.Path.{◌≡◌, refl, sym, ◌∙◌}
+use mathlib.Core.Bool.{Bool, true, false, ◌&&◌}
 use mathlib.Core.List.{List, [], ◌∷◌}
 use mathlib.Core.Logic.{◌↔◌}
 use Prim.Native.Nat.{ℕ, zero, suc, ◌+◌, ◌-◌, ◌≤◌, ◌<◌}
@@ -8,6 +8,7 @@ use native.Mathlib.Numerals.{add-one}
 use native.Mathlib.Omega.{arith}
 use lib.ListN.{length, drop, drop_of_length-le}
 use lib.Seq.{drop-cons}
+use Rattle.std.specs.List.{list_all, range_with_len}
 use Rattle.claims.proofs.Dictionary.{before_transitive}
 use Rattle.sheet.specs.declared.UnitName.{UnitName}
 use Rattle.sheet.specs.Record.{no_digits, unit_name, basin_and_digits}
@@ -92,3 +93,25 @@ module _ (units : List UnitName) (i : ℕ) where
   rising_turn m h e =
       let back : i + 1 - 1 ≡ i = omega arith in
       rw (back, add-one i, drop-cons units i (unit_name 0 no_digits), e)
+
+-- ---- told over the places of the units but the first
+
+module _ (units : List UnitName) (test : ℕ → Bool)
+    (agrees : (k : ℕ) → 1 ≤ k → k < length units → test k ≡ stands_before (entry_at units (k - 1)) (entry_at units k)) where
+  one_place : (i : ℕ) (r : Bool) → 1 ≤ i → i < length units
+      → r ≡ rising_from (entry_at units (i + 1 - 1)) (drop (i + 1) units) → (b : Bool)
+      → stands_before (entry_at units (i - 1)) (entry_at units i) ≡ b
+      → (test i && r) ≡ rising_from (entry_at units (i - 1)) (drop i units)
+  one_place i r some place rest true e =
+      rw (agrees i some place, e, rest) (rising_turn units i (entry_at units (i - 1)) place e)
+  one_place i r some place rest false e =
+      rw (agrees i some place, e) (sym (rising_no units i (entry_at units (i - 1)) place e))
+
+  from_place : (i n : ℕ) → 1 ≤ i → n ≡ length units - i
+      → list_all test (range_with_len i n) ≡ rising_from (entry_at units (i - 1)) (drop i units)
+  from_place i zero some h = sym (rising_end units i (entry_at units (i - 1)) (omega arith))
+  from_place i (suc n) some h =
+      one_place i _ some (omega arith) (from_place (i + 1) n (omega arith) (omega arith)) _ refl
+
+  pub rising_places : list_all test (range_with_len 1 (length units - 1)) ≡ is_rising units
+  rising_places = from_place 1 (length units - 1) (omega arith) refl ∙ rising_start units

@@ -2,11 +2,10 @@
 use mathlib.Core.Path.{◌≡◌, refl, ap, ◌∙◌}
 use mathlib.Core.Bool.{Bool, true, false}
 use Prim.Native.Nat.{ℕ, suc, ◌+◌, ◌*◌, ◌-◌, ◌/◌, ◌^◌, ◌≤◌, ◌<◌}
-use native.Mathlib.Numerals.{add-one}
 use native.Mathlib.Omega.{arith}
 use borrow.Author.Tests.{leb-true, leb-false}
 use lib.Dec.{leb}
-use native.Mathlib.Nat.{pow-suc, pow-le-pow_right}
+use native.Mathlib.Nat.{pow-suc}
 use lib.ListN.{length, length-append}
 use Rattle.sheet.specs.Record.{decimal_digits, number_digits}
 use Rattle.sheet.proofs.Digits.{digits_step, digits_at_most, digits_below}
@@ -23,15 +22,6 @@ module _ (m k : ℕ) where
   pub zeros_end : number_digits ≤ k → number_with_zeros m k ≡ m
   unfolding number_with_zeros
   zeros_end h = let e : number_digits - k ≡ 0 = omega arith in rw e (omega arith)
-
-  pub zeros_bound : m ≤ 10 ^ k → m * 10 ≤ 10 ^ (k + 1)
-  zeros_bound h = rw (add-one k, pow-suc 10 k) (omega arith)
-
-  -- with a zero more there are at most 18 digits
-  pub zeros_fit : m ≤ 10 ^ k → k < number_digits → m * 10 ≤ 10 ^ number_digits
-  zeros_fit h l =
-      let powers = pow-le-pow_right {n = 10} (omega arith) {i = k + 1} {j = number_digits} (omega arith) in
-      omega (arith, zeros_bound h)
 
 -- ---- zeros behind a number's own digits
 

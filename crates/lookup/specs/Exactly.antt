@@ -6,7 +6,7 @@ use Rattle.claims.specs.Parting.{Begins}
 use Rattle.sheet.specs.declared.Label.{Label}
 use Rattle.sheet.specs.declared.UnitName.{UnitName}
 use Rattle.sheet.specs.Record.{digits_of, no_digits, unit_name, basin_and_digits, units_in}
-use Rattle.lookup.specs.declared.LookupAnswer.TheVariants.{Part}
+use Rattle.lookup.specs.Answer.{PartFrom}
 use Rattle.lookup.specs.Lookup.{lookup_answer}
 
 -- the entry at a place
@@ -46,5 +46,5 @@ pub record Exactly (leading : UnitName) (units : List UnitName) (start count : �
 pub record LookupFinds (leading : UnitName) (labels : List Label) (basins : List ℕ) : Type 0 where
   pub start : ℕ
   pub count : ℕ
-  pub answer : lookup_answer leading labels basins ≡ Part start count
+  pub answer : lookup_answer leading labels basins ≡ PartFrom start count
   pub part : Exactly leading (units_in basins labels) start count

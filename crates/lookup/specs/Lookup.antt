@@ -1,13 +1,14 @@
 -- Looking up leading digits in a basin's part of a list of labels: refusals 3, 11 and 16, and the part of the list
 -- that holds the basin's labels that begin so.
-use Rattle.std.specs.Prelude.{Bool, true, false, cond, List, [], ◌∷◌, ℕ, suc, ◌+◌, ◌*◌, eqb, leb, length, take, drop}
+use Rattle.std.specs.Prelude.{Bool, true, false, cond, List, [], ◌∷◌, ℕ, suc, ◌+◌, ◌*◌, eqb, leb, length, take, drop, Ok, Err}
 use Rattle.claims.specs.Dictionary.{is_before}
 use Rattle.sheet.specs.declared.Label.{Label}
 use Rattle.sheet.specs.declared.UnitName.{UnitName}
 use Rattle.sheet.specs.Record.{basin_and_digits, units_in}
 use Rattle.sheet.specs.Flow.{every, is_label}
-use Rattle.lookup.specs.declared.LookupAnswer.{LookupAnswer}
-use Rattle.lookup.specs.declared.LookupAnswer.TheVariants.{Part, Refused}
+use Rattle.lookup.specs.declared.Part.{Part}
+use Rattle.lookup.specs.Answer.{LookupAnswer}
+use Rattle.sheet.specs.Answer.{Refused}
 
 -- the depth at which leading digits and entries are judged: the most digits of any label
 abbrev pub greatest_depth : ℕ
@@ -57,8 +58,8 @@ unfolding counted begins_with
 length_of leading units = counted (begins_with leading) units
 
 -- the part that holds the entries that begin so
-abbrev pub part_found : UnitName → List UnitName → LookupAnswer
-part_found leading units = Part (start_of leading units) (length_of leading units)
+abbrev pub part_found : UnitName → List UnitName → Part
+part_found leading units = record { start = start_of leading units; length = length_of leading units }
 
 -- 3 for fewer basins than labels, 11 for the leading digits, 11 for the entries, 16, in this order; else the part.
 -- Basins past the labels are not looked at.
@@ -66,10 +67,10 @@ unfoldable pub lookup_answer : UnitName → List Label → List ℕ → LookupAn
 unfolding is_label every units_in is_rising start_of length_of
 lookup_answer leading labels basins =
     let units : List UnitName = units_in basins labels in
-    let ordered : LookupAnswer = cond (is_rising units) (part_found leading units) (Refused 16) in
-    let judged : LookupAnswer = cond (every (is_label greatest_depth) labels) ordered (Refused 11) in
-    let known : LookupAnswer = cond (is_label greatest_depth leading.label) judged (Refused 11) in
-    cond (leb (length labels) (length basins)) known (Refused 3)
+    let ordered : LookupAnswer = cond (is_rising units) (Ok (part_found leading units)) (Refused 16 0) in
+    let judged : LookupAnswer = cond (every (is_label greatest_depth) labels) ordered (Refused 11 0) in
+    let known : LookupAnswer = cond (is_label greatest_depth leading.label) judged (Refused 11 0) in
+    cond (leb (length labels) (length basins)) known (Refused 3 0)
 
 -- the refusal's number, or 0; where the part starts and how many entries it has, both 0 where the lookup is refused
 pub record LookupValues : Type 0 where
@@ -78,8 +79,8 @@ pub record LookupValues : Type 0 where
   pub length : ℕ
 
 abbrev pub lookup_values : LookupAnswer → LookupValues
-lookup_values (Part start length) = record { number = 0; start = start; length = length }
-lookup_values (Refused number) = record { number = number; start = 0; length = 0 }
+lookup_values (Ok part) = record { number = 0; start = part.start; length = part.length }
+lookup_values (Err refusal) = record { number = refusal.number; start = 0; length = 0 }
 
 -- the entries of a part
 abbrev pub part_of : LookupValues → List Label → List Label

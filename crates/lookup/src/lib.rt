@@ -1,7 +1,7 @@
 // Looking up leading digits in a basin: the part of a slice of labels that holds the basin's labels that begin so.
 #![tactic(auto)]
 
-ghost use Rattle.std.specs.Prelude.{◌≡◌, true, ◌≤◌, ◌^◌, ◌/◌, ltb, length};
+ghost use Rattle.std.specs.Prelude.{◌≡◌, true, ◌≤◌, ◌^◌, ltb, length};
 ghost use Rattle.sheet.specs.Record.{decimal_digits, number_digits, labels_in, numbers_of, units_in};
 ghost use Rattle.sheet.specs.Flow.{every, is_label};
 ghost use Rattle.lookup.specs.Lookup.{greatest_depth, stands_before, is_rising, part_found};
@@ -9,15 +9,15 @@ ghost use Rattle.lookup.specs.Lookup.{lookup_answer, lookup_values, lookup_part,
 ghost use Rattle.lookup.specs.Padded.{padded as paddedOf, padded_end, is_below, count_below};
 ghost use Rattle.lookup.specs.PaddedHalves.{number_with_zeros, padded_number, HalvesOf, joined};
 
-use checks::{label_at, unit_at};
+use checks::{label_at, label_count, unit_at};
 use digits::{count_decimal_digits, is_label};
-use sheet::{Label, UnitName};
+use sheet::{LEAST_OF_18_DIGITS, Label, NUMBER_DIGITS, Refusal, UnitName};
 
-// The answer of find: where the part starts and how many labels it has, or the number of the refusal.
-#[derive(Clone, Copy)]
-pub enum LookupAnswer {
-    Part(usize, usize),
-    Refused(u8),
+// A part of the labels: where it starts and how many labels it has.
+#[derive(Clone, Copy, Debug, PartialEq, Eq)]
+pub struct Part {
+    pub start: usize,
+    pub length: usize,
 }
 
 // A number of 36 digits in two halves, the first 18 digits and the next 18.
@@ -30,33 +30,11 @@ pub struct Halves {
 // The most digits of any label.
 pub const GREATEST_DEPTH: usize = 36;
 
-// The most digits of each of its numbers.
-const NUMBER_DIGITS: usize = 18;
-
-// The least number of 18 digits.
-const LEAST_OF_18_DIGITS: u64 = 100000000000000000;
-
-// How many labels a slice holds; an odd number at the end is none.
-pub fn label_count(labels: &[u64]) -> usize
-    ensures { result ≡ length labels.now / 2 }
-{
-    labels.len() / 2
-}
-
 // Each entry is a label.
 pub fn all_labels(labels: &[u64]) -> bool
     ensures { result ≡ every (is_label greatest_depth) (labels_in labels.now) }
 {
-    let count = label_count(labels);
-    let mut i = 0;
-    while i < count {
-        if is_label(GREATEST_DEPTH, label_at(labels, i)) {
-            i += 1;
-        } else {
-            return false;
-        }
-    }
-    true
+    (0..label_count(labels)).all(|i| is_label(GREATEST_DEPTH, label_at(labels, i)))
 }
 
 // A number of count digits, or the one past the last of those, with zeros behind it, up to 18 digits.
@@ -65,13 +43,7 @@ fn with_zeros(number: u64, count: usize) -> u64
     requires count_le_number_digits { count ≤ number_digits }
     ensures { result ≡ number_with_zeros number count }
 {
-    let mut m = number;
-    let mut k = count;
-    while k < NUMBER_DIGITS {
-        m = m * 10;
-        k += 1;
-    }
-    m
+    number * 10u64.pow((NUMBER_DIGITS - count) as u32)
 }
 
 // A number with zeros behind its digits, up to 18 digits; 0 stays 0.
@@ -84,7 +56,7 @@ fn padded_number(number: u64) -> u64
     }
     let mut m = number;
     while m < LEAST_OF_18_DIGITS {
-        m = m * 10;
+        m *= 10;
     }
     m
 }
@@ -94,11 +66,9 @@ pub fn padded(label: Label) -> Halves
     requires { is_label greatest_depth label ≡ true }
     ensures { HalvesOf (paddedOf label) result }
 {
-    let first = padded_number(label.first);
-    let rest = padded_number(label.rest);
     Halves {
-        first: first,
-        rest: rest,
+        first: padded_number(label.first),
+        rest: padded_number(label.rest),
     }
 }
 
@@ -108,16 +78,14 @@ pub fn padded_end(leading: Label) -> Halves
     ensures { HalvesOf (padded_end leading) result }
 {
     if leading.rest == 0 {
-        let first = with_zeros(leading.first + 1, count_decimal_digits(leading.first));
         return Halves {
-            first: first,
+            first: with_zeros(leading.first + 1, count_decimal_digits(leading.first)),
             rest: 0,
         };
     }
-    let rest = with_zeros(leading.rest + 1, count_decimal_digits(leading.rest));
     Halves {
         first: leading.first,
-        rest: rest,
+        rest: with_zeros(leading.rest + 1, count_decimal_digits(leading.rest)),
     }
 }
 
@@ -128,22 +96,17 @@ pub fn is_below(label: Label, limit: Halves) -> bool
     ensures { result ≡ ltb (paddedOf label) (joined limit) }
 {
     let first = padded_number(label.first);
-    if first == limit.first {
-        return padded_number(label.rest) < limit.rest;
-    }
-    first < limit.first
+    first < limit.first || (first == limit.first && padded_number(label.rest) < limit.rest)
 }
 
 // The unit stands before a limit in a basin: by basins, and where those are equal by padded labels.
+#[tactic(auto, unfolding(crate::specs::Padded::is_below))]
 fn unit_is_below(unit: UnitName, basin: u32, limit: Halves) -> bool
     requires label_value { is_label greatest_depth unit.label ≡ true }
     requires rest_bound { limit.rest ≤ 10 ^ number_digits }
     ensures { result ≡ is_below basin (joined limit) unit }
 {
-    if unit.basin == basin {
-        return is_below(unit.label, limit);
-    }
-    unit.basin < basin
+    unit.basin < basin || (unit.basin == basin && is_below(unit.label, limit))
 }
 
 // The unit m stands before the unit k.
@@ -161,16 +124,10 @@ fn is_rising(labels: &[u64], basins: &[u32]) -> bool
     requires labels_value { every (is_label greatest_depth) (labels_in labels.now) ≡ true }
     ensures { result ≡ is_rising (units_in basins.now (labels_in labels.now)) }
 {
-    let count = label_count(labels);
-    let mut i = 1;
-    while i < count {
-        if stands_before(unit_at(basins, labels, i - 1), unit_at(basins, labels, i)) {
-            i += 1;
-        } else {
-            return false;
-        }
-    }
-    true
+    (1..label_count(labels)).all(|i| stands_before(
+        unit_at(basins, labels, i - 1),
+        unit_at(basins, labels, i),
+    ))
 }
 
 // How many units stand before a limit in a basin.
@@ -181,20 +138,13 @@ fn count_below(basin: u32, limit: Halves, labels: &[u64], basins: &[u32]) -> usi
     ensures { result ≡ count_below basin (joined limit)
         (units_in basins.now (labels_in labels.now)) }
 {
-    let entries = label_count(labels);
-    let mut count = 0;
-    let mut i = 0;
-    while i < entries {
-        if unit_is_below(unit_at(basins, labels, i), basin, limit) {
-            count += 1;
-        }
-        i += 1;
-    }
-    count
+    (0..label_count(labels))
+        .filter(|i| unit_is_below(unit_at(basins, labels, *i), basin, limit))
+        .count()
 }
 
 // Where the basin's labels that begin with the leading digits start, and how many there are.
-fn part_found(leading: UnitName, labels: &[u64], basins: &[u32]) -> LookupAnswer
+fn part_found(leading: UnitName, labels: &[u64], basins: &[u32]) -> Part
     requires label_value { is_label greatest_depth leading.label ≡ true }
     requires labels_in_bounds { length (labels_in labels.now) ≤ length basins.now }
     requires labels_value { every (is_label greatest_depth) (labels_in labels.now) ≡ true }
@@ -202,33 +152,35 @@ fn part_found(leading: UnitName, labels: &[u64], basins: &[u32]) -> LookupAnswer
 {
     let start = count_below(leading.basin, padded(leading.label), labels, basins);
     let end = count_below(leading.basin, padded_end(leading.label), labels, basins);
-    LookupAnswer::Part(start, end - start)
+    Part {
+        start,
+        length: end - start,
+    }
 }
 
 // Where the part starts and how many labels it has. Refused by 3 for fewer basins than labels, 11 for the leading
 // digits, 11 for the entries, 16, in this order.
-pub fn find(leading: UnitName, labels: &[u64], basins: &[u32]) -> LookupAnswer
+#[tactic(auto, using(crate::proofs::Counted::labels_counted))]
+pub fn find(leading: UnitName, labels: &[u64], basins: &[u32]) -> Result<Part, Refusal>
     ensures answer { result ≡ lookup_answer leading (labels_in labels.now) basins.now }
     ensures values { lookup_values result
         ≡ lookup_values (lookup_answer leading (labels_in labels.now) basins.now) }
 {
     if basins.len() < label_count(labels) {
-        return LookupAnswer::Refused(3);
+        return Err(Refusal::numbered(3));
     }
-    if is_label(GREATEST_DEPTH, leading.label) {
-        if all_labels(labels) {
-            if is_rising(labels, basins) {
-                return part_found(leading, labels, basins);
-            }
-            return LookupAnswer::Refused(16);
-        }
-        return LookupAnswer::Refused(11);
+    if !is_label(GREATEST_DEPTH, leading.label) || !all_labels(labels) {
+        return Err(Refusal::numbered(11));
     }
-    LookupAnswer::Refused(11)
+    if !is_rising(labels, basins) {
+        return Err(Refusal::numbered(16));
+    }
+    Ok(part_found(leading, labels, basins))
 }
 
 // The part of the slice that holds the basin's labels that begin with the leading digits, empty at the place they would
-// take if none does; refused, the empty part at the slice's start. The refusal's number, or 0, goes to the lent number.
+// take if none does; refused, the empty part at the slice's start. The refusal's number, or 0, goes to the lent number: no
+// `Result`, since the clauses `part` and `place` promise a part of the lent slice for a refused lookup too.
 pub fn lookup<'a>(
     leading: UnitName,
     labels: &'a [u64],
@@ -243,14 +195,14 @@ pub fn lookup<'a>(
         ≡ (lookup_values (lookup_answer leading (labels_in labels.now) basins.now)).number }
 {
     match find(leading, labels, basins) {
-        LookupAnswer::Part(start, length) => {
+        Ok(part) => {
             *refusal = 0;
-            let from = 2 * start;
-            let to = from + 2 * length;
+            let from = 2 * part.start;
+            let to = from + 2 * part.length;
             return &labels[from..to];
         }
-        LookupAnswer::Refused(number) => {
-            *refusal = number;
+        Err(refused) => {
+            *refusal = refused.number;
             return &labels[..0];
         }
     }

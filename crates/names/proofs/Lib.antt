@@ -1,4 +1,3 @@
-pub mod ColumnLaws
 pub mod NamesLaws
 pub mod OtherBytes
 pub mod Cases

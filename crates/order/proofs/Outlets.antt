@@ -11,8 +11,6 @@ use lib.Dec.{leb}
 use lib.ListN.{length, get_or, take}
 use lib.Seq.{length-take-le, get_or-take, take-take}
 use borrow.Author.Tests.{lt-ltb, eq-eqb, ne_eqb, leb-true, leb-false}
-use Rattle.sheet.specs.declared.Next.{Next}
-use Rattle.sheet.specs.declared.Next.TheVariants.{Outlet, To}
 use Rattle.sheet.specs.Sheet.{Grid, cells, inside, is_outlet, next}
 use Rattle.sheet.specs.Area.{count}
 use Rattle.sheet.specs.Water.{Passes, reaches_outlet}
@@ -31,6 +29,8 @@ use Rattle.order.proofs.Ascending as asc
 use Rattle.order.proofs.Placing.{Once, ascending_once}
 use Rattle.order.proofs.Sizes.{count_same, reached, reaches, passes_any, into_passes, passes_into, any_some}
 use Rattle.order.proofs.Sizes.{any_has, sizes_add}
+use Rattle.sheet.specs.Answer.{Next}
+use Rattle.std.specs.Prelude.{None, Some}
 
 -- ---- the first m members of a list
 
@@ -138,10 +138,10 @@ module _ {G : Grid} {work : List ℕ} {queued : ℕ} (S : Searched G work queued
   later_receiver l e = go (next G (queued_at work m)) refl (sym (S.upstream.receiver m l) ∙ e)
     where
       go : (x : Next) → next G (queued_at work m) ≡ x → numbered x ≡ 0 → ⊥
-      go Outlet f z =
+      go None f z =
           let o = is_outlet_lem G (queued_at work m) (S.upstream.is_inside_lem m l) f in
           omega (arith, S.outlets.first (queued_at work m) o, (S.upstream.queue.item m l).rank)
-      go (To r) f z = omega arith
+      go (Some r) f z = omega arith
 
   pub first_outlets_lem : queued ≤ length work → first_outlets (cells G) work (take queued work) ≡ outlets_in G work
   first_outlets_lem room =

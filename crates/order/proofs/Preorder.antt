@@ -7,7 +7,6 @@ use Prim.Native.Nat.{ℕ, zero, suc, ◌+◌, ◌≤◌}
 use native.Mathlib.Omega.{arith}
 use lib.Dec.{eqb}
 use borrow.Author.Tests.{eqb-true, eqb-false}
-use Rattle.sheet.specs.declared.Next.TheVariants.{To}
 use Rattle.sheet.specs.Water.{Passes, here, there}
 use Rattle.sheet.specs.River.{Network}
 use Rattle.claims.specs.Basin.{Forest}
@@ -15,6 +14,7 @@ use Rattle.claims.proofs.Runs.{pass_trans, pass_last}
 use Rattle.claims.proofs.Basins.{lawful, stays_inside}
 use Rattle.order.specs.Positions.{Consecutive, Preorder}
 use Rattle.order.proofs.Intervals.{At, Between, between, member_at, member_once}
+use Rattle.std.specs.Prelude.{Some}
 
 -- the outlets stand one after the other from position 0 on, and every inside cell drains to one
 pub record Outlets (N : Network) (inside : ℕ → Type 0) (size pos : ℕ → ℕ) (outlets : List ℕ) : Type 0 where
@@ -34,7 +34,7 @@ module _ {N : Network} {inside : ℕ → Type 0} (F : Forest N inside) {size pos
   some c i = omega (arith, P.adds c i)
 
   -- a donor's positions lie after the cell's own, within those of the cell
-  pub donor_between : {u c : ℕ} → N.next u ≡ To c → Between size pos (pos c + 1) (pos c + size c) u
+  pub donor_between : {u c : ℕ} → N.next u ≡ Some c → Between size pos (pos c + 1) (pos c + size c) u
   donor_between {u} {c} e =
       let i = F.to_inside u c e in
       let b = between (P.follow c i) u ((lawful F).donors_complete c u e) in
@@ -46,7 +46,7 @@ module _ {N : Network} {inside : ℕ → Type 0} (F : Forest N inside) {size pos
       let d = donor_between e in let b = upstream_between h in record { from = omega arith; upto = omega arith }
 
   -- the sizes of donors are smaller
-  smaller : {u c : ℕ} (k : ℕ) → N.next u ≡ To c → size c ≤ suc k → size u ≤ k
+  smaller : {u c : ℕ} (k : ℕ) → N.next u ≡ Some c → size c ≤ suc k → size u ≤ k
   smaller k e l = let d = donor_between e in omega arith
 
   -- the cell at a position among those of c
@@ -56,7 +56,7 @@ module _ {N : Network} {inside : ℕ → Type 0} (F : Forest N inside) {size pos
       go (eqb (pos c) p) refl (λ u e b. cell_within k u p (smaller k e l) (F.from_inside u c e) b)
     where
       go : (b : Bool) → eqb (pos c) p ≡ b
-          → ((u : ℕ) → N.next u ≡ To c → At size pos u p → (q : ℕ) × Passes N.next q u × (pos q ≡ p)) →
+          → ((u : ℕ) → N.next u ≡ Some c → At size pos u p → (q : ℕ) × Passes N.next q u × (pos q ≡ p)) →
           (q : ℕ) × Passes N.next q c × (pos q ≡ p)
       go true t f = (c, here, eqb-true (pos c) p t)
       go false t f =
@@ -80,10 +80,10 @@ module _ {N : Network} {inside : ℕ → Type 0} (F : Forest N inside) {size pos
       go (pass_last h) (pass_last m) (λ u s x y. same_within k u p q (smaller k s l) i j x y e)
     where
       up : ℕ → Type 0
-      up x = (u : ℕ) × (N.next u ≡ To c) × Passes N.next x u
+      up x = (u : ℕ) × (N.next u ≡ Some c) × Passes N.next x u
 
       go : (p ≡ c) ⊎ up p → (q ≡ c) ⊎ up q
-          → ((u : ℕ) → N.next u ≡ To c → Passes N.next p u → Passes N.next q u → p ≡ q) → p ≡ q
+          → ((u : ℕ) → N.next u ≡ Some c → Passes N.next p u → Passes N.next q u → p ≡ q) → p ≡ q
       go (inl x) (inl y) f = x ∙ sym y
       go (inl x) (inr y) f =
           let b = upstream_between y.2 in let d = donor_between y.1 in let z = ap pos x in absurd (omega arith)

@@ -6,8 +6,6 @@ use Prim.Native.Nat.{ℕ, suc, ◌+◌, ◌*◌, ◌-◌, ◌≤◌, ◌<◌}
 use native.Mathlib.Numerals.{add-one}
 use native.Mathlib.Omega.{arith}
 use lib.ListN.{length, take}
-use Rattle.sheet.specs.declared.Next.{Next}
-use Rattle.sheet.specs.declared.Next.TheVariants.{Outlet, To}
 use Rattle.sheet.specs.Sheet.{Grid, cells, inside, next}
 use Rattle.sheet.specs.River.{network_by, donors}
 use Rattle.sheet.proofs.Cells.{cells_most, inside_lt, next_goes, outlet_not_to}
@@ -31,6 +29,8 @@ use Rattle.order.proofs.Outlets.{outlets_once, first_outlets_lem, outlet_listed,
 use Rattle.order.proofs.Outlets.{outlet_sizes}
 use Rattle.order.proofs.Gathering.{donor_goes, goes_donor}
 use Rattle.order.proofs.Entering.{step_cases}
+use Rattle.sheet.specs.Answer.{Next}
+use Rattle.std.specs.Prelude.{None, Some}
 
 module _ {G : Grid} {areas work : List ℕ} {queued : ℕ} (W : Surveyed G areas work queued) where
   up : Upstream G work queued
@@ -62,7 +62,7 @@ module _ {G : Grid} {areas work : List ℕ} {queued : ℕ} (W : Surveyed G areas
       omega (arith, (up.queue.item i l).rank, (up.queue.item j h).rank, ap (rank_of (cells G) work) e)
 
   -- receivers stand before their donors
-  donor_later : (i j : ℕ) → i < queued → j < queued → next G (queued_at work i) ≡ To (queued_at work j) → j < i
+  donor_later : (i j : ℕ) → i < queued → j < queued → next G (queued_at work i) ≡ Some (queued_at work j) → j < i
   donor_later i j l h e =
       let b = (up.queue.item i l).before (queued_at work j) (up.receiver i l ∙ ap numbered e ∙ sym (add-one _)) in
       omega (arith, b.earlier, (up.queue.item j h).rank)
@@ -119,12 +119,12 @@ module _ {G : Grid} {areas work : List ℕ} {queued : ℕ} (W : Surveyed G areas
 
     -- no position of the cell lies past the last
     within_cell : (x : Next) → next G cell ≡ x → position_at n now cell + size G cell ≤ queued
-    within_cell Outlet e =
+    within_cell None e =
         let m = outlet_listed W.drained.searched cell (is_outlet_lem G cell (queue_inside i l) e) in
         omega (arith, between P.first cell m, outlet_sizes W.drained)
-    within_cell (To r) e =
+    within_cell (Some r) e =
         let q = place_of r (next_goes G cell e).to_inside in
-        let t : next G cell ≡ To (queued_at work q.0) = rw q.2 e in
+        let t : next G cell ≡ Some (queued_at work q.0) = rw q.2 e in
         let j = donor_later i q.0 l q.1 t in
         let b = between (P.follow q.0 j) cell (goes_donor G areas (queued_at work q.0) cell t) in
         omega (arith, b.upto, adds (queued_at work q.0) (queue_inside q.0 q.1), P.within q.0 j)
@@ -148,7 +148,7 @@ module _ {G : Grid} {areas work : List ℕ} {queued : ℕ} (W : Surveyed G areas
       D = rw cell_kept at placing
 
       -- the position of a cell that is no donor
-      stays : (u : ℕ) → (next G u ≡ To cell → ⊥) → position_at n later u ≡ position_at n now u
+      stays : (u : ℕ) → (next G u ≡ Some cell → ⊥) → position_at n later u ≡ position_at n now u
       stays u d =
           D.kept (positions_part * n + u)
           (λ v m e. let s : u ≡ v = omega arith in d (rw s (donor_goes G areas cell v m)))

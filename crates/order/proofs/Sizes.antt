@@ -7,7 +7,6 @@ use mathlib.Core.Logic.{◌⊎◌, inl, inr}
 use Prim.Native.Nat.{ℕ, zero, suc, ◌≤◌, ◌<◌}
 use native.Mathlib.Omega.{arith}
 use borrow.Author.Tests.{lt-ltb}
-use Rattle.sheet.specs.declared.Next.TheVariants.{Outlet}
 use Rattle.sheet.specs.Sheet.{Grid, cells, inside, next}
 use Rattle.sheet.specs.Water.{Passes, passes, reaches_outlet}
 use Rattle.sheet.specs.Area.{count, sum_over, drains_into}
@@ -28,6 +27,7 @@ use Rattle.upstream.specs.Work.{is_reached}
 use Rattle.upstream.specs.Search.{Drained}
 use Rattle.drainage.specs.Total.{size}
 use Rattle.order.proofs.Placing.{Once, once_none, once_next}
+use Rattle.std.specs.Prelude.{None}
 
 pub count_same : (n : ℕ) (f g : ℕ → Bool) → ((c : ℕ) → c < n → f c ≡ g c) → count n f ≡ count n g
 unfolding count
@@ -124,12 +124,12 @@ module _ (G : Grid) where
       go false e (inr k) f = f k
 
   -- a way has one end
-  one_end : {q o w : ℕ} → Passes (next G) q o → Passes (next G) q w → next G o ≡ Outlet → next G w ≡ Outlet → o ≡ w
+  one_end : {q o w : ℕ} → Passes (next G) q o → Passes (next G) q w → next G o ≡ None → next G w ≡ None → o ≡ w
   one_end h k e f = let r = at_ends h e in sym (ends_end r.1 h e) ∙ ends_end r.1 k f
 
   -- together they are as many as the cells whose water passes one of them
   pub sizes_add : (os : List ℕ) → Once os
-      → ((o : ℕ) → Memᴰ o os → (inside G o ≡ true) × (next G o ≡ Outlet))
+      → ((o : ℕ) → Memᴰ o os → (inside G o ≡ true) × (next G o ≡ None))
       → sum (size G) os ≡ count (cells G) (passes_any G os)
   unfolding sum passes_any
   sizes_add [] once_none h = sym (count_none (cells G) (passes_any G []) (λ q l. refl))

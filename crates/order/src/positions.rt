@@ -1,13 +1,14 @@
 // Positions in the order along rivers, and the cell and the size at each.
 ghost use Rattle.std.specs.Prelude.{◌≡◌, map, ◌*◌, ◌<◌, ◌≤◌, length, take};
 ghost use Rattle.sheet.specs.Sheet.{grid};
-ghost use Rattle.directions.specs.Sizes.{most_cells};
+ghost use Rattle.directions.specs.Sizes.{most_cells, grid_of};
 ghost use Rattle.order.specs.Keys.{cell_of};
 ghost use Rattle.order.specs.Places.{position_at, Measured, Surveyed, positioned, PositionsFit, Standing};
 ghost use Rattle.order.specs.Places.{first_outlets, OutletsFit};
 ghost use Rattle.order.specs.Places.{DonorsPlaced, Placed, entered, Apart, Entered, Arranged, OtherPlaces};
 
 use crate::donors::donors_of;
+use directions::Grid;
 use upstream::parts;
 
 // Gives the cells of keys positions one after the other from `first` on.
@@ -18,8 +19,8 @@ fn place_donors(n: usize, first: u32, keys: &[u64], work: &mut [u32])
     let sizes = parts::SIZES * n;
     let positions = parts::POSITIONS * n;
     let mut at = first;
-    for k in 0..keys.len() {
-        let cell = (keys[k] % 65536) as usize;
+    for key in keys {
+        let cell = (*key % 65536) as usize;
         let size = work[sizes + cell];
         work[positions + cell] = at;
         at += size;
@@ -27,26 +28,19 @@ fn place_donors(n: usize, first: u32, keys: &[u64], work: &mut [u32])
 }
 
 // Gives the donors of a cell their positions: the first stands next after the cell.
-fn place_upstream(
-    dirs: &[u8],
-    rows: usize,
-    cols: usize,
-    areas: &[u32],
-    cell: usize,
-    work: &mut [u32],
-)
-    requires measured { Measured (grid rows cols dirs.now) areas.now }
-    requires standing { Standing (grid rows cols dirs.now) areas.now work.old cell }
-    ensures { DonorsPlaced (grid rows cols dirs.now) areas.now
+fn place_upstream(grid: Grid<'_>, areas: &[u32], cell: usize, work: &mut [u32])
+    requires measured { Measured (grid_of grid) areas.now }
+    requires standing { Standing (grid_of grid) areas.now work.old cell }
+    ensures { DonorsPlaced (grid_of grid.entry) areas.now
         work.old work.new cell }
 {
-    let n = rows * cols;
+    let n = grid.rows * grid.cols;
     if work[parts::SIZES * n + cell] == 1 {
         return;
     }
     let first = work[parts::POSITIONS * n + cell] + 1;
     let mut keys = [0u64; 8];
-    let count = donors_of(dirs, rows, cols, areas, cell, &mut keys);
+    let count = donors_of(grid, areas, cell, &mut keys);
     place_donors(n, first, &keys[..count], work);
 }
 
@@ -57,6 +51,7 @@ fn place_outlets(n: usize, queued: usize, work: &mut [u32])
         ≡ positioned n 0 (first_outlets n work.old (take queued work.old)) work.old }
 {
     let mut at = 0;
+    // By place, since a turn writes to the slice that holds the queue.
     for i in 0..queued {
         let cell = work[i] as usize;
         if work[parts::RECEIVERS * n + cell] > 0 {
@@ -68,15 +63,16 @@ fn place_outlets(n: usize, queued: usize, work: &mut [u32])
 }
 
 // Gives every queued cell its position. A cell's receiver stands before it in the queue.
-fn place_all(dirs: &[u8], rows: usize, cols: usize, areas: &[u32], queued: usize, work: &mut [u32])
-    requires { Surveyed (grid rows cols dirs.now) areas.now work.old queued }
-    ensures { Placed (grid rows cols dirs.now) areas.now
+fn place_all(grid: Grid<'_>, areas: &[u32], queued: usize, work: &mut [u32])
+    requires { Surveyed (grid_of grid) areas.now work.old queued }
+    ensures { Placed (grid_of grid.entry) areas.now
         work.old work.new queued queued }
 {
-    place_outlets(rows * cols, queued, work);
+    place_outlets(grid.rows * grid.cols, queued, work);
+    // By place, since a turn writes to the slice that holds the queue.
     for i in 0..queued {
         let cell = work[i] as usize;
-        place_upstream(dirs, rows, cols, areas, cell, work);
+        place_upstream(grid, areas, cell, work);
     }
 }
 
@@ -96,6 +92,7 @@ fn enter_all(n: usize, queued: usize, work: &mut [u32])
     requires { Apart n work.old queued }
     ensures { Entered n work.old work.new queued }
 {
+    // By place, since a turn writes to the slice that holds the queue.
     for i in 0..queued {
         let cell = work[i] as usize;
         enter(n, cell, work);
@@ -103,20 +100,13 @@ fn enter_all(n: usize, queued: usize, work: &mut [u32])
 }
 
 // The order of the queued cells along rivers, with the size at each position.
-pub fn arrange(
-    dirs: &[u8],
-    rows: usize,
-    cols: usize,
-    areas: &[u32],
-    queued: usize,
-    work: &mut [u32],
-)
-    requires { Surveyed (grid rows cols dirs.now) areas.now work.old queued }
-    ensures order { Arranged (grid rows cols dirs.now) areas.now
+pub fn arrange(grid: Grid<'_>, areas: &[u32], queued: usize, work: &mut [u32])
+    requires { Surveyed (grid_of grid) areas.now work.old queued }
+    ensures order { Arranged (grid_of grid.entry) areas.now
         work.new queued }
-    ensures places { OtherPlaces (grid rows cols dirs.now)
+    ensures places { OtherPlaces (grid_of grid.entry)
         work.old work.new queued }
 {
-    place_all(dirs, rows, cols, areas, queued, work);
-    enter_all(rows * cols, queued, work);
+    place_all(grid, areas, queued, work);
+    enter_all(grid.rows * grid.cols, queued, work);
 }

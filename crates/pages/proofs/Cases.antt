@@ -11,12 +11,12 @@ use Rattle.sheet.specs.Record.{label_of_numbers}
 use Rattle.sheet.specs.Sheet.{Grid, grid}
 use Rattle.sheet.specs.Basins.{basin_areas, basin_labels, basins_of}
 use Rattle.sheet.specs.Cases.{sample_a, sheet}
-use Rattle.listing.specs.declared.Listing.TheVariants.{Bytes}
 use Rattle.listing.specs.Writing.{Listed, refused}
 use Rattle.pages.specs.Field.{to_right, to_left}
 use Rattle.pages.specs.Line.{fields, line_columns, texts_fit, names, page_line, value_texts}
 use Rattle.pages.specs.Page.{inside_cells, page_cells, page_count, page_text}
 use Rattle.pages.specs.Writing.{page_into, page_fits}
+use Rattle.std.specs.Prelude.{Ok}
 
 -- ---- lines
 
@@ -113,11 +113,11 @@ sample_into k room =
     page_into sample_a (basin_areas (sheet sample_a 2)) (basin_labels (sheet sample_a 2)) (basins_of sample_a) k
     (replicate room 46)
 
-pub room_to_spare : sample_into 1 878 ≡ record { answer = Bytes 876; buffer = sample_page ++ (46 ∷ 46 ∷ []) }
+pub room_to_spare : sample_into 1 878 ≡ record { answer = Ok 876; buffer = sample_page ++ (46 ∷ 46 ∷ []) }
 unfolding page_into fields to_right to_left basin_areas basin_labels basins_of
 room_to_spare = refl
 
-pub just_room : sample_into 1 876 ≡ record { answer = Bytes 876; buffer = sample_page }
+pub just_room : sample_into 1 876 ≡ record { answer = Ok 876; buffer = sample_page }
 unfolding page_into fields to_right to_left basin_areas basin_labels basins_of
 just_room = refl
 
@@ -126,7 +126,7 @@ unfolding page_into fields to_right to_left basin_areas basin_labels basins_of
 one_byte_short = refl
 
 -- no such page: no byte
-pub no_such_page : sample_into 2 0 ≡ record { answer = Bytes 0; buffer = [] }
+pub no_such_page : sample_into 2 0 ≡ record { answer = Ok 0; buffer = [] }
 unfolding page_into basin_areas basin_labels basins_of
 no_such_page = refl
 
@@ -145,7 +145,7 @@ few_areas = refl
 abbrev one_into : ℕ → ℕ → ℕ → ℕ → Listed
 one_into basin area first rest = page_into (row_of 1) (area ∷ []) (first ∷ rest ∷ []) (basin ∷ []) 1 (replicate 146 46)
 
-pub just_fits : (one_into 99999 999999999 999999999999999999 888888888888888888).answer ≡ Bytes 146
+pub just_fits : (one_into 99999 999999999 999999999999999999 888888888888888888).answer ≡ Ok 146
 unfolding page_into fields to_right to_left
 just_fits = refl
 

@@ -9,9 +9,12 @@ use Rattle.sheet.specs.declared.Label.{Label}
 use Rattle.sheet.specs.Record.{label_at}
 use Rattle.sheet.specs.Sheet.{Grid, cells}
 use Rattle.sheet.proofs.Within.{both_true}
+use Rattle.listing.specs.declared.CellValues.{CellValues}
+use Rattle.listing.specs.declared.LabelledSheet.{LabelledSheet}
+use Rattle.listing.specs.Labelled.{grid_of, values_at}
 use Rattle.listing.specs.Steps.{Put}
 use Rattle.listing.proofs.Putting.{put_room, put_then}
-use Rattle.pages.specs.Line.{Texts, texts_fit, value_texts, cell_texts}
+use Rattle.pages.specs.Line.{Texts, texts_fit, texts_of, value_texts, cell_texts}
 use Rattle.pages.specs.Page.{inside_below, inside_cells, page_cells, cell_lines, atlas_line}
 use Rattle.pages.specs.Writing.{all_fit, page_fits}
 use Rattle.pages.proofs.PageLaws.{page_begins, lines_join, lines_of_one, page_line_length, fit_join, fit_length}
@@ -23,6 +26,12 @@ pub columns_of : (G : Grid) (areas labels basins : List ℕ) (c : ℕ) {p : Labe
 unfolding cell_texts
 columns_of G areas labels basins c e =
     ap (value_texts (get_or basins c 0) (c / G.cols) (c % G.cols) (get_or areas c 0)) e
+
+-- and of one whose values were read
+pub columns_at : (sheet : LabelledSheet) (c : ℕ) {v : CellValues} → v ≡ values_at sheet c
+    → texts_of v ≡ cell_texts (grid_of sheet) sheet.areas.now sheet.labels.now sheet.basins.now c
+columns_at sheet c e =
+    ap texts_of e ∙ columns_of (grid_of sheet) sheet.areas.now sheet.labels.now sheet.basins.now c refl
 
 module _ (G : Grid) (areas labels basins : List ℕ) (k : ℕ) where
   -- the texts of a cell, its line, and the cells of the page among the first n

@@ -6,6 +6,7 @@ use Rattle.sheet.specs.declared.Label.{Label}
 use Rattle.sheet.specs.Record.{labels_in, label_at}
 use Rattle.sheet.specs.Refusal.{both}
 use Rattle.sheet.specs.Sheet.{Grid}
+use Rattle.listing.specs.declared.CellValues.{CellValues}
 use Rattle.listing.specs.Listing.{label_text}
 use Rattle.pages.specs.Field.{to_right, to_left}
 
@@ -60,6 +61,10 @@ value_texts basin row col area label = record {
   area = decimal_text area;
   label = label_text label;
 }
+
+-- the same, of the values of a cell
+abbrev pub texts_of : CellValues → Texts
+texts_of v = value_texts v.basin v.row v.col v.area v.label
 
 -- those of the cell c; its area, its label and its basin stand in slices, by cell number
 unfoldable pub cell_texts : Grid → List ℕ → List ℕ → List ℕ → ℕ → Texts

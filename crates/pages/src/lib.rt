@@ -5,17 +5,18 @@ ghost use Rattle.std.specs.Prelude.{◌≡◌, true, ◌+◌, ◌-◌, ◌*◌, 
 ghost use Rattle.decimal.specs.Ascii.{line_feed};
 ghost use Rattle.decimal.specs.Text.{decimal_text, overwrite};
 ghost use Rattle.listing.specs.Listing.{field};
-ghost use Rattle.listing.specs.Steps.{Listable, Put};
-ghost use Rattle.directions.specs.Sizes.{Sized};
-ghost use Rattle.sheet.specs.Sheet.{grid};
-ghost use Rattle.pages.specs.Line.{texts_fit, line_columns, names, value_texts, page_line};
+ghost use Rattle.listing.specs.Labelled.{CanBeListed, grid_of};
+ghost use Rattle.listing.specs.Steps.{Put};
+ghost use Rattle.pages.specs.Line.{texts_fit, line_columns, names, texts_of, page_line};
 ghost use Rattle.pages.specs.Page.{inside_cells, page_cells, cell_lines, atlas_line};
 ghost use Rattle.listing.specs.Writing.{listing_values};
 ghost use Rattle.pages.specs.Writing.{page_fits, page_into};
 
 use decimal::{BLANK, LINE_FEED, decimal_length};
-use listing::{Listing, label_length, listing_fault, put_label, put_text, put_value};
-use sheet::Label;
+use listing::{
+    CellValues, LabelledSheet, label_length, listing_fault, put_label, put_text, put_value,
+};
+use sheet::Refusal;
 
 // The cells of a page, at most.
 const PAGE_SIZE: usize = 59;
@@ -34,17 +35,17 @@ fn set_right(value: u64, line: &mut [u8], end: usize)
 }
 
 // The line of a cell, without its line feed.
-fn cell_line(basin: u32, row: usize, col: usize, area: u32, label: Label) -> [u8; 72]
-    requires { texts_fit (value_texts basin row col area label) ≡ true }
-    ensures { result ≡ line_columns (value_texts basin row col area label) }
+fn cell_line(values: CellValues) -> [u8; 72]
+    requires { texts_fit (texts_of values) ≡ true }
+    ensures { result ≡ line_columns (texts_of values) }
 {
     let mut line = [32u8; 72];
-    set_right(basin as u64, &mut line, 5);
-    set_right(row as u64, &mut line, 10);
-    set_right(col as u64, &mut line, 15);
-    set_right(area as u64, &mut line, 25);
+    set_right(values.basin as u64, &mut line, 5);
+    set_right(values.row as u64, &mut line, 10);
+    set_right(values.col as u64, &mut line, 15);
+    set_right(values.area as u64, &mut line, 25);
     // the byte after the label is one of the blanks to the end
-    put_label(label, BLANK, &mut line, 26);
+    put_label(values.label, BLANK, &mut line, 26);
     line
 }
 
@@ -72,139 +73,89 @@ fn put_line(line: &[u8], out: &mut [u8], at: usize) -> usize
 }
 
 // Whether the values of a cell fit their fields.
-fn values_fit(basin: u32, row: usize, col: usize, area: u32, label: Label) -> bool
-    ensures { result ≡ texts_fit (value_texts basin row col area label) }
+#[tactic(auto, unfolding(crate::specs::Line::texts_fit, crate::specs::Line::value_texts))]
+fn values_fit(values: CellValues) -> bool
+    ensures { result ≡ texts_fit (texts_of values) }
 {
-    if 5 < decimal_length(basin as u64) {
-        return false;
-    }
-    if 4 < decimal_length(row as u64) {
-        return false;
-    }
-    if 4 < decimal_length(col as u64) {
-        return false;
-    }
-    if 9 < decimal_length(area as u64) {
-        return false;
-    }
-    label_length(label) <= 36
+    decimal_length(values.basin as u64) <= 5
+        && decimal_length(values.row as u64) <= 4
+        && decimal_length(values.col as u64) <= 4
+        && decimal_length(values.area as u64) <= 9
+        && label_length(values.label) <= 36
 }
 
-// How many cells stand on a page.
-fn count_on_page(rows: usize, cols: usize, dirs: &[u8], page: usize) -> usize
-    requires { Sized rows cols dirs.now }
-    ensures { result ≡ length (page_cells page (inside_cells (grid rows cols dirs.now))) }
+// How many cells stand on a page. This loop and the two below count the inside cells by hand: a chain of filter, skip and
+// take is no plainer, since it would skip (page - 1) * PAGE_SIZE cells, which page 0 and a large page overflow.
+fn count_on_page(sheet: LabelledSheet, page: usize) -> usize
+    requires { CanBeListed sheet }
+    ensures { result ≡ length (page_cells page (inside_cells (grid_of sheet.entry))) }
 {
-    let n = rows * cols;
+    let n = sheet.rows * sheet.cols;
     let mut seen = 0;
     let mut count = 0;
     for cell in 0..n {
-        if dirs[cell] == 0 {
+        if sheet.dirs[cell] == 0 {
             continue;
         }
-        if seen / PAGE_SIZE + 1 != page {
-            seen += 1;
-            continue;
+        if seen / PAGE_SIZE + 1 == page {
+            count += 1;
         }
         seen += 1;
-        count += 1;
     }
     count
 }
 
 // Whether the values of all cells of a page fit their fields.
-fn page_fits(
-    rows: usize,
-    cols: usize,
-    dirs: &[u8],
-    areas: &[u32],
-    labels: &[u64],
-    basins: &[u32],
-    page: usize,
-) -> bool
-    requires { Listable rows cols dirs.now areas.now labels.now basins.now }
-    ensures { result ≡ page_fits (grid rows cols dirs.now) areas.now labels.now
-        basins.now page }
+fn page_fits(sheet: LabelledSheet, page: usize) -> bool
+    requires { CanBeListed sheet }
+    ensures { result ≡ page_fits (grid_of sheet.entry) sheet.entry.areas.now sheet.entry.labels.now
+        sheet.entry.basins.now page }
 {
-    let n = rows * cols;
+    let n = sheet.rows * sheet.cols;
     let mut seen = 0;
     for cell in 0..n {
-        if dirs[cell] == 0 {
+        if sheet.dirs[cell] == 0 {
             continue;
         }
-        if seen / PAGE_SIZE + 1 != page {
-            seen += 1;
-            continue;
+        if seen / PAGE_SIZE + 1 == page {
+            if !values_fit(sheet.values_at(cell)) {
+                return false;
+            }
         }
-        let label = checks::label_at(labels, cell);
-        if values_fit(basins[cell], cell / cols, cell % cols, areas[cell], label) {
-            seen += 1;
-        } else {
-            return false;
-        }
+        seen += 1;
     }
     true
 }
 
 // Writes the line of a cell.
-fn put_cell(
-    basin: u32,
-    row: usize,
-    col: usize,
-    area: u32,
-    label: Label,
-    out: &mut [u8],
-    at: usize,
-) -> usize
-    requires { (texts_fit (value_texts basin row col area label) ≡ true) × (at + 73 ≤ length out.old) }
-    ensures { Put out.old out.new at result
-        (page_line (value_texts basin row col area label)) }
+fn put_cell(values: CellValues, out: &mut [u8], at: usize) -> usize
+    requires { (texts_fit (texts_of values) ≡ true) × (at + 73 ≤ length out.old) }
+    ensures { Put out.old out.new at result (page_line (texts_of values)) }
 {
-    let line = cell_line(basin, row, col, area, label);
+    let line = cell_line(values);
     put_line(&line, out, at)
 }
 
 // Writes the lines of the cells of a page.
-fn put_cells(
-    rows: usize,
-    cols: usize,
-    dirs: &[u8],
-    areas: &[u32],
-    labels: &[u64],
-    basins: &[u32],
-    page: usize,
-    out: &mut [u8],
-    at: usize,
-) -> usize
-    requires { Listable rows cols dirs.now areas.now labels.now basins.now
-        × (page_fits (grid rows cols dirs.now) areas.now labels.now basins.now page ≡ true)
-        × (at + 73 * length (page_cells page (inside_cells (grid rows cols dirs.now))) ≤ length out.old) }
+fn put_cells(sheet: LabelledSheet, page: usize, out: &mut [u8], at: usize) -> usize
+    requires { CanBeListed sheet
+        × (page_fits (grid_of sheet) sheet.areas.now sheet.labels.now sheet.basins.now page ≡ true)
+        × (at + 73 * length (page_cells page (inside_cells (grid_of sheet))) ≤ length out.old) }
     ensures { Put out.old out.new at result
-        (cell_lines (atlas_line (grid rows cols dirs.now) areas.now labels.now
-        basins.now) (page_cells page (inside_cells (grid rows cols dirs.now)))) }
+        (cell_lines (atlas_line (grid_of sheet.entry) sheet.entry.areas.now sheet.entry.labels.now
+        sheet.entry.basins.now) (page_cells page (inside_cells (grid_of sheet.entry)))) }
 {
-    let n = rows * cols;
+    let n = sheet.rows * sheet.cols;
     let mut seen = 0;
     let mut next = at;
     for cell in 0..n {
-        let code = dirs[cell];
+        let code = sheet.dirs[cell];
         if code == 0 {
             continue;
         }
-        if seen / PAGE_SIZE + 1 != page {
-            seen += 1;
-            continue;
+        if seen / PAGE_SIZE + 1 == page {
+            next = put_cell(sheet.values_at(cell), out, next);
         }
-        let label = checks::label_at(labels, cell);
-        next = put_cell(
-            basins[cell],
-            cell / cols,
-            cell % cols,
-            areas[cell],
-            label,
-            out,
-            next,
-        );
         seen += 1;
     }
     next
@@ -212,39 +163,26 @@ fn put_cells(
 
 // Writes a page of a sheet's atlas to the start of a buffer. Pages are numbered from 1; no byte is written where there
 // is no such page.
-pub fn write_page(
-    rows: usize,
-    cols: usize,
-    dirs: &[u8],
-    areas: &[u32],
-    labels: &[u64],
-    basins: &[u32],
-    page: usize,
-    out: &mut [u8],
-) -> Listing
+pub fn write_page(sheet: LabelledSheet, page: usize, out: &mut [u8]) -> Result<usize, Refusal>
     ensures page { record { answer = result; buffer = out.new }
-        ≡ page_into (grid rows cols dirs.now) areas.now labels.now
-        basins.now page out.old }
+        ≡ page_into (grid_of sheet.entry) sheet.entry.areas.now sheet.entry.labels.now
+        sheet.entry.basins.now page out.old }
     ensures values { listing_values result
-        ≡ listing_values (page_into (grid rows cols dirs.now) areas.now labels.now
-        basins.now page out.old).answer }
+        ≡ listing_values (page_into (grid_of sheet.entry) sheet.entry.areas.now
+        sheet.entry.labels.now sheet.entry.basins.now page out.old).answer }
 {
-    let fault = listing_fault(rows, cols, dirs, areas, labels, basins);
-    if fault != 0 {
-        return Listing::Refused(fault);
+    listing_fault(sheet)?;
+    if !page_fits(sheet, page) {
+        return Err(Refusal::numbered(3));
     }
-    if page_fits(rows, cols, dirs, areas, labels, basins, page) {
-        let count = count_on_page(rows, cols, dirs, page);
-        if count == 0 {
-            return Listing::Bytes(0);
-        }
-        if out.len() < PAGE_LINE_BYTES * (count + 1) {
-            return Listing::Refused(3);
-        }
-        let names = names_line();
-        let at = put_line(&names, out, 0);
-        Listing::Bytes(put_cells(rows, cols, dirs, areas, labels, basins, page, out, at))
-    } else {
-        Listing::Refused(3)
+    let count = count_on_page(sheet, page);
+    if count == 0 {
+        return Ok(0);
     }
+    if out.len() < PAGE_LINE_BYTES * (count + 1) {
+        return Err(Refusal::numbered(3));
+    }
+    let names = names_line();
+    let at = put_line(&names, out, 0);
+    Ok(put_cells(sheet, page, out, at))
 }

@@ -3,7 +3,7 @@
 #![tactic(auto)]
 
 use programs::{
-    CELLS, Input, LABEL_NUMBERS, REPORT_BYTES, ROWS, WORK_PLACES, complain, print_text, read_input,
+    CELLS, LABEL_NUMBERS, REPORT_BYTES, ROWS, WORK_PLACES, complain, print_text, read_input,
 };
 use report::write_report;
 
@@ -15,30 +15,29 @@ fn main(rt: HostRuntime) {
     let mut basins = [0u32; CELLS];
     let mut work = [0u32; WORK_PLACES];
     let mut out = [0u8; REPORT_BYTES];
-    match read_input(&mut rt.stdin(), &mut dirs, &mut weights) {
-        Input::File(read) => {
-            let answer = write_report(
-                read,
-                &dirs,
-                &weights,
-                &mut areas,
-                &mut labels,
-                &mut basins,
-                &mut work,
-                &mut out,
-            );
-            print_text(
-                &mut rt.stdout(),
-                &mut rt.stderr(),
-                b"pfafstetter",
-                answer,
-                &out,
-            );
-        }
-        Input::Failed => complain(
+    let Some(read) = read_input(&mut rt.stdin(), &mut dirs, &mut weights) else {
+        complain(
             &mut rt.stderr(),
             b"pfafstetter",
             b": standard input cannot be read\n",
-        ),
-    }
+        );
+        return;
+    };
+    let answer = write_report(
+        read,
+        &dirs,
+        &weights,
+        &mut areas,
+        &mut labels,
+        &mut basins,
+        &mut work,
+        &mut out,
+    );
+    print_text(
+        &mut rt.stdout(),
+        &mut rt.stderr(),
+        b"pfafstetter",
+        answer,
+        &out,
+    );
 }

@@ -11,11 +11,10 @@ use Rattle.sheet.specs.declared.Label.{Label}
 use Rattle.sheet.specs.Flow.{every, is_label}
 use Rattle.sheet.specs.Refusal.{written}
 use Rattle.lookup.specs.Lookup.{greatest_depth, is_rising}
-use Rattle.plan.specs.declared.PlanAnswer.{PlanAnswer}
-use Rattle.plan.specs.declared.PlanAnswer.TheVariants.{Refused}
 use Rattle.plan.specs.Plan.{units_of_one, all_part, index_fault, plan_from, plan_answer}
 use Rattle.plan.specs.Plan.{plan_values, work_after}
 use Rattle.plan.specs.Steps.{Judged}
+use Rattle.sheet.specs.Answer.{Outcome, Refused}
 
 -- an index that is not refused
 pub index_judged : (index : List Label) → index_fault index ≡ 0 → Judged index
@@ -31,21 +30,20 @@ index_judged index e =
     go false b c f g h e = absurd (omega arith)
 
 -- what is handed back, and the work places then
-abbrev Answered : List Label → List Label → List ℕ → PlanAnswer → List ℕ → Type 0
+abbrev Answered : List Label → List Label → List ℕ → Outcome → List ℕ → Type 0
 Answered index plan work answer after =
     (answer ≡ plan_answer index plan (length work))
     × ((plan_values answer ≡ plan_values (plan_answer index plan (length work))) × (after ≡ work_after index work))
 
 module _ (index plan : List Label) (work : List ℕ) where
-  answered : (answer : PlanAnswer) (after : List ℕ) → answer ≡ plan_answer index plan (length work)
+  answered : (answer : Outcome) (after : List ℕ) → answer ≡ plan_answer index plan (length work)
       → after ≡ work_after index work → Answered index plan work answer after
   answered answer after e f = (e, (ap plan_values e, f))
 
-  pub answer_fault : (fault : ℕ) → fault ≡ index_fault index → (fault ≡ 0 → ⊥)
-      → Answered index plan work (Refused fault 0) work
+  pub answer_fault : (index_fault index ≡ 0 → ⊥) → Answered index plan work (Refused (index_fault index) 0) work
   unfolding plan_answer work_after
-  answer_fault fault e some =
-      let f = ne_eqb fault 0 some in answered (Refused fault 0) work (rw (← e, f)) (rw (← e, f))
+  answer_fault some =
+      let f = ne_eqb (index_fault index) 0 some in answered (Refused (index_fault index) 0) work (rw f) (rw f)
 
   module _ (none : index_fault index ≡ 0) where
     pub answer_3 : length work < length index → Answered index plan work (Refused 3 0) work
@@ -62,7 +60,7 @@ module _ (index plan : List Label) (work : List ℕ) where
           rw (eq-eqb (index_fault index) 0 none, le-leb (length index) (length work) enough)
 
       -- the first work places, as many as it has labels, were lent on, and then set to 0
-      pub answer_plan : (answer : PlanAnswer) → answer ≡ plan_from index [] 0 plan → (count : ℕ) → count ≡ length index
+      pub answer_plan : (answer : Outcome) → answer ≡ plan_from index [] 0 plan → (count : ℕ) → count ≡ length index
           → (lent : List ℕ) → length lent ≡ count
           → Answered index plan work answer (written (replicate count 0) (lent ++ drop count work))
       unfolding work_after

@@ -5,9 +5,8 @@ use Prim.Native.Nat.{ℕ}
 use lib.ListN.{length}
 use Rattle.sheet.specs.declared.Label.{Label}
 use Rattle.sheet.specs.Record.{label_of_numbers}
-use Rattle.plan.specs.declared.PlanAnswer.{PlanAnswer}
-use Rattle.plan.specs.declared.PlanAnswer.TheVariants.{Accepted, Refused}
 use Rattle.plan.specs.Plan.{plan_answer, work_after}
+use Rattle.sheet.specs.Answer.{Outcome, Accepted, Refused}
 
 -- labels of up to 18 digits
 abbrev short : ℕ → Label
@@ -18,7 +17,7 @@ shorts [] = []
 shorts (m ∷ numbers) = short m ∷ shorts numbers
 
 -- as many work places as labels
-abbrev checked : List ℕ → List ℕ → PlanAnswer
+abbrev checked : List ℕ → List ℕ → Outcome
 checked index plan = plan_answer (shorts index) (shorts plan) (length index)
 
 -- a river with two tributaries, 2 and 4, of which 2 has one of its own, 22
@@ -84,7 +83,7 @@ abbrev long : List Label
 long = label_of_numbers 211111111111111111 1 ∷ label_of_numbers 211111111111111111 2 ∷ label_of_numbers 211111111111111111 3 ∷
     label_of_numbers 211111111111111113 0 ∷ label_of_numbers 3 0 ∷ []
 
-abbrev long_checked : List Label → PlanAnswer
+abbrev long_checked : List Label → Outcome
 long_checked plan = plan_answer long plan 5
 
 pub plan_long : long_checked (label_of_numbers 211111111111111113 0 ∷ label_of_numbers 211111111111111111 2 ∷

@@ -2,22 +2,23 @@
 -- come.
 use mathlib.Core.Path.{◌≡◌, refl, sym, ◌∙◌}
 use mathlib.Core.Bool.{Bool, true, false, cond, true≢false}
-use mathlib.Core.List.{List}
+use mathlib.Core.List.{List, [], ◌∷◌}
 use mathlib.Core.Logic.{◌≢◌, ⊎_elim}
 use Prim.Native.Nat.{ℕ, zero, suc, ◌+◌, ◌-◌, ◌≤◌, ◌<◌}
 use native.Mathlib.Nat.{eq-or-lt_of_le}
 use native.Mathlib.Decide.{dec_lt, ℕ_discrete}
 use native.Mathlib.Numerals.{add-one}
 use native.Mathlib.Omega.{arith}
-use borrow.Author.Tests.{lt-ltb, leb-false}
-use lib.Dec.{leb}
-use lib.ListN.{length, get_or, drop, set, replicate, length-set, length-replicate, get_or-replicate}
-use lib.ListN.{drop_of_length-le}
+use borrow.Author.Tests.{lt-ltb, ne_eqb, leb-false}
+use lib.Dec.{eqb, leb}
+use lib.ListN.{length, get_or, set, replicate, length-set, length-replicate, get_or-replicate}
 use lib.Seq.{drop-cons, get_or-set_same, get_or-set_other}
 use Rattle.sheet.specs.Flow.{every}
 use Rattle.sheet.proofs.Within.{both_true}
-use Rattle.plan.specs.declared.PlanAnswer.TheVariants.{Accepted, Refused}
 use Rattle.plan.specs.Steps.{has_come, Spans, all_come, greatest_span, span_of, missing_in}
+use Rattle.std.specs.List.{position_from}
+use Rattle.std.specs.Prelude.{None, Some}
+use Rattle.sheet.specs.Answer.{Found, Outcome, Accepted, Refused}
 
 -- ---- the units from a place up to an end
 
@@ -168,18 +169,18 @@ module _ (work : List ℕ) (i end : ℕ) (before : i < end) (most : end ≤ leng
             | no n ↦ come_kept t (s.come j t (omega (arith, same)) g (rw (come_other j n) at k))
           ]
 
--- ---- the first that is missing, by place
+-- ---- the first that is missing, as a search for a place that is 0 finds it
 
-module _ (work : List ℕ) (i : ℕ) where
-  pub missing_end : length work ≤ i → missing_in i (drop i work) ≡ Accepted
-  unfolding missing_in
-  missing_end h = rw drop_of_length-le
+abbrev pub missing_at : Found → Outcome
+missing_at None = Accepted
+missing_at (Some i) = Refused 22 (suc i)
 
-  pub missing_here : i < length work → get_or work i 0 ≡ 0 → missing_in i (drop i work) ≡ Refused 22 (i + 1)
-  unfolding missing_in
-  missing_here h e = rw (add-one i, drop-cons work i 0, e)
+abbrev pub is_zero : ℕ → Bool
+is_zero m = eqb m 0
 
-  pub missing_later : i < length work → has_come (get_or work i 0) ≡ true
-      → missing_in (i + 1) (drop (i + 1) work) ≡ missing_in i (drop i work)
-  unfolding missing_in
-  missing_later h e = rw (add-one i, drop-cons work i 0, e)
+pub missing_found : (place : ℕ) (work : List ℕ) → missing_in place work ≡ missing_at (position_from is_zero place work)
+unfolding missing_in
+missing_found place [] = refl
+missing_found place (zero ∷ work) = refl
+missing_found place (suc m ∷ work) =
+    rw (add-one place, lt-ltb 0 (suc m) (omega arith), ne_eqb (suc m) 0 (λ e. omega arith)) (missing_found (suc place) work)

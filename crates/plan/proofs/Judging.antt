@@ -11,14 +11,11 @@ use borrow.Author.Tests.{lt-ltb, le-ltb, eq-eqb, ne_eqb, eqb-true}
 use lib.Dec.{eqb, ltb}
 use lib.ListN.{length, get_or, drop, set, replicate, length-set, length-replicate, get_or-replicate, drop_of_length-le}
 use lib.Seq.{drop-cons}
-use Rattle.sheet.specs.declared.Found.{Found}
-use Rattle.sheet.specs.declared.Found.TheVariants.{At, Nothing}
 use Rattle.sheet.specs.declared.Label.{Label}
 use Rattle.sheet.specs.Record.{no_digits}
 use Rattle.sheet.specs.Refusal.{both}
 use Rattle.sheet.proofs.Records.{same_is, same_not}
 use Rattle.claims.proofs.Counts.{not-true}
-use Rattle.plan.specs.declared.PlanAnswer.TheVariants.{Refused}
 use Rattle.plan.specs.Plan.{is_one_of, is_awaited, awaits_one, place_fault, missing_from, plan_from}
 use Rattle.plan.specs.Steps.{Judged, Spans, PlaceJudged, place_of, end_of, has_come, all_come, span_of}
 use Rattle.plan.specs.Steps.{judged_at, place_judged, missing_in, plan_judged}
@@ -27,6 +24,16 @@ use Rattle.plan.proofs.PlanPlaces.{awaits_at, at_awaits}
 use Rattle.plan.proofs.UnitsOfOne.{places_differ}
 use Rattle.plan.proofs.Upstream.{end_after_lem, upstream_range}
 use Rattle.plan.proofs.Come.{come_at, come_missing, come_other, has_come_here, spans_none, spans_set}
+use Rattle.sheet.specs.Answer.{Found, Refused, outcome_of_fault}
+use Rattle.std.specs.Prelude.{None, Some}
+
+-- ---- what is judged, by its parts
+
+pub outcome_then : {a b : PlaceJudged} → a ≡ b → outcome_of_fault b.number ≡ outcome_of_fault a.number
+outcome_then e = ap (λ (r : PlaceJudged). outcome_of_fault r.number) (sym e)
+
+pub work_then : {a b : PlaceJudged} → a ≡ b → b.work ≡ a.work
+work_then e = ap (λ (r : PlaceJudged). r.work) (sym e)
 
 -- ---- a unit of the index, by its place
 
@@ -37,22 +44,22 @@ module _ (index : List Label) (p : Label) (i : ℕ) (work : List ℕ) where
   abbrev refused : ℕ → PlaceJudged
   refused number = record { number = number; work = work }
 
-  pub judged_used : has_come (get_or work i 0) ≡ true → judged_at (At i) index p work ≡ refused 20
+  pub judged_used : has_come (get_or work i 0) ≡ true → judged_at (Some i) index p work ≡ refused 20
   unfolding judged_at
   judged_used e = rw e
 
   pub judged_waiting : has_come (get_or work i 0) ≡ false → all_come (suc i) (end_of index p) work ≡ false
-      → judged_at (At i) index p work ≡ refused 21
+      → judged_at (Some i) index p work ≡ refused 21
   unfolding judged_at
   judged_waiting e f = rw (e, f)
 
   pub judged_come : has_come (get_or work i 0) ≡ false → all_come (suc i) (end_of index p) work ≡ true
-      → judged_at (At i) index p work ≡ come
+      → judged_at (Some i) index p work ≡ come
   unfolding judged_at
   judged_come e f = rw (e, f)
 
 pub judged_unknown : (index : List Label) (p : Label) (work : List ℕ)
-    → judged_at Nothing index p work ≡ record { number = 20; work = work }
+    → judged_at None index p work ≡ record { number = 20; work = work }
 unfolding judged_at
 judged_unknown index p work = refl
 
@@ -111,36 +118,33 @@ module _ (index : List Label) (good : Judged index) (p : Label) where
   -- the work places stay those of the index
   module _ (work : List ℕ) (w : WorkFor index work) where
     -- the units up to the end are units of the index
-    end_most : (i : ℕ) → place_of index p ≡ At i → end_of index p ≤ length work
+    end_most : (i : ℕ) → place_of index p ≡ Some i → end_of index p ≤ length work
     end_most i e = omega (arith, (end_after_lem index p i good e).1, w.size)
 
-    come_work_for : (i : ℕ) → place_of index p ≡ At i → all_come (suc i) (end_of index p) work ≡ true
+    come_work_for : (i : ℕ) → place_of index p ≡ Some i → all_come (suc i) (end_of index p) work ≡ true
         → WorkFor index (set work i (span_of i (end_of index p)))
     come_work_for i e f = record {
       size = length-set work i (span_of i (end_of index p)) ∙ w.size;
       spans = spans_set work i (end_of index p) (end_after_lem index p i good e).0 (end_most i e) w.spans f;
     }
 
-    at_work_for : (i : ℕ) → place_of index p ≡ At i → (b d : Bool) → has_come (get_or work i 0) ≡ b
-        → all_come (suc i) (end_of index p) work ≡ d → WorkFor index (judged_at (At i) index p work).work
+    at_work_for : (i : ℕ) → place_of index p ≡ Some i → (b d : Bool) → has_come (get_or work i 0) ≡ b
+        → all_come (suc i) (end_of index p) work ≡ d → WorkFor index (judged_at (Some i) index p work).work
     at_work_for i e true d f g = rw (judged_used index p i work f) w
     at_work_for i e false true f g = rw (judged_come index p i work f g) (come_work_for i e g)
     at_work_for i e false false f g = rw (judged_waiting index p i work f g) w
 
-    place_work_for : WorkFor index (place_judged index p work).work
+    pub place_work_for : WorkFor index (place_judged index p work).work
     unfolding place_judged
     place_work_for = go (place_of index p) refl
       where
         go : (r : Found) → place_of index p ≡ r → WorkFor index (judged_at r index p work).work
-        go Nothing e = w
-        go (At i) e = at_work_for i e (has_come (get_or work i 0)) (all_come (suc i) (end_of index p) work) refl refl
-
-    pub judged_work_for : (step : PlaceJudged) → step ≡ place_judged index p work → WorkFor index step.work
-    judged_work_for step e = rw e place_work_for
+        go None e = w
+        go (Some i) e = at_work_for i e (has_come (get_or work i 0)) (all_come (suc i) (end_of index p) work) refl refl
 
   -- and they go on telling which units came
   module _ (came : List Label) (work : List ℕ) (told : Tells index came work) (i : ℕ)
-      (place : place_of index p ≡ At i) where
+      (place : place_of index p ≡ Some i) where
     abbrev end : ℕ
     end = end_of index p
 
@@ -220,7 +224,7 @@ module _ (index : List Label) (good : Judged index) (p : Label) where
         next = λ none. absurd (some (sym f ∙ none));
       }
 
-      at : (i : ℕ) → place_of index p ≡ At i → place_judged index p work ≡ judged_at (At i) index p work → (b d : Bool)
+      at : (i : ℕ) → place_of index p ≡ Some i → place_judged index p work ≡ judged_at (Some i) index p work → (b d : Bool)
           → has_come (get_or work i 0) ≡ b → all_come (suc i) (end_of index p) work ≡ d → PlaceTold came work
       at i e j true d f g =
           refused 20 (j ∙ judged_used index p i work f)
@@ -241,11 +245,11 @@ module _ (index : List Label) (good : Judged index) (p : Label) where
           }
 
       go : (r : Found) → place_of index p ≡ r → PlaceTold came work
-      go Nothing e =
-          refused 20 (judged_by index p work Nothing e ∙ judged_unknown index p work)
+      go None e =
+          refused 20 (judged_by index p work None e ∙ judged_unknown index p work)
           (place_fault_unknown index came p (place_none index p e)) (λ z. omega arith)
-      go (At i) e =
-          at i e (judged_by index p work (At i) e) (has_come (get_or work i 0)) (all_come (suc i) (end_of index p) work)
+      go (Some i) e =
+          at i e (judged_by index p work (Some i) e) (has_come (get_or work i 0)) (all_come (suc i) (end_of index p) work)
           refl refl
 
 -- ---- the whole plan
@@ -300,17 +304,16 @@ module _ (index plan : List Label) (k : ℕ) (work : List ℕ) where
   unfolding plan_judged
   plan_end h = rw drop_of_length-le
 
-  module _ (h : k < length plan) (step : PlaceJudged) (judged : step ≡ place_judged index (get_or plan k no_digits) work)
-    where
-      pub plan_refused : (step.number ≡ 0 → ⊥)
-          → plan_judged index k (drop k plan) work
-          ≡ record { answer = Refused step.number (k + 1); work = step.work }
-      unfolding plan_judged
-      plan_refused some =
-          rw (drop-cons plan k no_digits h, ← judged, ne_eqb step.number 0 some, add-one k)
+  module _ (h : k < length plan) where
+    abbrev pub step : PlaceJudged
+    step = place_judged index (get_or plan k no_digits) work
 
-      pub plan_turn : step.number ≡ 0
-          → plan_judged index (k + 1) (drop (k + 1) plan) step.work ≡ plan_judged index k (drop k plan) work
-      unfolding plan_judged
-      plan_turn none =
-          rw (add-one k, drop-cons plan k no_digits h, ← judged, eq-eqb step.number 0 none)
+    pub plan_refused : (step.number ≡ 0 → ⊥)
+        → plan_judged index k (drop k plan) work ≡ record { answer = Refused step.number (k + 1); work = step.work }
+    unfolding plan_judged
+    plan_refused some = rw (drop-cons plan k no_digits h, ne_eqb step.number 0 some, add-one k)
+
+    pub plan_turn : step.number ≡ 0
+        → plan_judged index (k + 1) (drop (k + 1) plan) step.work ≡ plan_judged index k (drop k plan) work
+    unfolding plan_judged
+    plan_turn none = rw (add-one k, drop-cons plan k no_digits h, eq-eqb step.number 0 none)

@@ -11,8 +11,6 @@ use borrow.Author.Tests.{ltb-true, ltb-false, leb-true, leb-false, le-leb, lt-le
 use Rattle.sheet.specs.declared.Label.{Label}
 use Rattle.sheet.specs.Flow.{every, is_label}
 use Rattle.lookup.specs.Lookup.{greatest_depth, is_rising}
-use Rattle.plan.specs.declared.PlanAnswer.{PlanAnswer}
-use Rattle.plan.specs.declared.PlanAnswer.TheVariants.{Accepted, Refused}
 use Rattle.plan.specs.Plan.{units_of_one, all_part, is_one_of, index_fault, plan_answer}
 use Rattle.plan.specs.Meaning.{label_in, Stands, ByDigits, GoodPlan, AllLabels, AllRise, AllParted, GoodIndex}
 use Rattle.plan.specs.Meaning.{UnknownOrUsed, Awaits, FitsUpTo, Reached, Numbered, PlanMeaningWhole}
@@ -23,6 +21,7 @@ use Rattle.plan.proofs.PlanPlaces.{FaultAt, fault_unknown, fault_awaits, fault_n
 use Rattle.plan.proofs.PlanOrder.{in_order_lem, order_fits}
 use Rattle.plan.proofs.PlanSteps.{answer_from, missing, answer_step, answer_end, missing_step, none_missing}
 use Rattle.plan.proofs.PlanSteps.{missing_reach, missing_first, answer_reach, answer_twenty, answer_twenty_one}
+use Rattle.sheet.specs.Answer.{Outcome, Accepted, Refused}
 
 -- ---- what holds with each answer
 
@@ -41,7 +40,7 @@ IsMissing index plan places i =
     Reached index plan places (length plan) × (i < length index) × (¬ Stands plan (length plan) (label_in index i))
     × ((m : ℕ) → m < i → Stands plan (length plan) (label_in index m))
 
-data Told (index plan : List Label) (places : ℕ) : PlanAnswer → Type 0 where
+data Told (index plan : List Label) (places : ℕ) : Outcome → Type 0 where
   told_order : IsInOrder index plan places → Told index plan places Accepted
   told_labels : ¬ AllLabels index → Told index plan places (Refused 11 0)
   told_rise : AllLabels index × (¬ AllRise index) → Told index plan places (Refused 16 0)
@@ -227,7 +226,7 @@ plan_meaning index plan places = record {
   no_other = λ number place e. numbered number place (told e);
 }
   where
-    told : {answer : PlanAnswer} → plan_answer index plan places ≡ answer → Told index plan places answer
+    told : {answer : Outcome} → plan_answer index plan places ≡ answer → Told index plan places answer
     told e = rw e at (tell index plan places)
 
     -- up to a place of the plan

@@ -1,18 +1,17 @@
 -- Labels that part: two of them, by digits and by padded numbers; and those of an index that rises, of which every two
 -- part exactly if neighbours do.
 use mathlib.Core.Path.{◌≡◌, refl, sym, ap, ◌∙◌}
-use mathlib.Core.Bool.{Bool, true, false, cond, not, true≢false}
+use mathlib.Core.Bool.{Bool, true, false, cond, not, true≢false, ◌&&◌}
 use mathlib.Core.List.{List, [], ◌∷◌}
 use mathlib.Core.Logic.{◌⊎◌, inl, inr, ◌≢◌, ◌↔◌}
-use Prim.Native.Nat.{ℕ, suc, ◌+◌, ◌-◌, ◌≤◌, ◌<◌}
+use Prim.Native.Nat.{ℕ, zero, suc, ◌+◌, ◌-◌, ◌≤◌, ◌<◌}
 use native.Mathlib.Numerals.{add-one}
 use native.Mathlib.Omega.{arith}
 use lib.Dec.{eqb, ltb}
 use lib.ListN.{length, get_or, drop, drop_of_length-le}
 use lib.Seq.{drop-cons}
 use borrow.Author.Tests.{eq-eqb, ne_eqb, eqb-true, eqb-false}
-use Rattle.sheet.specs.declared.Found.{Found}
-use Rattle.sheet.specs.declared.Found.TheVariants.{At, Nothing}
+use Rattle.std.specs.List.{list_all, range_with_len}
 use Rattle.sheet.specs.declared.Label.{Label}
 use Rattle.sheet.specs.Record.{digits_of, no_digits}
 use Rattle.sheet.specs.Flow.{every, part_from, part_at, is_label}
@@ -28,23 +27,25 @@ use Rattle.lookup.proofs.Begins.{begins_agrees, begins_between}
 use Rattle.lookup.proofs.PaddedOrder.{not_past_padded}
 use Rattle.plan.specs.Plan.{of_one_basin, units_of_one, parts, all_part}
 use Rattle.plan.proofs.UnitsOfOne.{before_of_one}
+use Rattle.sheet.specs.Answer.{Found}
+use Rattle.std.specs.Prelude.{None, Some}
 
 -- ---- two labels, by digits
 
 -- the test finds a place where they part exactly if there is one
-parted_found : {x y : List ℕ} → Parted x y → (i : ℕ) → (k : ℕ) × (part_from i x y ≡ At k)
+parted_found : {x y : List ℕ} → Parted x y → (i : ℕ) → (k : ℕ) × (part_from i x y ≡ Some k)
 unfolding part_from
 parted_found (parted_now {a = a} {b = b} n) i = (i, rw (ne_eqb a b n))
 parted_found (parted_on {a = a} p) i = let r = parted_found p (suc i) in (r.0, rw (eq-eqb a a refl) r.1)
 
-found_parted : (x y : List ℕ) (i k : ℕ) → part_from i x y ≡ At k → Parted x y
+found_parted : (x y : List ℕ) (i k : ℕ) → part_from i x y ≡ Some k → Parted x y
 unfolding part_from
 found_parted [] y i k e = let z : ◌≡◌ {A = ℕ} 0 1 = cc in absurd (omega arith)
 found_parted (a ∷ x) [] i k e = let z : ◌≡◌ {A = ℕ} 0 1 = cc in absurd (omega arith)
 found_parted (a ∷ x) (b ∷ y) i k e = go (eqb a b) refl (found_parted x y (suc i) k) e
   where
-    go : (t : Bool) → eqb a b ≡ t → (part_from (suc i) x y ≡ At k → Parted x y)
-        → cond t (part_from (suc i) x y) (At i) ≡ At k → Parted (a ∷ x) (b ∷ y)
+    go : (t : Bool) → eqb a b ≡ t → (part_from (suc i) x y ≡ Some k → Parted x y)
+        → cond t (part_from (suc i) x y) (Some i) ≡ Some k → Parted (a ∷ x) (b ∷ y)
     go true q f h = rw (← eqb-true a b q) (parted_on (f h))
     go false q f h = parted_now (eqb-false a b q)
 
@@ -54,8 +55,8 @@ module _ (p q : Label) where
   parts_parted e = go (part_from 0 (digits_of p) (digits_of q)) refl
     where
       go : (f : Found) → part_from 0 (digits_of p) (digits_of q) ≡ f → Parted (digits_of p) (digits_of q)
-      go Nothing g = absurd (true≢false (sym (rw g at e)))
-      go (At k) g = found_parted (digits_of p) (digits_of q) 0 k g
+      go None g = absurd (true≢false (sym (rw g at e)))
+      go (Some k) g = found_parted (digits_of p) (digits_of q) 0 k g
 
   parted_parts : Parted (digits_of p) (digits_of q) → parts p q ≡ true
   unfolding parts part_at
@@ -182,3 +183,26 @@ module _ (labels : List Label) (i : ℕ) where
   unfolding neighbours_part_from
   parted_turn p h e =
       let back : i + 1 - 1 ≡ i = omega arith in rw (back, add-one i, drop-cons labels i no_digits, e)
+
+-- ---- told over the places of the labels but the first
+
+module _ (labels : List Label) (test : ℕ → Bool)
+    (agrees : (k : ℕ) → 1 ≤ k → k < length labels
+    → test k ≡ parts (get_or labels (k - 1) no_digits) (get_or labels k no_digits)) where
+  one_place : (i : ℕ) (r : Bool) → 1 ≤ i → i < length labels
+      → r ≡ neighbours_part_from (get_or labels (i + 1 - 1) no_digits) (drop (i + 1) labels) → (b : Bool)
+      → parts (get_or labels (i - 1) no_digits) (get_or labels i no_digits) ≡ b
+      → (test i && r) ≡ neighbours_part_from (get_or labels (i - 1) no_digits) (drop i labels)
+  one_place i r some place rest true e =
+      rw (agrees i some place, e, rest) (parted_turn labels i (get_or labels (i - 1) no_digits) place e)
+  one_place i r some place rest false e =
+      rw (agrees i some place, e) (sym (parted_no labels i (get_or labels (i - 1) no_digits) place e))
+
+  from_place : (i n : ℕ) → 1 ≤ i → n ≡ length labels - i
+      → list_all test (range_with_len i n) ≡ neighbours_part_from (get_or labels (i - 1) no_digits) (drop i labels)
+  from_place i zero some h = sym (parted_end labels i (get_or labels (i - 1) no_digits) (omega arith))
+  from_place i (suc n) some h =
+      one_place i _ some (omega arith) (from_place (i + 1) n (omega arith) (omega arith)) _ refl
+
+  pub parted_places : list_all test (range_with_len 1 (length labels - 1)) ≡ neighbours_part labels
+  parted_places = from_place 1 (length labels - 1) (omega arith) refl ∙ parted_start labels

@@ -8,7 +8,6 @@ use native.Mathlib.Omega.{arith}
 use lib.Dec.{ltb}
 use lib.ListN.{length, get_or, replicate}
 use borrow.Author.Tests.{le-ltb, ltb-true, ltb-false}
-use Rattle.sheet.specs.declared.Found.TheVariants.{At, Nothing}
 use Rattle.sheet.specs.declared.Label.{Label}
 use Rattle.sheet.specs.declared.UnitName.{UnitName}
 use Rattle.sheet.specs.Record.{no_digits, same_label, digits_of}
@@ -30,23 +29,24 @@ use Rattle.plan.specs.Steps.{Rising, StandFirst, place_of, label_before_last_odd
 use Rattle.plan.proofs.PlanPlaces.{test_false, one_of_agrees}
 use Rattle.plan.proofs.UnitsOfOne.{units_of_one_length, unit_of_one, before_of_one}
 use Rattle.plan.proofs.UnitsOfOne.{rising_of_one, places_differ}
+use Rattle.std.specs.Prelude.{None, Some}
 
 -- ---- the place of a label
 
 abbrev is_at : List Label → Label → ℕ → Bool
 is_at index p i = same_label (label_in index i) p
 
-pub place_is : (index : List Label) (p : Label) (i : ℕ) → place_of index p ≡ At i
+pub place_is : (index : List Label) (p : Label) (i : ℕ) → place_of index p ≡ Some i
     → (i < length index) × (get_or index i no_digits ≡ p)
 unfolding place_of
 place_is index p i e =
     let f = at_first (is_at index p) (length index) i e in (f.below, same_true (label_in index i) p f.passes)
 
-pub place_some : (index : List Label) (p : Label) (i : ℕ) → place_of index p ≡ At i → is_one_of index p ≡ true
+pub place_some : (index : List Label) (p : Label) (i : ℕ) → place_of index p ≡ Some i → is_one_of index p ≡ true
 place_some index p i e =
     let f = place_is index p i e in (one_of_agrees index p).1 (record { place = i; within = f.0; is = f.1 })
 
-pub place_none : (index : List Label) (p : Label) → place_of index p ≡ Nothing → is_one_of index p ≡ false
+pub place_none : (index : List Label) (p : Label) → place_of index p ≡ None → is_one_of index p ≡ false
 unfolding place_of
 place_none index p e =
     test_false (is_one_of index p) (one_of_agrees index p)
@@ -122,7 +122,7 @@ module _ (index : List Label) (r : Rising index) where
   -- ---- the place of a label
 
   -- the place where a label stands is the only one
-  pub place_at_lem : (p : Label) (i : ℕ) → i < length index → same_label (label_in index i) p ≡ true → place_of index p ≡ At i
+  pub place_at_lem : (p : Label) (i : ℕ) → i < length index → same_label (label_in index i) p ≡ true → place_of index p ≡ Some i
   unfolding place_of
   place_at_lem p i l e =
       first_at_lem (is_at index p) (length index) i (record { below = l; passes = e; none_before = none })
@@ -133,7 +133,7 @@ module _ (index : List Label) (r : Rising index) where
           places_differ index r.rises j i (omega arith) l other (f ∙ sym (same_true (label_in index i) p e)))
 
   -- what is no label has none
-  pub place_of_none : (p : Label) → is_label greatest_depth p ≡ false → place_of index p ≡ Nothing
+  pub place_of_none : (p : Label) → is_label greatest_depth p ≡ false → place_of index p ≡ None
   unfolding place_of
   place_of_none p e =
       first_none (is_at index p) (length index)
@@ -163,7 +163,7 @@ module _ (index : List Label) (r : Rising index) where
 
     -- so one that does not stand there has no place
     pub place_of_other : (c : ℕ) → c ≡ count_below 1 (padded p) units
-        → (c < length index → same_label (label_in index c) p ≡ false) → place_of index p ≡ Nothing
+        → (c < length index → same_label (label_in index c) p ≡ false) → place_of index p ≡ None
     unfolding place_of
     place_of_other c e other =
         first_none (is_at index p) (length index)

@@ -9,12 +9,11 @@ use lib.ListN.{length, drop, drop_of_length-le}
 use lib.Seq.{drop-cons}
 use Rattle.sheet.specs.declared.Label.{Label}
 use Rattle.sheet.specs.Record.{no_digits}
-use Rattle.plan.specs.declared.PlanAnswer.{PlanAnswer}
-use Rattle.plan.specs.declared.PlanAnswer.TheVariants.{Accepted, Refused}
 use Rattle.plan.specs.Plan.{is_one_of, missing_from, plan_from}
 use Rattle.plan.specs.Meaning.{label_in, Stands, GoodIndex, UnknownOrUsed, Awaits, FitsUpTo}
 use Rattle.plan.proofs.PlanPlaces.{before, before_agrees, test_false, fault_at, fault_at_lem}
 use Rattle.plan.proofs.PlanPlaces.{FaultAt, fault_unknown, fault_awaits, fault_none}
+use Rattle.sheet.specs.Answer.{Outcome, Accepted, Refused}
 
 -- the refusal at a place, by what holds there
 fault_twenty : {index plan : List Label} {k f : ℕ} → FaultAt index plan k f → UnknownOrUsed index plan k → f ≡ 20
@@ -36,11 +35,11 @@ fault_zero (fault_none m b) n a = refl
 
 module _ (index plan : List Label) where
   -- from a place of the plan on
-  abbrev pub answer_from : ℕ → PlanAnswer
+  abbrev pub answer_from : ℕ → Outcome
   answer_from k = plan_from index (before plan k) k (drop k plan)
 
   -- after its last place, from a unit of the index on
-  abbrev pub missing : ℕ → PlanAnswer
+  abbrev pub missing : ℕ → Outcome
   missing i = missing_from i (before plan (length plan)) (drop i index)
 
   pub answer_step : (k : ℕ) → k < length plan

@@ -9,7 +9,6 @@ use native.Mathlib.Omega.{arith}
 use lib.Dec.{ltb}
 use lib.ListN.{length, get_or}
 use borrow.Author.Tests.{ltb-true, ltb-false}
-use Rattle.sheet.specs.declared.Found.TheVariants.{At}
 use Rattle.sheet.specs.declared.Label.{Label}
 use Rattle.sheet.specs.declared.UnitName.{UnitName}
 use Rattle.sheet.specs.Record.{digits_of, no_digits, basin_and_digits}
@@ -35,6 +34,7 @@ use Rattle.plan.proofs.Places.{place_is, end_is, label_in_lem}
 use Rattle.plan.proofs.PlanPlaces.{test_false}
 use Rattle.plan.proofs.UnitsOfOne.{units_of_one_length, unit_of_one, before_of_one, rising_of_one}
 use Rattle.plan.proofs.UpstreamMeaning.{upstream_agrees}
+use Rattle.std.specs.Prelude.{Some}
 
 -- ---- digits
 
@@ -102,7 +102,7 @@ begins_of_one : (p q : Label) → begins_with (of_one_basin p) (of_one_basin q) 
 unfolding begins_with basin_and_digits begins
 begins_of_one p q = refl
 
-module _ (index : List Label) (p : Label) (i : ℕ) (judged : Judged index) (here : place_of index p ≡ At i) where
+module _ (index : List Label) (p : Label) (i : ℕ) (judged : Judged index) (here : place_of index p ≡ Some i) where
   abbrev rises : is_rising (units_of_one index) ≡ true
   rises = judged.rising.rises
 
@@ -205,7 +205,7 @@ module _ (index : List Label) (p : Label) (i : ℕ) (judged : Judged index) (her
       range_begins j h l ∙ (rw (begun_not_ahead own (digits_in index j) after) at (not_past_lem j l))
 
 -- the units upstream of a unit stand after it and before the end
-pub upstream_range : (index : List Label) (p : Label) (i j : ℕ) → Judged index → place_of index p ≡ At i
+pub upstream_range : (index : List Label) (p : Label) (i j : ℕ) → Judged index → place_of index p ≡ Some i
     → j < length index → is_upstream (get_or index j no_digits) p ≡ both (ltb i j) (ltb j (end_of index p))
 upstream_range index p i j judged here l = go (ltb i j) refl
   where

@@ -7,8 +7,8 @@ use Rattle.sheet.specs.Flow.{is_label}
 use Rattle.claims.specs.Dictionary.{is_before}
 use Rattle.claims.specs.Parting.{PartAt, MeetsRule}
 use Rattle.lookup.specs.Lookup.{greatest_depth}
-use Rattle.plan.specs.declared.PlanAnswer.TheVariants.{Accepted, Refused}
 use Rattle.plan.specs.Plan.{plan_answer}
+use Rattle.sheet.specs.Answer.{Accepted, Refused}
 
 -- the label at a place of a list, and its digits
 abbrev pub label_in : List Label → ℕ → Label

@@ -1,9 +1,7 @@
 -- Document 02's check of a survey plan. A plan is a list of unit labels of one basin, whose index is at hand: refusals
 -- 11, 16, 12 and 3 of the index and the work places, 20, 21 and 22 of the plan, and what the work places hold
 -- afterwards.
-use Rattle.std.specs.Prelude.{Bool, true, false, cond, List, [], ◌∷◌, ℕ, suc, eqb, leb, length, replicate}
-use Rattle.sheet.specs.declared.Found.{Found}
-use Rattle.sheet.specs.declared.Found.TheVariants.{At, Nothing}
+use Rattle.std.specs.Prelude.{Bool, true, false, cond, List, [], ◌∷◌, ℕ, suc, eqb, leb, length, replicate, is_some, Err}
 use Rattle.sheet.specs.declared.OutletFlow.{OutletFlow}
 use Rattle.sheet.specs.declared.OutletFlow.TheVariants.{Same, Yes, No, Refused as OutletRefused}
 use Rattle.sheet.specs.declared.Label.{Label}
@@ -12,8 +10,7 @@ use Rattle.sheet.specs.Record.{digits_of, same_label, unit_name, units_in}
 use Rattle.sheet.specs.Flow.{every, part_at, is_label, outlet_flow}
 use Rattle.sheet.specs.Refusal.{both, written}
 use Rattle.lookup.specs.Lookup.{greatest_depth, is_rising}
-use Rattle.plan.specs.declared.PlanAnswer.{PlanAnswer}
-use Rattle.plan.specs.declared.PlanAnswer.TheVariants.{Accepted, Refused}
+use Rattle.sheet.specs.Answer.{Outcome, Accepted, Refused}
 
 -- ---- the index
 
@@ -26,14 +23,10 @@ unfoldable pub units_of_one : List Label → List UnitName
 unfolding units_in
 units_of_one labels = units_in (replicate (length labels) 1) labels
 
-abbrev is_found : Found → Bool
-is_found Nothing = false
-is_found (At i) = true
-
 -- two labels part: neither begins the other
 unfoldable pub parts : Label → Label → Bool
 unfolding part_at digits_of
-parts p q = is_found (part_at (digits_of p) (digits_of q))
+parts p q = is_some (part_at (digits_of p) (digits_of q))
 
 -- every two of the labels part, else 12
 unfoldable pub all_part : List Label → Bool
@@ -89,14 +82,14 @@ place_fault index came p =
 
 -- after the last place: 22 with the place, from 1, of the first unit that did not come, else accepted. The last
 -- argument is the index from a place on, counted from 0
-unfoldable pub missing_from : ℕ → List Label → List Label → PlanAnswer
+unfoldable pub missing_from : ℕ → List Label → List Label → Outcome
 unfolding is_one_of
 missing_from place came [] = Accepted
 missing_from place came (q ∷ index) =
     let rest = missing_from (suc place) came index in cond (is_one_of came q) rest (Refused 22 (suc place))
 
 -- the answer from a place of the plan on, counted from 0; `came` are the labels before it, the last one first
-unfoldable pub plan_from : List Label → List Label → ℕ → List Label → PlanAnswer
+unfoldable pub plan_from : List Label → List Label → ℕ → List Label → Outcome
 unfolding missing_from place_fault
 plan_from index came place [] = missing_from 0 came index
 plan_from index came place (p ∷ plan) =
@@ -106,10 +99,10 @@ plan_from index came place (p ∷ plan) =
 -- ---- the call
 
 -- 11, 16 and 12 of the index, 3 for fewer work places than labels of the index, each with place 0; then the plan
-unfoldable pub plan_answer : List Label → List Label → ℕ → PlanAnswer
+unfoldable pub plan_answer : List Label → List Label → ℕ → Outcome
 unfolding index_fault plan_from
 plan_answer index plan places =
-    let judged : PlanAnswer = cond (leb (length index) places) (plan_from index [] 0 plan) (Refused 3 0) in
+    let judged : Outcome = cond (leb (length index) places) (plan_from index [] 0 plan) (Refused 3 0) in
     cond (eqb (index_fault index) 0) judged (Refused (index_fault index) 0)
 
 -- the work places, one for each label of the index, are 0 once check 3 is passed; the others keep their values
@@ -124,6 +117,6 @@ pub record PlanValues : Type 0 where
   pub number : ℕ
   pub place : ℕ
 
-abbrev pub plan_values : PlanAnswer → PlanValues
+abbrev pub plan_values : Outcome → PlanValues
 plan_values Accepted = record { number = 0; place = 0 }
-plan_values (Refused number place) = record { number = number; place = place }
+plan_values (Err refusal) = record { number = refusal.number; place = refusal.place }

@@ -1,7 +1,5 @@
 -- What the steps of the plan's check ask and promise: places in the index, and work places that tell which units came.
-use Rattle.std.specs.Prelude.{◌≡◌, Bool, true, cond, List, [], ◌∷◌, ℕ, suc, ◌+◌, ◌-◌, ◌≤◌, ◌<◌, eqb, ltb, leb, length, get_or, take, drop, set}
-use Rattle.sheet.specs.declared.Found.{Found}
-use Rattle.sheet.specs.declared.Found.TheVariants.{At, Nothing}
+use Rattle.std.specs.Prelude.{◌≡◌, Bool, true, cond, List, [], ◌∷◌, ℕ, suc, ◌+◌, ◌-◌, ◌≤◌, ◌<◌, eqb, ltb, leb, length, get_or, take, drop, set, None, Some}
 use Rattle.sheet.specs.declared.Label.{Label}
 use Rattle.sheet.specs.declared.UnitName.{UnitName}
 use Rattle.sheet.specs.Sheet.{first}
@@ -10,9 +8,8 @@ use Rattle.sheet.specs.Flow.{every, is_odd, is_label}
 use Rattle.lookup.specs.Lookup.{greatest_depth, is_rising, start_of, length_of}
 use Rattle.lookup.specs.Exactly.{entry_at}
 use Rattle.lookup.specs.Padded.{is_below, count_below}
-use Rattle.plan.specs.declared.PlanAnswer.{PlanAnswer}
-use Rattle.plan.specs.declared.PlanAnswer.TheVariants.{Accepted, Refused}
 use Rattle.plan.specs.Plan.{of_one_basin, units_of_one, all_part}
+use Rattle.sheet.specs.Answer.{Found, Outcome, Accepted, Refused}
 
 -- ---- the index
 
@@ -85,8 +82,8 @@ pub record PlaceJudged : Type 0 where
 -- for a label at this place of the index, or at none
 unfoldable pub judged_at : Found → List Label → Label → List ℕ → PlaceJudged
 unfolding end_of all_come span_of
-judged_at Nothing index p work = record { number = 20; work = work }
-judged_at (At i) index p work =
+judged_at None index p work = record { number = 20; work = work }
+judged_at (Some i) index p work =
     let end : ℕ = end_of index p in
     let taken : PlaceJudged = record { number = 0; work = set work i (span_of i end) } in
     let waiting : PlaceJudged = record { number = 21; work = work } in
@@ -99,13 +96,13 @@ unfolding judged_at place_of
 place_judged index p work = judged_at (place_of index p) index p work
 
 -- after the last place, the first unit from a place on that has not come
-unfoldable pub missing_in : ℕ → List ℕ → PlanAnswer
+unfoldable pub missing_in : ℕ → List ℕ → Outcome
 missing_in place [] = Accepted
 missing_in place (m ∷ work) = let rest = missing_in (suc place) work in cond (has_come m) rest (Refused 22 (suc place))
 
 -- the answer, and the work places when it is known
 pub record PlanJudged : Type 0 where
-  pub answer : PlanAnswer
+  pub answer : Outcome
   pub work : List ℕ
 
 -- the places of the plan from one on

@@ -1,8 +1,8 @@
 // The check of a survey plan: a list of unit labels of one basin, against the labels of that basin's index. No grid.
 #![tactic(auto)]
 
-ghost use Rattle.std.specs.Prelude.{◌≡◌, true, [], ◌≤◌, ◌^◌, length, replicate};
-ghost use Rattle.sheet.specs.declared.Found.TheVariants.{At};
+ghost use Rattle.std.specs.Prelude.{◌≡◌, true, [], ◌≤◌, ◌^◌, length, replicate, Some};
+ghost use Rattle.sheet.specs.Answer.{outcome_of_fault};
 ghost use Rattle.sheet.specs.Record.{number, decimal_digits, number_digits, labels_in};
 ghost use Rattle.sheet.specs.Flow.{every, is_label};
 ghost use Rattle.lookup.specs.Lookup.{greatest_depth, is_rising};
@@ -12,36 +12,17 @@ ghost use Rattle.plan.specs.Plan.{units_of_one, all_part, index_fault, plan_from
 ghost use Rattle.plan.specs.Steps.{Rising, Judged, StandFirst, Spans, place_of, before_last_odd, label_before_last_odd};
 ghost use Rattle.plan.specs.Steps.{end_of, all_come, span_of, judged_at, place_judged, missing_in, plan_judged};
 
-use checks::{clear_first, clear_places, label_at, same_label};
+use checks::{clear_first, clear_places, label_at, label_count, same_label};
 use digits::is_label;
-use lookup::{GREATEST_DEPTH, Halves, all_labels, is_below, label_count, padded, padded_end};
-use sheet::{Found, Label};
-
-// The answer of check_plan: accepted, or the refusal's number and its place, from 1 in the plan or in the index, or 0.
-#[derive(Clone, Copy)]
-pub enum PlanAnswer {
-    Accepted,
-    Refused(u8, usize),
-}
-
-// The most that a work place holds.
-const GREATEST_SPAN: usize = 4294967295;
+use lookup::{GREATEST_DEPTH, Halves, all_labels, is_below, padded, padded_end};
+use sheet::{Label, Refusal};
 
 // Each label of the index stands before the next.
 fn labels_rise(index: &[u64]) -> bool
     requires { every (is_label greatest_depth) (labels_in index.now) ≡ true }
     ensures { result ≡ is_rising (units_of_one (labels_in index.now)) }
 {
-    let count = label_count(index);
-    let mut i = 1;
-    while i < count {
-        if is_below(label_at(index, i - 1), padded(label_at(index, i))) {
-            i += 1;
-        } else {
-            return false;
-        }
-    }
-    true
+    (1..label_count(index)).all(|i| is_below(label_at(index, i - 1), padded(label_at(index, i))))
 }
 
 // Every two labels part: as they rise, it is enough that none begins the next.
@@ -49,34 +30,31 @@ fn labels_part(index: &[u64]) -> bool
     requires { Rising (labels_in index.now) }
     ensures { result ≡ all_part (labels_in index.now) }
 {
-    let count = label_count(index);
-    let mut i = 1;
-    while i < count {
-        if is_below(label_at(index, i), padded_end(label_at(index, i - 1))) {
-            return false;
-        }
-        i += 1;
-    }
-    true
+    (1..label_count(index)).all(|i| !is_below(
+        label_at(index, i),
+        padded_end(label_at(index, i - 1)),
+    ))
 }
 
-// The refusal of the index by 11, 16, 12, in this order, or 0.
-fn index_fault(index: &[u64]) -> u8
-    ensures { result ≡ index_fault (labels_in index.now) }
+// Judges the index by 11, 16, 12, in this order.
+#[tactic(auto, unfolding(crate::specs::Plan::index_fault))]
+fn index_fault(index: &[u64]) -> Result<(), Refusal>
+    ensures { result ≡ outcome_of_fault (index_fault (labels_in index.now)) }
 {
-    if all_labels(index) {
-        if labels_rise(index) {
-            if labels_part(index) {
-                return 0;
-            }
-            return 12;
-        }
-        return 16;
+    if !all_labels(index) {
+        return Err(Refusal::numbered(11));
     }
-    11
+    if !labels_rise(index) {
+        return Err(Refusal::numbered(16));
+    }
+    if !labels_part(index) {
+        return Err(Refusal::numbered(12));
+    }
+    Ok(())
 }
 
-// How many labels of the index stand before a limit, by halving.
+// How many labels of the index stand before a limit. It halves by hand: a slice's partition_point takes each number for
+// an item, and in the lent slice, which the C interface fixes, a label is two numbers.
 fn count_below(limit: Halves, index: &[u64]) -> usize
     requires rest_bound { limit.rest ≤ 10 ^ number_digits }
     requires index_value { every (is_label greatest_depth) (labels_in index.now) ≡ true }
@@ -97,19 +75,18 @@ fn count_below(limit: Halves, index: &[u64]) -> usize
 }
 
 // The place of a record in the index. One that is no label has none.
-fn place_of(index: &[u64], p: Label) -> Found
+fn place_of(index: &[u64], p: Label) -> Option<usize>
     requires { Rising (labels_in index.now) }
     ensures { result ≡ place_of (labels_in index.now) p }
 {
-    if is_label(GREATEST_DEPTH, p) {
-        let place = count_below(padded(p), index);
-        if place < label_count(index) {
-            if same_label(label_at(index, place), p) {
-                return Found::At(place);
-            }
-        }
+    if !is_label(GREATEST_DEPTH, p) {
+        return None;
     }
-    Found::Nothing
+    let place = count_below(padded(p), index);
+    if place < label_count(index) && same_label(label_at(index, place), p) {
+        return Some(place);
+    }
+    None
 }
 
 // A number without the odd digits at its end.
@@ -118,7 +95,7 @@ fn without_last_odd(m: u64) -> u64
 {
     let mut left = m;
     while left % 2 == 1 {
-        left = left / 10;
+        left /= 10;
     }
     left
 }
@@ -148,7 +125,7 @@ fn end_of(index: &[u64], p: Label) -> usize
     count_below(padded_end(before_last_odd(p)), index)
 }
 
-// The units from a place up to an end have all come.
+// The units from a place up to an end have all come. No `for`: a step is as long as the span that its place holds.
 fn all_come(work: &[u32], from: usize, end: usize) -> bool
     requires end_in_bounds { end ≤ length work.now }
     requires spans { Spans work.now }
@@ -166,87 +143,83 @@ fn all_come(work: &[u32], from: usize, end: usize) -> bool
 }
 
 // What a work place holds once the units from it up to an end have come.
+#[tactic(auto, unfolding(crate::specs::Steps::span_of))]
 fn span_of(place: usize, end: usize) -> u32
     requires { place ≤ end }
     ensures { result ≡ span_of place end }
 {
-    let units = end - place;
-    if units <= GREATEST_SPAN {
-        return units as u32;
-    }
-    GREATEST_SPAN as u32
+    u32::try_from(end - place).unwrap_or(u32::MAX)
 }
 
-// Judges a place of the plan that names the unit at a place of the index: 20, 21, or 0; then the unit has come.
-fn judge_unit(index: &[u64], place: usize, p: Label, work: &mut [u32]) -> u8
+// Judges a place of the plan that names the unit at a place of the index: refused by 20 or 21, or the unit has come.
+fn judge_unit(index: &[u64], place: usize, p: Label, work: &mut [u32]) -> Result<(), Refusal>
     requires judged { Judged (labels_in index.now) }
-    requires p_value { place_of (labels_in index.now) p ≡ At place }
+    requires p_value { place_of (labels_in index.now) p ≡ Some place }
     requires work_len { length work.old ≡ length (labels_in index.now) }
     requires spans { Spans work.old }
-    ensures { record { number = result; work = work.new }
-        ≡ judged_at (At place) (labels_in index.now) p work.old }
+    ensures answer { result
+        ≡ outcome_of_fault (judged_at (Some place) (labels_in index.now) p work.old).number }
+    ensures work { work.new ≡ (judged_at (Some place) (labels_in index.now) p work.old).work }
 {
     if 0 < work[place] {
-        return 20;
+        return Err(Refusal::numbered(20));
     }
     let end = end_of(index, p);
-    if all_come(work, place + 1, end) {
-        work[place] = span_of(place, end);
-        return 0;
+    if !all_come(work, place + 1, end) {
+        return Err(Refusal::numbered(21));
     }
-    21
+    work[place] = span_of(place, end);
+    Ok(())
 }
 
-// Judges a place of the plan: 20, 21, or 0; then its unit has come.
-fn judge_place(index: &[u64], p: Label, work: &mut [u32]) -> u8
+// Judges a place of the plan: refused by 20 or 21, or its unit has come.
+fn judge_place(index: &[u64], p: Label, work: &mut [u32]) -> Result<(), Refusal>
     requires judged { Judged (labels_in index.now) }
     requires work_len { length work.old ≡ length (labels_in index.now) }
     requires spans { Spans work.old }
-    ensures { record { number = result; work = work.new }
-        ≡ place_judged (labels_in index.now) p work.old }
+    ensures answer { result
+        ≡ outcome_of_fault (place_judged (labels_in index.now) p work.old).number }
+    ensures work { work.new ≡ (place_judged (labels_in index.now) p work.old).work }
 {
-    match place_of(index, p) {
-        Found::Nothing => 20,
-        Found::At(place) => judge_unit(index, place, p, work),
-    }
+    let Some(place) = place_of(index, p) else {
+        return Err(Refusal::numbered(20));
+    };
+    judge_unit(index, place, p, work)
 }
 
 // After the last place of the plan: 22 with the first unit that has not come, or accepted.
-fn first_missing(work: &[u32]) -> PlanAnswer
+fn first_missing(work: &[u32]) -> Result<(), Refusal>
     ensures { result ≡ missing_in 0 work.now }
 {
-    let mut i = 0;
-    while i < work.len() {
-        if work[i] == 0 {
-            return PlanAnswer::Refused(22, i + 1);
-        }
-        i += 1;
+    match work.iter().position(|span| *span == 0) {
+        Some(place) => Err(Refusal {
+            number: 22,
+            place: place + 1,
+        }),
+        None => Ok(()),
     }
-    PlanAnswer::Accepted
 }
 
 // Judges the places of the plan from the first, and then whether a unit is missing.
-fn judge_plan(index: &[u64], plan: &[u64], work: &mut [u32]) -> PlanAnswer
+fn judge_plan(index: &[u64], plan: &[u64], work: &mut [u32]) -> Result<(), Refusal>
     requires judged { Judged (labels_in index.now) }
     requires work_len { length work.old ≡ length (labels_in index.now) }
     requires spans { Spans work.old }
     ensures { record { answer = result; work = work.new }
         ≡ plan_judged (labels_in index.now) 0 (labels_in plan.now) work.old }
 {
-    let places = label_count(plan);
-    let mut k = 0;
-    while k < places {
-        let number = judge_place(index, label_at(plan, k), work);
-        if number != 0 {
-            return PlanAnswer::Refused(number, k + 1);
-        }
-        k += 1;
+    for k in 0..label_count(plan) {
+        let place = k + 1;
+        judge_place(index, label_at(plan, k), work).map_err(|refusal| Refusal {
+            place,
+            ..refusal
+        })?;
     }
     first_missing(work)
 }
 
 // Judges a plan of an index that is accepted, with one work place for each of its labels, which are set to 0 first.
-fn judge_from_start(index: &[u64], plan: &[u64], work: &mut [u32]) -> PlanAnswer
+fn judge_from_start(index: &[u64], plan: &[u64], work: &mut [u32]) -> Result<(), Refusal>
     requires judged { Judged (labels_in index.now) }
     requires work_len { length work.old ≡ length (labels_in index.now) }
     ensures answer { result ≡ plan_from (labels_in index.now) [] 0 (labels_in plan.now) }
@@ -263,7 +236,7 @@ fn judge_from_start(index: &[u64], plan: &[u64], work: &mut [u32]) -> PlanAnswer
 // of the plan that is wrong, by 20 or 21, the lower number first, with that place from 1; then by 22, with the first
 // missing unit's place in the index from 1. Once 3 is passed, the work places of the index's labels are 0; no other
 // place is written.
-pub fn check_plan(index: &[u64], plan: &[u64], work: &mut [u32]) -> PlanAnswer
+pub fn check_plan(index: &[u64], plan: &[u64], work: &mut [u32]) -> Result<(), Refusal>
     ensures answer { result
         ≡ plan_answer (labels_in index.now) (labels_in plan.now) (length work.old) }
     ensures values { plan_values result
@@ -271,13 +244,10 @@ pub fn check_plan(index: &[u64], plan: &[u64], work: &mut [u32]) -> PlanAnswer
         (length work.old)) }
     ensures work { work.new ≡ work_after (labels_in index.now) work.old }
 {
-    let fault = index_fault(index);
-    if fault != 0 {
-        return PlanAnswer::Refused(fault, 0);
-    }
+    index_fault(index)?;
     let count = label_count(index);
     if work.len() < count {
-        return PlanAnswer::Refused(3, 0);
+        return Err(Refusal::numbered(3));
     }
     let answer = judge_from_start(index, plan, &mut work[..count]);
     clear_first(work, count);

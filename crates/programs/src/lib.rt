@@ -2,9 +2,10 @@
 // output.
 #![tactic(auto)]
 
+use intake::Intake;
 use lines::LINE_BYTES;
-use listing::Listing;
-use reading::{Read, Reader};
+use reading::Reader;
+use sheet::Refusal;
 use std::io;
 use std::io::ErrorKind;
 
@@ -23,13 +24,6 @@ pub const WORK_PLACES: usize = 16384;
 
 // 60 bytes of text a cell, beside the heading.
 pub const REPORT_BYTES: usize = 122905;
-
-// A file that was read, or that standard input could not be read.
-#[derive(Clone, Copy)]
-pub enum Input {
-    File(Read),
-    Failed,
-}
 
 // What a read of the input brought: more of the file, the end of its reading, or that it failed.
 #[derive(Clone, Copy)]
@@ -66,36 +60,33 @@ fn read_once<R: io::Read>(
     }
 }
 
-// Reads to the end of the input, or until a line was refused.
+// Reads to the end of the input, or until a line was refused; None if a read failed.
 fn read_all<R: io::Read>(
     input: &mut R,
     line: &mut [u8; LINE_BYTES],
     dirs: &mut [u8],
     weights: &mut [u16],
-) -> Chunk {
+) -> Option<Reader> {
     let mut reader = Reader::new();
-    let mut turns = u64::MAX;
-    while turns > 0 {
+    for _ in 0..u64::MAX {
         match read_once(input, reader, line, dirs, weights) {
-            Chunk::More(next) => {
-                reader = next;
-                turns -= 1;
-            }
-            Chunk::End(last) => return Chunk::End(last),
-            Chunk::Failed => return Chunk::Failed,
+            Chunk::More(next) => reader = next,
+            Chunk::End(last) => return Some(last),
+            Chunk::Failed => return None,
         }
     }
-    Chunk::Failed
+    None
 }
 
-// Reads the file on the input.
-pub fn read_input<R: io::Read>(input: &mut R, dirs: &mut [u8], weights: &mut [u16]) -> Input {
+// Reads the file on the input; None if it could not be read.
+pub fn read_input<R: io::Read>(
+    input: &mut R,
+    dirs: &mut [u8],
+    weights: &mut [u16],
+) -> Option<Result<Intake, Refusal>> {
     let mut line = [0u8; LINE_BYTES];
-    match read_all(input, &mut line, dirs, weights) {
-        Chunk::End(reader) => Input::File(reader.finish(&line, dirs, weights)),
-        Chunk::More(_) => Input::Failed,
-        Chunk::Failed => Input::Failed,
-    }
+    let reader = read_all(input, &mut line, dirs, weights)?;
+    Some(reader.finish(&line, dirs, weights))
 }
 
 // Prints a line on standard error: the name of the program, and what went wrong.
@@ -106,10 +97,10 @@ pub fn complain<E: io::Write>(errors: &mut E, program: &[u8], what: &[u8]) {
 
 // Prints the first n bytes of a buffer on standard output; false if that failed.
 pub fn print<W: io::Write>(output: &mut W, out: &[u8], n: usize) -> bool {
-    if n <= out.len() {
-        return output.write_all(&out[..n]).is_ok();
-    }
-    false
+    let Some(text) = out.get(..n) else {
+        return false;
+    };
+    output.write_all(text).is_ok()
 }
 
 // Prints the text that a call wrote to the start of a buffer; false, with a line on standard error, if that failed.
@@ -117,20 +108,16 @@ pub fn print_text<W: io::Write, E: io::Write>(
     output: &mut W,
     errors: &mut E,
     program: &[u8],
-    answer: Listing,
+    answer: Result<usize, Refusal>,
     out: &[u8],
 ) -> bool {
-    match answer {
-        Listing::Bytes(n) => {
-            if print(output, out, n) {
-                return true;
-            }
-            complain(errors, program, b": standard output cannot be written\n");
-            false
-        }
-        Listing::Refused(_) => {
-            complain(errors, program, b": the report does not fit its buffer\n");
-            false
-        }
+    let Ok(n) = answer else {
+        complain(errors, program, b": the report does not fit its buffer\n");
+        return false;
+    };
+    if !print(output, out, n) {
+        complain(errors, program, b": standard output cannot be written\n");
+        return false;
     }
+    true
 }

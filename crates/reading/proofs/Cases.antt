@@ -7,8 +7,8 @@ use Rattle.decimal.specs.Ascii.{ascii}
 use Rattle.faults.specs.declared.Sizes.{Sizes}
 use Rattle.intake.specs.declared.Stage.TheVariants.{Ended as AtEnd}
 use Rattle.intake.specs.Intake.{LentSheet, lent_sheet, line_after, end_taken}
-use Rattle.reading.specs.declared.Read.TheVariants.{Ended}
 use Rattle.reading.specs.Lines.{lines_of, FileRead, refused_read, end_after, read_from, read_file}
+use Rattle.std.specs.Prelude.{Ok}
 
 -- ---- lines
 
@@ -44,7 +44,7 @@ sample_codes = 0 ∷ 4 ∷ 16 ∷ 8 ∷ 16 ∷ 16 ∷ 16 ∷ 16 ∷ 64 ∷ 64 �
 
 -- a file that is read to its end, with these sizes
 abbrev ended_with : Sizes → LentSheet → FileRead
-ended_with z lent = record { read = Ended (record { stage = AtEnd z }); lent = lent }
+ended_with z lent = record { read = Ok (record { stage = AtEnd z }); lent = lent }
 
 -- it ends with 3 rows, 4 columns, depth 2; least and split are not named
 abbrev pub sample_read : LentSheet → FileRead

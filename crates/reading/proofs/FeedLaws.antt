@@ -6,12 +6,12 @@ use Prim.Native.Nat.{ℕ, ◌+◌, ◌<◌, ◌≤◌}
 use native.Mathlib.Numerals.{add-one}
 use lib.ListN.{length, drop, get_or, drop_of_length-le}
 use lib.Seq.{drop-cons}
-use Rattle.intake.specs.declared.TakenOutcome.{TakenOutcome}
-use Rattle.intake.specs.declared.TakenOutcome.TheVariants.{Accepted, Refused}
 use Rattle.intake.specs.Intake.{LentSheet}
-use Rattle.reading.specs.declared.Read.{Read}
 use Rattle.reading.specs.Lines.{FileRead, read_values, on_outcome}
 use Rattle.reading.specs.Feed.{Reading, byte_after, is_refused, feed_all}
+use Rattle.sheet.specs.Answer.{Outcome, Accepted}
+use Rattle.reading.specs.Answer.{Read}
+use Rattle.std.specs.Prelude.{Err}
 
 pub feed_append : (s : Reading) (first second : List ℕ) → feed_all s (first ++ second) ≡ feed_all (feed_all s first) second
 unfolding feed_all
@@ -33,9 +33,9 @@ byte_refused : (s : Reading) (b : ℕ) → is_refused s.reader ≡ true → byte
 unfolding is_refused byte_after on_outcome
 byte_refused s b r = go s.reader.outcome refl
   where
-    go : (o : TakenOutcome) → s.reader.outcome ≡ o → byte_after s b ≡ s
-    go Accepted e = absurd (true≢false (sym r ∙ ap (λ (o : TakenOutcome). on_outcome o false (λ number. true)) e))
-    go (Refused number) e = rw e
+    go : (o : Outcome) → s.reader.outcome ≡ o → byte_after s b ≡ s
+    go Accepted e = absurd (true≢false (sym r ∙ ap (λ (o : Outcome). on_outcome o false (λ number. true)) e))
+    go (Err refusal) e = rw e
 
 pub fed_refused : (s : Reading) (bytes : List ℕ) → is_refused s.reader ≡ true → feed_all s bytes ≡ s
 unfolding feed_all

@@ -10,8 +10,6 @@ use lib.Dec.{eqb, ltb}
 use lib.ListN.{length, take, set, length-set, length-append}
 use lib.Seq.{take-suc-set}
 use Rattle.intake.specs.declared.Intake.{Intake}
-use Rattle.intake.specs.declared.TakenOutcome.{TakenOutcome}
-use Rattle.intake.specs.declared.TakenOutcome.TheVariants.{Accepted, Refused}
 use Rattle.intake.specs.Intake.{LentSheet, After, line_after, new_intake}
 use Rattle.intake.proofs.BadLines.{line_feed_lem, over_eighty, bad_lines_alike, bad_line_refused}
 use Rattle.lines.specs.Fields.{longer}
@@ -20,6 +18,8 @@ use Rattle.reading.specs.Feed.{Reading, largest_count, next_line, hand_line, lon
 use Rattle.reading.specs.Feed.{byte_after, is_refused, feed_all, last_line, end_read, finished}
 use Rattle.reading.specs.Pieces.{started, feed_pieces, joined, ReadInPieces, NoFeed, StopsAtRefusal}
 use Rattle.reading.proofs.FeedLaws.{feed_append, fed_refused}
+use Rattle.sheet.specs.Answer.{Outcome, Accepted}
+use Rattle.std.specs.Prelude.{Err}
 
 no_feed_more : (s : List ℕ) (b : ℕ) → NoFeed s → (b ≡ 10 → ⊥) → NoFeed (s ++ (b ∷ []))
 no_feed_more [] b f n = (n, tt)
@@ -94,7 +94,7 @@ abbrev within : Intake → ℕ → ℕ → List ℕ → LentSheet → Reading
 within i n held line lent =
     record { reader = record { intake = i; lines = n; held = held; outcome = Accepted }; line = line; lent = lent }
 
-abbrev ended : Intake → TakenOutcome → ℕ → List ℕ → LentSheet → Reading
+abbrev ended : Intake → Outcome → ℕ → List ℕ → LentSheet → Reading
 ended i o n line lent =
     record { reader = record { intake = i; lines = n; held = 0; outcome = o }; line = line; lent = lent }
 
@@ -117,14 +117,14 @@ line_ended i n held s line lent is h =
     rw (le-leb held 80 is.fits, is.bytes) (hand_line_lem i n held s line lent h)
 
 -- a file goes on after an accepted line, and is refused at that line else
-after_line_lem : (i : Intake) (o : TakenOutcome) (n : ℕ) (line : List ℕ) (lent : LentSheet) (bytes : List ℕ)
+after_line_lem : (i : Intake) (o : Outcome) (n : ℕ) (line : List ℕ) (lent : LentSheet) (bytes : List ℕ)
     (rest : FileRead)
     → (o ≡ Accepted → finished (feed_all (ended i Accepted n line lent) bytes) ≡ rest)
     → finished (feed_all (ended i o n line lent) bytes) ≡ on_outcome o rest (λ number. refused_read number n lent)
 unfolding on_outcome is_refused finished last_line end_read
 after_line_lem i Accepted n line lent bytes rest e = e refl
-after_line_lem i (Refused number) n line lent bytes rest e =
-    ap finished (fed_refused (ended i (Refused number) n line lent) bytes refl)
+after_line_lem i (Err refusal) n line lent bytes rest e =
+    ap finished (fed_refused (ended i (Err refusal) n line lent) bytes refl)
 
 -- a line of more than 80 bytes is refused as soon as it has 81, as it is where it ends
 after_long : (i : Intake) (n : ℕ) (line : List ℕ) (lent : LentSheet) (bytes : List ℕ) (lines : List (List ℕ))
@@ -142,11 +142,11 @@ after_long i n line lent bytes (first ∷ later) h =
     (λ e. absurd (bad_line_refused i first lent bad e))
 
 -- the end ends a line that lacks its line feed
-finish_ended : (i : Intake) (o : TakenOutcome) (n : ℕ) (line : List ℕ) (lent : LentSheet)
+finish_ended : (i : Intake) (o : Outcome) (n : ℕ) (line : List ℕ) (lent : LentSheet)
     → last_line (ended i o n line lent) ≡ ended i o n line lent
 unfolding last_line
 finish_ended i Accepted n line lent = refl
-finish_ended i (Refused number) n line lent = refl
+finish_ended i (Err refusal) n line lent = refl
 
 -- what is left of a file after its last line
 abbrev closed : Reading → FileRead
@@ -282,11 +282,11 @@ long_refused : (s : Reading) → is_refused (long_line s).reader ≡ true
 unfolding is_refused long_line hand_line
 long_refused s = go (line_after s.reader.intake (10 ∷ []) s.lent).taken.outcome refl
   where
-    go : (o : TakenOutcome) → (line_after s.reader.intake (10 ∷ []) s.lent).taken.outcome ≡ o
+    go : (o : Outcome) → (line_after s.reader.intake (10 ∷ []) s.lent).taken.outcome ≡ o
         → is_refused (long_line s).reader ≡ true
     go Accepted e =
         absurd (bad_line_refused s.reader.intake (10 ∷ []) s.lent (line_feed_lem (10 ∷ []) 0 (omega arith) refl) e)
-    go (Refused number) e = rw e
+    go (Err refusal) e = rw e
 
 stays_refused : (s : Reading) (bytes : List ℕ) → is_refused s.reader ≡ true
     → is_refused (feed_all s bytes).reader ≡ true
@@ -300,9 +300,9 @@ long_byte : (s : Reading) (b : ℕ) (bytes : List ℕ) → (b ≡ 10 → ⊥)
 unfolding is_refused byte_after keep_byte
 long_byte s b bytes other on = go s.reader.outcome refl (ltb s.reader.held 80) refl
   where
-    go : (o : TakenOutcome) → s.reader.outcome ≡ o → (t : Bool) → ltb s.reader.held 80 ≡ t
+    go : (o : Outcome) → s.reader.outcome ≡ o → (t : Bool) → ltb s.reader.held 80 ≡ t
         → is_refused (feed_all (byte_after s b) bytes).reader ≡ true
-    go (Refused number) e t u = stays_refused (byte_after s b) bytes (simp e)
+    go (Err refusal) e t u = stays_refused (byte_after s b) bytes (simp e)
     go Accepted e true u = on (ltb-true _ _ u) (simp (e, ne_eqb b 10 other, u))
     go Accepted e false u = stays_refused (byte_after s b) bytes (rw (e, ne_eqb b 10 other, u) (long_refused s))
 

@@ -2,12 +2,11 @@
 use Rattle.std.specs.Prelude.{Bool, true, false, cond, List, [], ◌∷◌, ℕ, ◌+◌, eqb, leb, ltb, take, set}
 use Rattle.decimal.specs.Ascii.{line_feed}
 use Rattle.lines.specs.Fields.{line_bytes}
-use Rattle.intake.specs.declared.TakenOutcome.TheVariants.{Accepted}
 use Rattle.intake.specs.Intake.{LentSheet, After, line_after, new_intake}
 use Rattle.reading.specs.declared.Reader.{Reader}
-use Rattle.reading.specs.declared.Read.{Read}
-use Rattle.reading.specs.declared.Read.TheVariants.{Refused}
 use Rattle.reading.specs.Lines.{FileRead, on_outcome, end_after}
+use Rattle.reading.specs.Answer.{Read}
+use Rattle.sheet.specs.Answer.{Accepted, Refused}
 
 -- the reader with what is lent to it: the buffer for the present line, and what goes to the intake
 pub record Reading : Type 0 where

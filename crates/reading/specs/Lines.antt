@@ -1,13 +1,11 @@
 -- A file's lines, and what the intake makes of them.
-use Rattle.std.specs.Prelude.{cond, List, [], ◌∷◌, ℕ, suc, eqb}
+use Rattle.std.specs.Prelude.{cond, List, [], ◌∷◌, ℕ, suc, eqb, Err, Ok}
 use Rattle.intake.specs.declared.Intake.{Intake}
-use Rattle.intake.specs.declared.TakenOutcome.{TakenOutcome}
-use Rattle.intake.specs.declared.TakenOutcome.TheVariants.{Accepted as Took, Refused as RefusedBy}
 use Rattle.intake.specs.Intake.{LentSheet, After, line_after, end_taken, new_intake}
 use Rattle.decimal.specs.Ascii.{line_feed}
 use Rattle.lines.specs.Fields.{longer}
-use Rattle.reading.specs.declared.Read.{Read}
-use Rattle.reading.specs.declared.Read.TheVariants.{Refused, Ended}
+use Rattle.sheet.specs.Answer.{Outcome, Accepted, Refused}
+use Rattle.reading.specs.Answer.{Read}
 
 -- The bytes of a file parted at each line feed. The last line may lack its line feed: "a" and "a" with a line feed are
 -- one line, a line feed alone is an empty line, and no bytes are no line.
@@ -24,8 +22,8 @@ pub record ReadValues : Type 0 where
   pub intake : Intake
 
 abbrev pub read_values : Read → ReadValues
-read_values (Refused number place) = record { number = number; place = place; intake = new_intake }
-read_values (Ended i) = record { number = 0; place = 0; intake = i }
+read_values (Err refusal) = record { number = refusal.number; place = refusal.place; intake = new_intake }
+read_values (Ok i) = record { number = 0; place = 0; intake = i }
 
 -- what reading a file leaves: how it ended, and what was lent to the intake
 pub record FileRead : Type 0 where
@@ -36,14 +34,14 @@ abbrev pub refused_read : ℕ → ℕ → LentSheet → FileRead
 refused_read number place lent = record { read = Refused number place; lent = lent }
 
 -- go on where a line or an end was accepted; else it was refused with a number
-unfoldable pub on_outcome : {A : Type 0} → TakenOutcome → A → (ℕ → A) → A
-on_outcome Took next refused = next
-on_outcome (RefusedBy number) next refused = refused number
+unfoldable pub on_outcome : {A : Type 0} → Outcome → A → (ℕ → A) → A
+on_outcome Accepted next refused = next
+on_outcome (Err refusal) next refused = refused refusal.number
 
 -- the end of the file; if it is refused, then at the place
 unfoldable pub end_after : Intake → ℕ → Read
 unfolding on_outcome
-end_after i place = on_outcome (end_taken i).outcome (Ended (end_taken i).intake) (λ number. Refused number place)
+end_after i place = on_outcome (end_taken i).outcome (Ok (end_taken i).intake) (λ number. Refused number place)
 
 -- The lines after n lines, and the end: "Place is the line number, from 1, if the intake refused a line; lines read
 -- plus 1 if it refused the end".

@@ -9,8 +9,9 @@ ghost use Rattle.reading.specs.Feed.{reading, next_line, new_reader, hand_line, 
 ghost use Rattle.reading.specs.Feed.{is_refused, feed_all, last_line, end_read, finished};
 
 use decimal::LINE_FEED;
-use intake::{Intake, TakenOutcome};
+use intake::Intake;
 use lines::LINE_BYTES;
+use sheet::Refusal;
 
 // The bytes of a file so far. The bytes of the line that is not ended yet stand in a lent buffer.
 #[derive(Clone, Copy)]
@@ -21,45 +22,35 @@ pub struct Reader {
     // how many bytes the present line has
     pub held: usize,
     // that of the last line
-    pub outcome: TakenOutcome,
-}
-
-// How a file ends: refused, with document 01's number and place, or with an ended intake.
-#[derive(Clone, Copy)]
-pub enum Read {
-    Refused(u8, usize),
-    Ended(Intake),
+    pub outcome: Result<(), Refusal>,
 }
 
 // The number of the next line. It stays at the largest number, which no file of fewer than 2^64 - 1 bytes comes to.
+#[tactic(auto, unfolding(crate::specs::Feed::next_line))]
 fn next_line(lines: usize) -> usize
     ensures { result ≡ next_line lines }
 {
-    if lines < usize::MAX {
-        return lines + 1;
-    }
-    lines
+    lines.saturating_add(1)
 }
 
 // Hands a line to the intake.
+#[tactic(auto, unfolding(crate::specs::Feed::hand_line))]
 fn hand_line(reader: Reader, text: &[u8], dirs: &mut [u8], weights: &mut [u16]) -> Reader
     ensures { (line : List ℕ) → reading result line (lent_sheet dirs.new weights.new)
         ≡ hand_line (reading reader line (lent_sheet dirs.old weights.old))
         text.now }
 {
-    let intake = reader.intake;
-    let taken = intake.line(text, dirs, weights);
-    let next = taken.intake;
-    let outcome = taken.outcome;
+    let taken = reader.intake.line(text, dirs, weights);
     Reader {
-        intake: next,
+        intake: taken.intake,
         lines: next_line(reader.lines),
         held: 0,
-        outcome: outcome,
+        outcome: taken.outcome,
     }
 }
 
 // A line of more than LINE_BYTES bytes: for it a line goes to the intake that breaks the file's rules in every stage.
+#[tactic(auto, unfolding(crate::specs::Feed::long_line))]
 fn long_line(reader: Reader, dirs: &mut [u8], weights: &mut [u16]) -> Reader
     ensures { (line : List ℕ) → reading result line (lent_sheet dirs.new weights.new)
         ≡ long_line (reading reader line (lent_sheet dirs.old weights.old)) }
@@ -81,6 +72,7 @@ fn line_end(reader: Reader, line: &[u8], dirs: &mut [u8], weights: &mut [u16]) -
 }
 
 // One byte of the file. After a refusal it changes nothing; one that does not fit the present line ends that line.
+#[tactic(auto, unfolding(crate::specs::Feed::byte_after, crate::specs::Feed::keep_byte))]
 fn feed_byte(
     reader: Reader,
     byte: u8,
@@ -92,28 +84,25 @@ fn feed_byte(
         ≡ byte_after (reading reader line.old (lent_sheet dirs.old weights.old))
         byte }
 {
-    let outcome = reader.outcome;
-    let TakenOutcome::Accepted = outcome else {
+    let Ok(()) = reader.outcome else {
         return reader;
     };
     if byte == LINE_FEED {
         return line_end(reader, line, dirs, weights);
     }
-    let intake = reader.intake;
     let at = reader.held;
     if at < LINE_BYTES {
         line[at] = byte;
         return Reader {
-            intake: intake,
-            lines: reader.lines,
             held: at + 1,
-            outcome: outcome,
+            ..reader
         };
     }
     long_line(reader, dirs, weights)
 }
 
 // A last line that lacks its line feed.
+#[tactic(auto, unfolding(crate::specs::Feed::last_line))]
 fn last_line(
     reader: Reader,
     line: &[u8; LINE_BYTES],
@@ -123,8 +112,7 @@ fn last_line(
     ensures { reading result line.now (lent_sheet dirs.new weights.new)
         ≡ last_line (reading reader line.now (lent_sheet dirs.old weights.old)) }
 {
-    let outcome = reader.outcome;
-    let TakenOutcome::Accepted = outcome else {
+    let Ok(()) = reader.outcome else {
         return reader;
     };
     if reader.held == 0 {
@@ -134,27 +122,31 @@ fn last_line(
 }
 
 // The end of a file whose lines were all accepted.
-fn end_intake(intake: Intake, lines: usize) -> Read
+#[tactic(auto, unfolding(crate::specs::Lines::end_after))]
+fn end_intake(intake: Intake, lines: usize) -> Result<Intake, Refusal>
     ensures { result ≡ end_after intake (next_line lines) }
 {
     let taken = intake.end();
-    let ended = taken.intake;
-    let outcome = taken.outcome;
-    match outcome {
-        TakenOutcome::Accepted => Read::Ended(ended),
-        TakenOutcome::Refused(number) => Read::Refused(number, next_line(lines)),
+    match taken.outcome {
+        Ok(()) => Ok(taken.intake),
+        Err(refusal) => Err(Refusal {
+            place: next_line(lines),
+            ..refusal
+        }),
     }
 }
 
 // The end of the file, after its last line.
-fn end_read(reader: Reader) -> Read
+#[tactic(auto, unfolding(crate::specs::Feed::end_read))]
+fn end_read(reader: Reader) -> Result<Intake, Refusal>
     ensures { result ≡ end_read reader }
 {
-    let intake = reader.intake;
-    let outcome = reader.outcome;
-    match outcome {
-        TakenOutcome::Accepted => end_intake(intake, reader.lines),
-        TakenOutcome::Refused(number) => Read::Refused(number, reader.lines),
+    match reader.outcome {
+        Ok(()) => end_intake(reader.intake, reader.lines),
+        Err(refusal) => Err(Refusal {
+            place: reader.lines,
+            ..refusal
+        }),
     }
 }
 
@@ -167,7 +159,7 @@ impl Reader {
             intake: Intake::new(),
             lines: 0,
             held: 0,
-            outcome: TakenOutcome::Accepted,
+            outcome: Ok(()),
         }
     }
 
@@ -184,27 +176,27 @@ impl Reader {
             chunk.now }
     {
         let mut reader = self;
-        let mut i = 0;
-        while i < chunk.len() {
-            reader = feed_byte(reader, chunk[i], line, dirs, weights);
-            i += 1;
+        for &byte in chunk {
+            reader = feed_byte(reader, byte, line, dirs, weights);
         }
         reader
     }
 
     // Whether a line was refused. The bytes after it change nothing, so that they need not be read.
+    #[tactic(auto, unfolding(crate::specs::Feed::is_refused))]
     pub fn is_refused(self) -> bool
         ensures { result ≡ is_refused self }
     {
-        let outcome = self.outcome;
-        match outcome {
-            TakenOutcome::Accepted => false,
-            TakenOutcome::Refused(_) => true,
-        }
+        self.outcome.is_err()
     }
 
     // The end of the file.
-    pub fn finish(self, line: &[u8; LINE_BYTES], dirs: &mut [u8], weights: &mut [u16]) -> Read
+    pub fn finish(
+        self,
+        line: &[u8; LINE_BYTES],
+        dirs: &mut [u8],
+        weights: &mut [u16],
+    ) -> Result<Intake, Refusal>
         ensures file { record { read = result; lent = lent_sheet dirs.new weights.new }
             ≡ finished (reading self line.now (lent_sheet dirs.old weights.old)) }
         ensures values { read_values result

@@ -6,7 +6,6 @@ use Prim.Native.Nat.{ℕ, ◌^◌, ◌<◌, ◌≤◌}
 use native.Mathlib.Nat.{zero-add}
 use native.Mathlib.Omega.{arith}
 use lib.ListN.{get_or}
-use Rattle.sheet.specs.declared.Outcome.TheVariants.{Accepted}
 use Rattle.sheet.specs.Sheet.{Sheet, cells}
 use Rattle.sheet.specs.Record.{label_of_numbers, label_at}
 use Rattle.sheet.specs.Label.{areas_of, labels_of}
@@ -25,11 +24,12 @@ use Rattle.claims.proofs.BasinNumbers.{basin_some, basin_most}
 use Rattle.claims.proofs.Written.{checks, grid_checks, first_number_fits}
 use Rattle.listing.specs.AsBefore.{label_texts, listing_before, with_basin1}
 use Rattle.listing.proofs.AsBefore.{one_basin, numbers_as_before}
-use Rattle.report.specs.declared.Verdict.TheVariants.{Labelled}
 use Rattle.report.specs.Report.{file_verdict, report}
 use Rattle.report.specs.Demand.{file_sheet, sheet_listing, sheet_listing_before, number_listing}
 use Rattle.report.proofs.ReportLaws.{label_listed}
 use Rattle.report.proofs.Files.{file_listed, file_accepted}
+use Rattle.sheet.specs.Answer.{Accepted}
+use Rattle.std.specs.Prelude.{Ok}
 
 module _ (S : Sheet) (L : Lent) (accepted : outcome S L ≡ Accepted) where
   direct : AloneIsDirect S
@@ -80,7 +80,7 @@ module _ (S : Sheet) (L : Lent) (accepted : outcome S L ≡ Accepted) where
     sheet_as_before =
         numbers_as_before S.grid (areas_of S) (labels_of S) (number_labels S) number_small label_is_number
 
-module _ (T : LentSheet) (L : Lent) (bytes : List ℕ) (z : Sizes) (e : file_verdict T L bytes ≡ Labelled z) where
+module _ (T : LentSheet) (L : Lent) (bytes : List ℕ) (z : Sizes) (e : file_verdict T L bytes ≡ Ok z) where
   pub file_one_basin : basin_count (file_sheet T bytes z).grid ≡ 1
       → report T L bytes ≡ with_basin1 (sheet_listing_before (file_sheet T bytes z))
   file_one_basin one =

@@ -9,8 +9,6 @@ use Rattle.sheet.specs.Refusal.{Lent}
 use Rattle.intake.specs.Intake.{LentSheet, lent_sheet, line_after, end_taken}
 use Rattle.reading.specs.Lines.{FileRead, lines_of, end_after, read_from, read_file}
 use Rattle.reading.proofs.Whole.{read_in_pieces}
-use Rattle.report.specs.declared.Verdict.{Verdict}
-use Rattle.report.specs.declared.Verdict.TheVariants.{Refused, Labelled}
 use Rattle.report.specs.Report.{verdict_of, file_verdict, file_lent, report, report_into}
 use Rattle.report.specs.Conditions.{one_of, line_numbers, end_numbers, sheet_numbers, file_numbers, Ending}
 use Rattle.report.specs.Conditions.{line_refused, end_refused, sheet_refused, labelled}
@@ -20,6 +18,9 @@ use Rattle.report.proofs.Endings.{file_ending, listing_no_refusal}
 use Rattle.report.proofs.Files.{file_refused, file_listed}
 use Rattle.report.proofs.Lengths.{program_report}
 use Rattle.report.proofs.AsBefore.{file_one_basin, file_as_before}
+use Rattle.report.specs.Answer.{Verdict}
+use Rattle.sheet.specs.Answer.{Refused}
+use Rattle.std.specs.Prelude.{Err, Ok}
 
 -- ---- which numbers a refusal can have
 
@@ -27,8 +28,8 @@ abbrev InFile : ℕ → Type 0
 InFile number = one_of file_numbers number ≡ true
 
 abbrev Numbered : Verdict → Type 0
-Numbered (Refused number place) = InFile number
-Numbered (Labelled z) = Unit
+Numbered (Err refusal) = InFile refusal.number
+Numbered (Ok z) = Unit
 
 ending_numbered : {T : LentSheet} {L : Lent} {bytes : List ℕ} {v : Verdict} → Ending T L bytes v → Numbered v
 ending_numbered (line_refused {number} {place} r) =

@@ -7,7 +7,6 @@ use native.Mathlib.Nat.{mul-le-mul_right, zero-add}
 use native.Mathlib.Omega.{arith}
 use lib.Dec.{eqb}
 use lib.ListN.{length, get_or, length-append}
-use Rattle.sheet.specs.declared.Outcome.TheVariants.{Accepted}
 use Rattle.sheet.specs.Sheet.{Sheet, cells, inside, is_outlet}
 use Rattle.sheet.specs.Area.{area}
 use Rattle.sheet.specs.Record.{digits_of, label_at}
@@ -33,8 +32,6 @@ use Rattle.listing.proofs.Answers.{text_into_lem}
 use Rattle.listing.proofs.Lengths.{refusal_most, listing_most_36_digits}
 use Rattle.reading.specs.Lines.{lines_of}
 use Rattle.reading.specs.Feed.{largest_count}
-use Rattle.report.specs.declared.Verdict.{Verdict}
-use Rattle.report.specs.declared.Verdict.TheVariants.{Refused, Labelled}
 use Rattle.report.specs.Report.{file_verdict, report}
 use Rattle.intake.specs.Takes.{Takes, takes_none, takes_line}
 use Rattle.report.specs.Conditions.{one_of, line_numbers, end_numbers, sheet_numbers}
@@ -44,6 +41,9 @@ use Rattle.report.proofs.Numbers.{AllOf, one_of_lem, file_number, file_fits}
 use Rattle.report.proofs.Endings.{file_ending}
 use Rattle.report.proofs.ReportLaws.{label_listed}
 use Rattle.report.proofs.Files.{file_refused, file_listed, file_accepted}
+use Rattle.report.specs.Answer.{Verdict}
+use Rattle.sheet.specs.Answer.{Accepted, Refused}
+use Rattle.std.specs.Prelude.{Err, Ok}
 
 -- ---- lines
 
@@ -127,8 +127,8 @@ small = one_of_lem (λ n. n ≤ 19)
 module _ (T : LentSheet) (L : Lent) (bytes : List ℕ) (few : length bytes < largest_count) where
   -- a refusal's number and place are small, and a labelled sheet has a direction byte lent for each cell
   abbrev Small : Verdict → Type 0
-  Small (Refused number place) = (number ≤ 19) × (place < 2 ^ 64)
-  Small (Labelled z) = z.rows * z.cols ≤ length T.dirs
+  Small (Err refusal) = (refusal.number ≤ 19) × (refusal.place < 2 ^ 64)
+  Small (Ok z) = z.rows * z.cols ≤ length T.dirs
 
   ending_small : {v : Verdict} → Ending T L bytes v → Small v
   ending_small (line_refused {number} {place} r) = (
@@ -163,17 +163,17 @@ module _ (T : LentSheet) (L : Lent) (bytes : List ℕ) (few : length bytes < lar
   refusal_small number place e = verdict_small e
 
   -- of a labelled one
-  pub cells_lent : (z : Sizes) → file_verdict T L bytes ≡ Labelled z → z.rows * z.cols ≤ length T.dirs
+  pub cells_lent : (z : Sizes) → file_verdict T L bytes ≡ Ok z → z.rows * z.cols ≤ length T.dirs
   cells_lent z e = verdict_small e
 
   module _ (most : ℕ) (refusal : 39 ≤ most) (listing : 25 + length T.dirs * 60 ≤ most) where
     verdict_most : (v : Verdict) → file_verdict T L bytes ≡ v → Small v → length (report T L bytes) ≤ most
-    verdict_most (Refused number place) e s =
-        rw (file_refused T L bytes number place e) (omega (
+    verdict_most (Err r) e s =
+        rw (file_refused T L bytes r.number r.place e) (omega (
           arith,
-          refusal_most number place (omega (arith, s.0)) s.1,
+          refusal_most r.number r.place (omega (arith, s.0)) s.1,
         ))
-    verdict_most (Labelled z) e s =
+    verdict_most (Ok z) e s =
         rw (file_listed T L bytes z e)
         (omega (arith, listed_most (file_sheet T bytes z) L (file_accepted T L bytes z e), mul-le-mul_right 60 s))
 

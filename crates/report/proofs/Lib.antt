@@ -1,4 +1,5 @@
 pub mod Cases
+pub mod Unplaced
 pub mod Numbers
 pub mod Endings
 pub mod ReportLaws

@@ -7,10 +7,6 @@ use native.Mathlib.Omega.{arith}
 use borrow.Author.Tests.{eqb-true, le-leb}
 use lib.Dec.{eqb, ltb}
 use lib.ListN.{length}
-use Rattle.sheet.specs.declared.Found.{Found}
-use Rattle.sheet.specs.declared.Found.TheVariants.{At, Nothing}
-use Rattle.sheet.specs.declared.Outcome.{Outcome as LabelOutcome}
-use Rattle.sheet.specs.declared.Outcome.TheVariants.{Accepted as Labelled, Refused as NotLabelled}
 use Rattle.sheet.specs.Sheet.{Grid, Sheet, cells, inside, first}
 use Rattle.sheet.specs.Refusal.{Lent, bad_code, undrained, refused_at}
 use Rattle.sheet.specs.Refusal.{refused_if_none, sizes_fit, depth_fits, least_and_split_fit, slices_fit, weights_fit, outcome_on}
@@ -19,14 +15,11 @@ use Rattle.sheet.proofs.Within.{within_yes}
 use Rattle.sheet.proofs.First.{at_first}
 use Rattle.sheet.proofs.Cells.{cells_most}
 use Rattle.sheet.proofs.Weights.{all_fit}
-use Rattle.names.specs.declared.NamesLine.{NamesLine}
-use Rattle.names.specs.declared.NamesLine.TheVariants.{Columns as Named, Bad as BadNames}
 use Rattle.lines.specs.declared.columns.Columns.{Columns}
-use Rattle.lines.specs.declared.values.ValuesLine.{ValuesLine}
-use Rattle.lines.specs.declared.values.ValuesLine.TheVariants.{Values as Valued, Bad as BadValues}
+use Rattle.lines.specs.declared.values.Values.{Values}
 use Rattle.names.specs.Columns.{weight_columns, cell_columns}
 use Rattle.names.specs.Names.{names_line, size_names_line}
-use Rattle.lines.specs.Values.{values_line}
+use Rattle.lines.specs.Values.{first_value, values_line}
 use Rattle.faults.specs.declared.Sizes.{Sizes}
 use Rattle.faults.specs.declared.Cell.{Cell}
 use Rattle.faults.specs.Faults.{Test, first_failing, sizes_in, cell_in, sizes_tests, sizes_fault, row_tests, row_fault}
@@ -38,8 +31,6 @@ use Rattle.intake.specs.declared.Stage.TheVariants.{WaitingForWeightOrCellNames,
 use Rattle.intake.specs.declared.Stage.TheVariants.{WaitingForCellNames, TakingCells, Ended}
 use Rattle.intake.specs.declared.Intake.{Intake}
 use Rattle.intake.specs.declared.Taken.{Taken}
-use Rattle.intake.specs.declared.TakenOutcome.{TakenOutcome}
-use Rattle.intake.specs.declared.TakenOutcome.TheVariants.{Accepted, Refused}
 use Rattle.intake.specs.Intake.{LentSheet, After, accept, refuse, unless, sizes_written, weight_written, cell_written}
 use Rattle.intake.specs.Intake.{on_size_names, on_sizes, on_cell_names, on_weight_or_cell_names, after_weights, on_weight}
 use Rattle.intake.specs.Intake.{on_cells, state_fault, line_in, line_after, end_in, end_taken}
@@ -49,6 +40,8 @@ use Rattle.labelling.specs.FromIntake.{sheet_of}
 use Rattle.intake.specs.Takes.{Takes, takes_none, takes_line}
 use Rattle.report.specs.Conditions.{one_of, line_numbers, end_numbers, sheet_numbers}
 use Rattle.report.specs.Conditions.{FileEnded}
+use Rattle.sheet.specs.Answer.{Found, Outcome, Accepted, Refused}
+use Rattle.std.specs.Prelude.{Err, None, Option, Some}
 
 -- ---- numbers of a list
 
@@ -124,9 +117,9 @@ NotEnded (TakingCells z c) = Unit
 NotEnded (Ended z) = ⊥
 
 -- an accepted line does not end the intake, and a refused one gets one of its numbers
-abbrev Going : TakenOutcome → Stage → Type 0
+abbrev Going : Outcome → Stage → Type 0
 Going Accepted s = NotEnded s
-Going (Refused number) s = one_of line_numbers number ≡ true
+Going (Err refusal) s = one_of line_numbers refusal.number ≡ true
 
 abbrev Fine : Taken → Type 0
 Fine t = Going t.outcome t.intake.stage
@@ -140,28 +133,28 @@ unless_fine fault s T next h g = go (eqb fault 0) h
     go true e = g
     go false e = e
 
-on_size_names_lem : (n : NamesLine) → Fine (on_size_names n)
+on_size_names_lem : (n : Option Columns) → Fine (on_size_names n)
 unfolding on_size_names
-on_size_names_lem (Named c) = tt
-on_size_names_lem BadNames = refl
+on_size_names_lem (Some c) = tt
+on_size_names_lem None = refl
 
-on_cell_names_lem : (s : Stage) (z : Sizes) (n : NamesLine) → Fine (on_cell_names s z n)
+on_cell_names_lem : (s : Stage) (z : Sizes) (n : Option Columns) → Fine (on_cell_names s z n)
 unfolding on_cell_names
-on_cell_names_lem s z (Named c) = tt
-on_cell_names_lem s z BadNames = refl
+on_cell_names_lem s z (Some c) = tt
+on_cell_names_lem s z None = refl
 
-on_weight_or_cell_names_lem : (z : Sizes) (n cell_names_lem : NamesLine) → Fine (on_weight_or_cell_names z n cell_names_lem)
+on_weight_or_cell_names_lem : (z : Sizes) (n cell_names_lem : Option Columns) → Fine (on_weight_or_cell_names z n cell_names_lem)
 unfolding on_weight_or_cell_names
-on_weight_or_cell_names_lem z (Named c) cell_names_lem = tt
-on_weight_or_cell_names_lem z BadNames cell_names_lem = on_cell_names_lem (WaitingForWeightOrCellNames z) z cell_names_lem
+on_weight_or_cell_names_lem z (Some c) cell_names_lem = tt
+on_weight_or_cell_names_lem z None cell_names_lem = on_cell_names_lem (WaitingForWeightOrCellNames z) z cell_names_lem
 
-on_sizes_lem : (c : Columns) (v : ValuesLine) (T : LentSheet) → Fine (on_sizes c v T).taken
+on_sizes_lem : (c : Columns) (v : Option Values) (T : LentSheet) → Fine (on_sizes c v T).taken
 unfolding on_sizes
-on_sizes_lem c (Valued v) T =
+on_sizes_lem c (Some v) T =
     let z : Sizes = sizes_in c v in
     unless_fine (sizes_fault z (length T.dirs) (length T.weights)) (WaitingForSizes c) T
     (accept (WaitingForWeightOrCellNames z) (sizes_written z T)) (sizes_fault_lem z _ _) tt
-on_sizes_lem c BadValues T = refl
+on_sizes_lem c None T = refl
 
 after_weights_lem : (z : Sizes) (count : ℕ) → NotEnded (after_weights z count)
 unfolding after_weights
@@ -171,21 +164,21 @@ after_weights_lem z count = go (ltb count z.rows)
     go true = tt
     go false = tt
 
-on_weight_lem : (z : Sizes) (row : ℕ) (v : ValuesLine) (T : LentSheet) → Fine (on_weight z row v T).taken
+on_weight_lem : (z : Sizes) (row : ℕ) (v : Option Values) (T : LentSheet) → Fine (on_weight z row v T).taken
 unfolding on_weight
-on_weight_lem z row (Valued v) T =
-    unless_fine (weight_fault v.first) (WaitingForWeight z row) T
-    (accept (after_weights z (row + 1)) (weight_written row v.first T)) (weight_fault_lem v.first)
+on_weight_lem z row (Some v) T =
+    unless_fine (weight_fault (first_value v)) (WaitingForWeight z row) T
+    (accept (after_weights z (row + 1)) (weight_written row (first_value v) T)) (weight_fault_lem (first_value v))
     (after_weights_lem z (row + 1))
-on_weight_lem z row BadValues T = refl
+on_weight_lem z row None T = refl
 
-on_cells_lem : (z : Sizes) (c : Columns) (v : ValuesLine) (T : LentSheet) → Fine (on_cells z c v T).taken
+on_cells_lem : (z : Sizes) (c : Columns) (v : Option Values) (T : LentSheet) → Fine (on_cells z c v T).taken
 unfolding on_cells
-on_cells_lem z c (Valued v) T =
+on_cells_lem z c (Some v) T =
     let x : Cell = cell_in c v in
     unless_fine (cell_fault z x T.dirs) (TakingCells z c) T (accept (TakingCells z c) (cell_written z x T))
     (cell_fault_lem z x T.dirs) tt
-on_cells_lem z c BadValues T = refl
+on_cells_lem z c None T = refl
 
 line_in_fine : (s : Stage) (line : List ℕ) (T : LentSheet) → NotEnded s → Fine (line_in s line T).taken
 unfolding line_in
@@ -206,7 +199,7 @@ line_fine i line T n =
     (line_in i.stage line T) (state_fault_lem i.stage _ _) (line_in_fine i.stage line T n)
 
 pub line_number : (i : Intake) (line : List ℕ) (T : LentSheet) (number : ℕ) → NotEnded i.stage
-    → (line_after i line T).taken.outcome ≡ Refused number → one_of line_numbers number ≡ true
+    → (line_after i line T).taken.outcome ≡ Refused number 0 → one_of line_numbers number ≡ true
 line_number i line T number n e = rw e at (line_fine i line T n)
 
 line_on : (i : Intake) (line : List ℕ) (T : LentSheet) → NotEnded i.stage
@@ -226,9 +219,9 @@ takes_reached (takes_line {i} {j} {T} line e t) r = takes_reached t (by_line r l
 
 -- ---- the end's
 
-abbrev EndFine : TakenOutcome → Type 0
+abbrev EndFine : Outcome → Type 0
 EndFine Accepted = Unit
-EndFine (Refused number) = one_of end_numbers number ≡ true
+EndFine (Err refusal) = one_of end_numbers refusal.number ≡ true
 
 end_in_fine : (s : Stage) → NotEnded s → EndFine (end_in s).outcome
 unfolding end_in
@@ -240,7 +233,7 @@ end_in_fine (WaitingForCellNames z) n = refl
 end_in_fine (TakingCells z c) n = tt
 end_in_fine (Ended z) n = absurd n
 
-pub end_number : (i : Intake) (number : ℕ) → NotEnded i.stage → (end_taken i).outcome ≡ Refused number
+pub end_number : (i : Intake) (number : ℕ) → NotEnded i.stage → (end_taken i).outcome ≡ Refused number 0
     → one_of end_numbers number ≡ true
 unfolding end_taken
 end_number i number n e = rw e at (end_in_fine i.stage n)
@@ -248,45 +241,45 @@ end_number i number n e = rw e at (end_in_fine i.stage n)
 -- ---- labelling's
 
 -- a refusal with one of the sheet's numbers, and a place of at most n
-abbrev SheetFine : ℕ → LabelOutcome → Type 0
-SheetFine n Labelled = Unit
-SheetFine n (NotLabelled number place) = (one_of sheet_numbers number ≡ true) × (place ≤ n)
+abbrev SheetFine : ℕ → Outcome → Type 0
+SheetFine n Accepted = Unit
+SheetFine n (Err refusal) = (one_of sheet_numbers refusal.number ≡ true) × (refusal.place ≤ n)
 
 abbrev Below : ℕ → Found → Type 0
-Below n (At c) = c < n
-Below n Nothing = Unit
+Below n (Some c) = c < n
+Below n None = Unit
 
 first_below : (test : ℕ → Bool) (n : ℕ) → Below n (first test n)
 first_below test n = go (first test n) refl
   where
     go : (f : Found) → first test n ≡ f → Below n f
-    go (At c) e = (at_first test n c e).below
-    go Nothing e = tt
+    go (Some c) e = (at_first test n c e).below
+    go None e = tt
 
-refused_at_lem : (number n : ℕ) (f : Found) (rest : LabelOutcome) → one_of sheet_numbers number ≡ true → Below n f
+refused_at_lem : (number n : ℕ) (f : Found) (rest : Outcome) → one_of sheet_numbers number ≡ true → Below n f
     → SheetFine n rest → SheetFine n (refused_at number f rest)
 unfolding refused_at
-refused_at_lem number n (At c) rest h b s = (h, omega arith)
-refused_at_lem number n Nothing rest h b s = s
+refused_at_lem number n (Some c) rest h b s = (h, omega arith)
+refused_at_lem number n None rest h b s = s
 
-refused_if_none_lem : (number n : ℕ) (f : Found) (rest : LabelOutcome) → one_of sheet_numbers number ≡ true
+refused_if_none_lem : (number n : ℕ) (f : Found) (rest : Outcome) → one_of sheet_numbers number ≡ true
     → SheetFine n rest → SheetFine n (refused_if_none number f rest)
 unfolding refused_if_none
-refused_if_none_lem number n (At c) rest h s = s
-refused_if_none_lem number n Nothing rest h s = (h, omega arith)
+refused_if_none_lem number n (Some c) rest h s = s
+refused_if_none_lem number n None rest h s = (h, omega arith)
 
 outcome_on_fine : (G : Grid) → SheetFine (cells G) (outcome_on G)
 unfolding outcome_on
 outcome_on_fine G =
     refused_at_lem 4 (cells G) (first (bad_code G) (cells G)) _ refl (first_below (bad_code G) (cells G))
     (refused_if_none_lem 5 (cells G) (first (inside G) (cells G)) _ refl
-    (refused_at_lem 6 (cells G) (first (undrained G) (cells G)) Labelled refl (first_below (undrained G) (cells G)) tt))
+    (refused_at_lem 6 (cells G) (first (undrained G) (cells G)) Accepted refl (first_below (undrained G) (cells G)) tt))
 
-sheet_widened : (n m : ℕ) (o : LabelOutcome) → n ≤ m → SheetFine n o → SheetFine m o
-sheet_widened n m Labelled h s = tt
-sheet_widened n m (NotLabelled number place) h s = (s.0, omega (arith, s.1))
+sheet_widened : (n m : ℕ) (o : Outcome) → n ≤ m → SheetFine n o → SheetFine m o
+sheet_widened n m Accepted h s = tt
+sheet_widened n m (Err refusal) h s = (s.0, omega (arith, s.1))
 
-sheet_or : (b : Bool) (x y : LabelOutcome) → SheetFine 65536 x → SheetFine 65536 y → SheetFine 65536 (cond b x y)
+sheet_or : (b : Bool) (x y : Outcome) → SheetFine 65536 x → SheetFine 65536 y → SheetFine 65536 (cond b x y)
 sheet_or true x y hx hy = hx
 sheet_or false x y hx hy = hy
 
@@ -326,12 +319,12 @@ module _ (S : Sheet) (L : Lent) (rows_some : 1 ≤ S.grid.rows) (rows_most : S.g
   unfolding outcome outcome_from3 sheet_fault
   outcome_fine =
       rw (sizes_passed, depth_passed, split_passed, outcome_from_17)
-      (sheet_or (slices_fit S L) (outcome_on S.grid) (NotLabelled 3 0)
+      (sheet_or (slices_fit S L) (outcome_on S.grid) (Refused 3 0)
       (sheet_widened (cells S.grid) 65536 (outcome_on S.grid) (cells_most rows_most cols_most)
       (outcome_on_fine S.grid))
       (refl, omega arith))
 
-  pub sheet_number : (number place : ℕ) → outcome S L ≡ NotLabelled number place
+  pub sheet_number : (number place : ℕ) → outcome S L ≡ Refused number place
       → (one_of sheet_numbers number ≡ true) × (place ≤ 65536)
   sheet_number number place e = rw e at outcome_fine
 
@@ -353,7 +346,7 @@ module _ {T : LentSheet} {bytes : List ℕ} {z : Sizes} (file : FileEnded T byte
 
   -- so none of 1, 2, 19 and 17 refuses its sheet
   pub file_number : (L : Lent) (number place : ℕ)
-      → outcome (sheet_of z file.lines.held) L ≡ NotLabelled number place
+      → outcome (sheet_of z file.lines.held) L ≡ Refused number place
       → (one_of sheet_numbers number ≡ true) × (place ≤ 65536)
   file_number L number place e =
       sheet_number (sheet_of z file.lines.held) L file_fits.rows_some file_fits.rows_most

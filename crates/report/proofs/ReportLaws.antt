@@ -1,5 +1,4 @@
 -- The text of a verdict in a buffer, and what a file's report is.
-use mathlib.Core.Option.{Option, none, some}
 use mathlib.Core.Path.{◌≡◌, refl, sym, ap, ◌∙◌}
 use mathlib.Core.List.{List}
 use Prim.Native.Nat.{ℕ, suc, ◌*◌, ◌≤◌}
@@ -7,8 +6,6 @@ use native.Mathlib.Omega.{arith}
 use borrow.Author.Tests.{leb-true}
 use lib.Dec.{leb}
 use lib.ListN.{length, drop, length-append}
-use Rattle.sheet.specs.declared.Outcome.{Outcome}
-use Rattle.sheet.specs.declared.Outcome.TheVariants.{Accepted, Refused as NotLabelled}
 use Rattle.sheet.specs.Sheet.{Sheet, cells}
 use Rattle.sheet.specs.Record.{label_places, label_at}
 use Rattle.sheet.specs.Basins.{basin_of, basin_area, basin_label, basin_areas, basin_labels, basins_of}
@@ -22,18 +19,17 @@ use Rattle.sheet.proofs.Cells.{inside_lt}
 use Rattle.sheet.proofs.Lists.{length_list}
 use Rattle.sheet.proofs.Slices.{numbers_enough, label_kept, numbers_listed_length}
 use Rattle.labelling.specs.FromIntake.{sheet_of, lent_with, intake_lent}
-use Rattle.listing.specs.declared.Listing.{Listing}
 use Rattle.listing.specs.Listing.{listing_text}
 use Rattle.listing.specs.Writing.{listing_values, Listed, text_into, listing_into, refusal_into}
 use Rattle.listing.proofs.Answers.{listing_into_lem}
 use Rattle.listing.proofs.Lengths.{listing_written}
-use Rattle.reading.specs.declared.Read.{Read}
-use Rattle.reading.specs.declared.Read.TheVariants.{Refused as NotRead, Ended}
-use Rattle.report.specs.declared.Verdict.{Verdict}
-use Rattle.report.specs.declared.Verdict.TheVariants.{Refused, Labelled}
 use Rattle.report.specs.Report.{sheet_verdict, sizes_verdict, verdict_of, read_lent, report_text, verdict_into}
 use Rattle.report.specs.Report.{Reported, report_into}
 use Rattle.report.specs.Demand.{sheet_listing}
+use Rattle.sheet.specs.Answer.{Outcome, Counted, Accepted, Refused}
+use Rattle.reading.specs.Answer.{Read}
+use Rattle.report.specs.Answer.{Verdict}
+use Rattle.std.specs.Prelude.{Err, Ok, None, Option, Some}
 
 -- ---- an accepted sheet can be listed
 
@@ -103,16 +99,16 @@ module _ (S : Sheet) (L : Lent) (accepted : outcome S L ≡ Accepted) where
 
 -- the verdict by what labelling answered
 module _ (z : Sizes) (T : LentSheet) (L : Lent) {o : Outcome} (answered : o ≡ outcome (sheet_of z T) L) where
-  by_answer : sheet_verdict z o ≡ sizes_verdict (some z) T L
+  by_answer : sheet_verdict z o ≡ sizes_verdict (Some z) T L
   unfolding sizes_verdict
   by_answer = ap (sheet_verdict z) answered
 
-  pub labelled_sheet : o ≡ Accepted → Labelled z ≡ sizes_verdict (some z) T L
+  pub labelled_sheet : o ≡ Accepted → Ok z ≡ sizes_verdict (Some z) T L
   unfolding sheet_verdict
   labelled_sheet e = sym (ap (sheet_verdict z) e) ∙ by_answer
 
-  pub refused_sheet : {number place : ℕ} → o ≡ NotLabelled number place
-      → Refused number place ≡ sizes_verdict (some z) T L
+  pub refused_sheet : {number place : ℕ} → o ≡ Refused number place
+      → Refused number place ≡ sizes_verdict (Some z) T L
   unfolding sheet_verdict
   refused_sheet e = sym (ap (sheet_verdict z) e) ∙ by_answer
 
@@ -124,21 +120,21 @@ Told v dirs L buffer =
 sizes_told : (o : Option Sizes) (T : LentSheet) (L : Lent) (buffer : List ℕ)
     → Told (sizes_verdict o T L) T.dirs (lent_with o T L) buffer
 unfolding sizes_verdict sheet_verdict lent_with verdict_into report_text refusal_into
-sizes_told none T L buffer = refl
-sizes_told (some z) T L buffer = go (outcome S L) refl
+sizes_told None T L buffer = refl
+sizes_told (Some z) T L buffer = go (outcome S L) refl
   where
     S : Sheet
     S = sheet_of z T
 
     go : (o : Outcome) → outcome S L ≡ o → Told (sheet_verdict z o) T.dirs (lent_after S L) buffer
     go Accepted e = sheet_into S L e buffer
-    go (NotLabelled number place) e = refl
+    go (Err refusal) e = refl
 
 read_told : (read : Read) (T : LentSheet) (L : Lent) (buffer : List ℕ)
     → Told (verdict_of read T L) T.dirs (read_lent read T L) buffer
 unfolding verdict_of read_lent intake_lent verdict_into report_text refusal_into
-read_told (NotRead number place) T L buffer = refl
-read_told (Ended i) T L buffer = sizes_told (ended_sizes i.stage) T L buffer
+read_told (Err refusal) T L buffer = refl
+read_told (Ok i) T L buffer = sizes_told (ended_sizes i.stage) T L buffer
 
 module _ (read : Read) (T : LentSheet) (buffer : List ℕ) (L : Lent) where
   -- what was written from a verdict and what is lent afterwards is the report
@@ -155,7 +151,7 @@ module _ (read : Read) (T : LentSheet) (buffer : List ℕ) (L : Lent) where
       ∙ read_told read T L buffer in
       λ k. record { answer = (e k).answer; buffer = (e k).buffer; lent = le k }
 
-  pub promises : {v : Verdict} {lent : Lent} {answer : Listing} {after : List ℕ} → v ≡ verdict_of read T L
+  pub promises : {v : Verdict} {lent : Lent} {answer : Counted} {after : List ℕ} → v ≡ verdict_of read T L
       → lent ≡ read_lent read T L
       → record { answer = answer; buffer = after }
       ≡ verdict_into v T.dirs lent.areas lent.labels lent.basins buffer
@@ -167,23 +163,23 @@ module _ (read : Read) (T : LentSheet) (buffer : List ℕ) (L : Lent) where
 
 -- ---- the listing of a labelled file
 
-sizes_listed : (o : Option Sizes) (T : LentSheet) (L : Lent) (z : Sizes) → sizes_verdict o T L ≡ Labelled z
-    → report_text (Labelled z) T.dirs (lent_with o T L) ≡ sheet_listing (sheet_of z T)
+sizes_listed : (o : Option Sizes) (T : LentSheet) (L : Lent) (z : Sizes) → sizes_verdict o T L ≡ Ok z
+    → report_text (Ok z) T.dirs (lent_with o T L) ≡ sheet_listing (sheet_of z T)
 unfolding sizes_verdict sheet_verdict lent_with report_text
-sizes_listed none T L z e = let y : ◌≡◌ {A = ℕ} 0 1 = cc in absurd (omega arith)
-sizes_listed (some x) T L z e = go (outcome S L) refl e
+sizes_listed None T L z e = let y : ◌≡◌ {A = ℕ} 0 1 = cc in absurd (omega arith)
+sizes_listed (Some x) T L z e = go (outcome S L) refl e
   where
     S : Sheet
     S = sheet_of x T
 
-    go : (o : Outcome) → outcome S L ≡ o → sheet_verdict x o ≡ Labelled z
+    go : (o : Outcome) → outcome S L ≡ o → sheet_verdict x o ≡ Ok z
         → listing_text (sheet_of z T).grid (lent_after S L).areas (lent_after S L).labels (lent_after S L).basins
         ≡ sheet_listing (sheet_of z T)
     go Accepted a e = let same : x ≡ z = cc in rw (← same) (sheet_text S L a)
-    go (NotLabelled number place) a e = let y : ◌≡◌ {A = ℕ} 0 1 = cc in absurd (omega arith)
+    go (Err refusal) a e = let y : ◌≡◌ {A = ℕ} 0 1 = cc in absurd (omega arith)
 
-pub read_listed : (read : Read) (T : LentSheet) (L : Lent) (z : Sizes) → verdict_of read T L ≡ Labelled z
-    → report_text (Labelled z) T.dirs (read_lent read T L) ≡ sheet_listing (sheet_of z T)
+pub read_listed : (read : Read) (T : LentSheet) (L : Lent) (z : Sizes) → verdict_of read T L ≡ Ok z
+    → report_text (Ok z) T.dirs (read_lent read T L) ≡ sheet_listing (sheet_of z T)
 unfolding verdict_of read_lent intake_lent
-read_listed (NotRead number place) T L z e = let y : ◌≡◌ {A = ℕ} 0 1 = cc in absurd (omega arith)
-read_listed (Ended i) T L z e = sizes_listed (ended_sizes i.stage) T L z e
+read_listed (Err refusal) T L z e = let y : ◌≡◌ {A = ℕ} 0 1 = cc in absurd (omega arith)
+read_listed (Ok i) T L z e = sizes_listed (ended_sizes i.stage) T L z e

@@ -1,17 +1,15 @@
 -- When a file is refused, by whom and with which number and place, and when its sheet is labelled.
-use Rattle.std.specs.Prelude.{◌≡◌, Bool, true, false, cond, List, [], ◌∷◌, ◌++◌, ℕ, suc, eqb, length}
-use Rattle.sheet.specs.declared.Outcome.TheVariants.{Accepted as Passed, Refused as NotLabelled}
+use Rattle.std.specs.Prelude.{◌≡◌, Bool, true, false, cond, List, [], ◌∷◌, ◌++◌, ℕ, suc, eqb, length, Ok}
 use Rattle.sheet.specs.Refusal.{Lent, outcome}
 use Rattle.faults.specs.declared.Sizes.{Sizes}
 use Rattle.intake.specs.declared.Stage.TheVariants.{Ended}
 use Rattle.intake.specs.declared.Intake.{Intake}
-use Rattle.intake.specs.declared.TakenOutcome.TheVariants.{Refused as NotTaken}
 use Rattle.intake.specs.Intake.{LentSheet, line_after, end_taken, new_intake, accepted}
 use Rattle.intake.specs.Takes.{Takes}
 use Rattle.labelling.specs.FromIntake.{sheet_of}
 use Rattle.reading.specs.Lines.{lines_of}
-use Rattle.report.specs.declared.Verdict.{Verdict}
-use Rattle.report.specs.declared.Verdict.TheVariants.{Refused, Labelled}
+use Rattle.report.specs.Answer.{Verdict}
+use Rattle.sheet.specs.Answer.{Accepted, Refused}
 
 -- ---- the numbers of refusals
 
@@ -45,7 +43,7 @@ pub record LineRefused (T : LentSheet) (bytes : List ℕ) (number place : ℕ) :
   pub held : LentSheet
   pub lines : lines_of bytes ≡ before ++ line ∷ after
   pub takes : Takes new_intake T before intake held
-  pub refused : (line_after intake line held).taken.outcome ≡ NotTaken number
+  pub refused : (line_after intake line held).taken.outcome ≡ Refused number 0
   pub number_is : one_of line_numbers number ≡ true
   pub place_is : place ≡ suc (length before)
 
@@ -58,7 +56,7 @@ pub record LinesTaken (T : LentSheet) (bytes : List ℕ) : Type 0 where
 -- the intake refuses the end; "lines read plus 1"
 pub record EndRefused (T : LentSheet) (bytes : List ℕ) (number place : ℕ) : Type 0 where
   pub lines : LinesTaken T bytes
-  pub refused : (end_taken lines.intake).outcome ≡ NotTaken number
+  pub refused : (end_taken lines.intake).outcome ≡ Refused number 0
   pub number_is : one_of end_numbers number ≡ true
   pub place_is : place ≡ suc (length (lines_of bytes))
 
@@ -71,13 +69,13 @@ pub record FileEnded (T : LentSheet) (bytes : List ℕ) (z : Sizes) : Type 0 whe
 pub record SheetRefused (T : LentSheet) (L : Lent) (bytes : List ℕ) (number place : ℕ) : Type 0 where
   pub sizes : Sizes
   pub file : FileEnded T bytes sizes
-  pub refused : outcome (sheet_of sizes file.lines.held) L ≡ NotLabelled number place
+  pub refused : outcome (sheet_of sizes file.lines.held) L ≡ Refused number place
   pub number_is : one_of sheet_numbers number ≡ true
 
 -- labelling accepts the sheet
 pub record SheetLabelled (T : LentSheet) (L : Lent) (bytes : List ℕ) (z : Sizes) : Type 0 where
   pub file : FileEnded T bytes z
-  pub accepted : outcome (sheet_of z file.lines.held) L ≡ Passed
+  pub accepted : outcome (sheet_of z file.lines.held) L ≡ Accepted
 
 -- A file is refused by the first line that the intake refuses, else by the end, else by labelling; and if none of them
 -- refuses it, its sheet is labelled.
@@ -86,4 +84,4 @@ pub data Ending (T : LentSheet) (L : Lent) (bytes : List ℕ) : Verdict → Type
   end_refused : {number place : ℕ} → EndRefused T bytes number place → Ending T L bytes (Refused number place)
   sheet_refused : {number place : ℕ} → SheetRefused T L bytes number place
       → Ending T L bytes (Refused number place)
-  labelled : {z : Sizes} → SheetLabelled T L bytes z → Ending T L bytes (Labelled z)
+  labelled : {z : Sizes} → SheetLabelled T L bytes z → Ending T L bytes (Ok z)

@@ -1,6 +1,6 @@
 -- The first demand about files: "A grid file, whatever bytes it holds, gets its full listing or exactly one numbered
 -- refusal, by document 01's conditions and order".
-use Rattle.std.specs.Prelude.{◌≡◌, true, List, ℕ, ◌<◌, ◌≤◌, length}
+use Rattle.std.specs.Prelude.{◌≡◌, true, List, ℕ, ◌<◌, ◌≤◌, length, Ok}
 use Rattle.lines.specs.Fields.{line_bytes}
 use Rattle.sheet.specs.Sheet.{Grid, Sheet}
 use Rattle.sheet.specs.Label.{areas_of, labels_of}
@@ -17,9 +17,9 @@ use Rattle.listing.specs.Writing.{text_into, accepted}
 use Rattle.reading.specs.Lines.{read_file}
 use Rattle.reading.specs.Feed.{largest_count}
 use Rattle.reading.specs.Pieces.{joined, read_pieces}
-use Rattle.report.specs.declared.Verdict.TheVariants.{Refused, Labelled}
 use Rattle.report.specs.Report.{file_verdict, file_lent, report, reported_as, report_into}
 use Rattle.report.specs.Conditions.{one_of, file_numbers, Ending}
+use Rattle.sheet.specs.Answer.{Refused}
 
 -- a file that is refused with the number, where this is lent
 pub record RefusedWith (number : ℕ) : Type 0 where
@@ -67,12 +67,12 @@ pub record DemandOne : Type 0 where
       → file_verdict T L bytes ≡ Refused number place → report T L bytes ≡ refusal_text number place
   -- the report of a labelled one is its full listing
   pub listed : (T : LentSheet) (L : Lent) (bytes : List ℕ) (z : Sizes)
-      → file_verdict T L bytes ≡ Labelled z → report T L bytes ≡ sheet_listing (file_sheet T bytes z)
+      → file_verdict T L bytes ≡ Ok z → report T L bytes ≡ sheet_listing (file_sheet T bytes z)
   -- a sheet of one basin lists the same bytes as before, with its first column in front
-  pub one_basin : (T : LentSheet) (L : Lent) (bytes : List ℕ) (z : Sizes) → file_verdict T L bytes ≡ Labelled z
+  pub one_basin : (T : LentSheet) (L : Lent) (bytes : List ℕ) (z : Sizes) → file_verdict T L bytes ≡ Ok z
       → let S = file_sheet T bytes z in basin_count S.grid ≡ 1 → report T L bytes ≡ with_basin1 (sheet_listing_before S)
   -- and those of document 01 where "a sheet of depth 18 or less lists the same bytes"
-  pub as_before : (T : LentSheet) (L : Lent) (bytes : List ℕ) (z : Sizes) → file_verdict T L bytes ≡ Labelled z
+  pub as_before : (T : LentSheet) (L : Lent) (bytes : List ℕ) (z : Sizes) → file_verdict T L bytes ≡ Ok z
       → let S = file_sheet T bytes z in basin_count S.grid ≡ 1
       → z.depth ≤ 18 → report T L bytes ≡ with_basin1 (number_listing S)
   -- no text is both

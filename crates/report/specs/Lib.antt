@@ -1,3 +1,4 @@
+pub mod Answer
 pub mod Report
 pub mod Conditions
 pub mod Demand

@@ -1,21 +1,16 @@
 -- The report of a file: a verdict on it, and the text that tells it. It is what the program pfafstetter prints.
-use Rattle.std.proofs.Math.Option.{Option, none, some}
-use Rattle.std.specs.Prelude.{List, ℕ}
-use Rattle.sheet.specs.declared.Outcome.{Outcome}
-use Rattle.sheet.specs.declared.Outcome.TheVariants.{Accepted, Refused as NotLabelled}
+use Rattle.std.specs.Prelude.{List, ℕ, Err, Ok, None, Option, Some}
 use Rattle.sheet.specs.Sheet.{grid}
 use Rattle.sheet.specs.Refusal.{Lent, outcome}
 use Rattle.faults.specs.declared.Sizes.{Sizes}
 use Rattle.intake.specs.Intake.{LentSheet, ended_sizes}
 use Rattle.labelling.specs.FromIntake.{sheet_of, intake_lent}
-use Rattle.listing.specs.declared.Listing.{Listing}
 use Rattle.listing.specs.Listing.{listing_text, refusal_text}
 use Rattle.listing.specs.Writing.{Listed, text_into, listing_into, refusal_into}
-use Rattle.reading.specs.declared.Read.{Read}
-use Rattle.reading.specs.declared.Read.TheVariants.{Refused as NotRead, Ended}
 use Rattle.reading.specs.Lines.{FileRead, read_file}
-use Rattle.report.specs.declared.Verdict.{Verdict}
-use Rattle.report.specs.declared.Verdict.TheVariants.{Refused, Labelled}
+use Rattle.sheet.specs.Answer.{Outcome, Counted, Accepted, Refused}
+use Rattle.reading.specs.Answer.{Read}
+use Rattle.report.specs.Answer.{Verdict}
 
 -- ---- the verdict
 
@@ -31,16 +26,16 @@ pub record VerdictValues : Type 0 where
   pub split : ℕ
 
 abbrev pub verdict_values : Verdict → VerdictValues
-verdict_values (Refused number place) = record {
-  number = number;
-  place = place;
+verdict_values (Err refusal) = record {
+  number = refusal.number;
+  place = refusal.place;
   rows = 0;
   cols = 0;
   depth = 0;
   least = 0;
   split = 0;
 }
-verdict_values (Labelled z) = record {
+verdict_values (Ok z) = record {
   number = 0;
   place = 0;
   rows = z.rows;
@@ -52,38 +47,38 @@ verdict_values (Labelled z) = record {
 
 -- labelled, or refused with "the place that labelling gave"
 unfoldable pub sheet_verdict : Sizes → Outcome → Verdict
-sheet_verdict z Accepted = Labelled z
-sheet_verdict z (NotLabelled number place) = Refused number place
+sheet_verdict z Accepted = Ok z
+sheet_verdict z (Err refusal) = Err refusal
 
 -- 15 without sizes, which an intake has once it has ended; else by labelling a sheet of these sizes, with the
 -- direction bytes and weights that were lent to the intake
 unfoldable pub sizes_verdict : Option Sizes → LentSheet → Lent → Verdict
 unfolding outcome sheet_verdict
-sizes_verdict none T L = Refused 15 0
-sizes_verdict (some z) T L = sheet_verdict z (outcome (sheet_of z T) L)
+sizes_verdict None T L = Refused 15 0
+sizes_verdict (Some z) T L = sheet_verdict z (outcome (sheet_of z T) L)
 
 -- the verdict on a file that was read, where this is lent to labelling
 unfoldable pub verdict_of : Read → LentSheet → Lent → Verdict
 unfolding sizes_verdict ended_sizes
-verdict_of (NotRead number place) T L = Refused number place
-verdict_of (Ended i) T L = sizes_verdict (ended_sizes i.stage) T L
+verdict_of (Err refusal) T L = Err refusal
+verdict_of (Ok i) T L = sizes_verdict (ended_sizes i.stage) T L
 
 -- what is lent to labelling, afterwards: with the areas, labels and basins of a labelled sheet
 unfoldable pub read_lent : Read → LentSheet → Lent → Lent
-read_lent (NotRead number place) T L = L
-read_lent (Ended i) T L = intake_lent i T L
+read_lent (Err refusal) T L = L
+read_lent (Ok i) T L = intake_lent i T L
 
 -- ---- its text
 
 -- the listing of a labelled sheet, or the two lines after a refusal
 unfoldable pub report_text : Verdict → List ℕ → Lent → List ℕ
-report_text (Refused number place) dirs L = refusal_text number place
-report_text (Labelled z) dirs L = listing_text (grid z.rows z.cols dirs) L.areas L.labels L.basins
+report_text (Err refusal) dirs L = refusal_text refusal.number refusal.place
+report_text (Ok z) dirs L = listing_text (grid z.rows z.cols dirs) L.areas L.labels L.basins
 
 -- the text of any verdict in a lent buffer
 unfoldable pub verdict_into : Verdict → List ℕ → List ℕ → List ℕ → List ℕ → List ℕ → Listed
-verdict_into (Refused number place) dirs areas labels basins buffer = refusal_into number place buffer
-verdict_into (Labelled z) dirs areas labels basins buffer =
+verdict_into (Err refusal) dirs areas labels basins buffer = refusal_into refusal.number refusal.place buffer
+verdict_into (Ok z) dirs areas labels basins buffer =
     listing_into (grid z.rows z.cols dirs) areas labels basins buffer
 
 -- ---- a file
@@ -103,7 +98,7 @@ report T L bytes = report_text (file_verdict T L bytes) (read_file T bytes).lent
 
 -- its answer, the buffer, and what was lent to labelling; a buffer that is too short is refused by 3
 pub record Reported : Type 0 where
-  pub answer : Listing
+  pub answer : Counted
   pub buffer : List ℕ
   pub lent : Lent
 

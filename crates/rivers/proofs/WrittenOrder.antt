@@ -4,7 +4,6 @@ use mathlib.Core.List.{List}
 use Prim.Native.Nat.{ℕ, ◌+◌, ◌≤◌, ◌<◌}
 use native.Mathlib.Omega.{arith}
 use lib.ListN.{length, get_or}
-use Rattle.sheet.specs.declared.Next.{Next}
 use Rattle.sheet.specs.Water.{Passes}
 use Rattle.sheet.specs.River.{river}
 use Rattle.sheet.specs.Record.{Digits, digits_none, digits_cons, record_of, digits_of, label_places}
@@ -21,6 +20,7 @@ use Rattle.rivers.specs.UnitAt.{NetworkOf, Places}
 use Rattle.rivers.specs.LabelOrder.{InLabelOrder}
 use Rattle.rivers.proofs.Relabelled.{labelled_at}
 use Rattle.rivers.proofs.LabelOrder.{river_in_order}
+use Rattle.sheet.specs.Answer.{Next}
 
 -- the same cells and labels, given in another way
 module _ {inside within : ℕ → Type 0} {digits other : ℕ → List ℕ} (to : (c : ℕ) → inside c → within c)

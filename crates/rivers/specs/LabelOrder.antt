@@ -1,9 +1,9 @@
 -- The labels of cells along the order along rivers.
 use Rattle.std.specs.Prelude.{◌≡◌, List, ◌≢◌, ℕ, suc, ◌≤◌, ◌<◌, get_or}
-use Rattle.sheet.specs.declared.Next.{Next}
 use Rattle.sheet.specs.Water.{DrainsTo}
 use Rattle.claims.specs.Demand.{Shares}
 use Rattle.claims.specs.Dictionary.{NotAfter}
+use Rattle.sheet.specs.Answer.{Next}
 
 -- the label of the cell at a position
 abbrev pub position_label : List ℕ → (ℕ → List ℕ) → ℕ → List ℕ

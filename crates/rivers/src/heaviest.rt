@@ -1,55 +1,46 @@
 // The choice of the heaviest mouths of a run, by keys of which the heavier mouth has the larger.
-ghost use Rattle.std.specs.Prelude.{◌+◌, ◌*◌, ◌-◌, ◌≤◌, ◌<◌, max, min, ◌≡◌, false, [], ◌∷◌, length, get_or};
+ghost use Rattle.std.specs.Prelude.{◌+◌, ◌*◌, ◌-◌, ◌≤◌, ◌<◌, max, min, ◌≡◌, false, length, get_or};
 ghost use Rattle.rivers.specs.Layout.{Layout};
 ghost use Rattle.rivers.specs.UnitAt.{UnitAt};
 ghost use Rattle.rivers.specs.Cut.{CutOf};
 
-use crate::keys::{key_at, larger, smaller};
+use crate::keys::key_at;
 
 // Whether no mouth that counts was met, and the four largest keys of those that were, the largest first; where there
 // are fewer, the least key that counts.
 #[derive(Clone, Copy)]
 struct Top {
     finished: bool,
-    a: u64,
-    b: u64,
-    c: u64,
-    d: u64,
+    keys: [u64; 4],
 }
 
 impl Top {
     // One more mouth that counts.
     fn with(self, key: u64) -> Top
         ensures met { result.finished ≡ false }
-        ensures first { result.a ≡ max self.a key }
-        ensures second { result.b ≡ max self.b (min self.a key) }
-        ensures third { result.c ≡ max self.c (min self.b key) }
-        ensures fourth { result.d ≡ max self.d (min self.c key) }
+        ensures first { get_or result.keys 0 0 ≡ max (get_or self.keys 0 0) key }
+        ensures second { get_or result.keys 1 0 ≡ max (get_or self.keys 1 0) (min (get_or self.keys 0 0) key) }
+        ensures third { get_or result.keys 2 0 ≡ max (get_or self.keys 2 0) (min (get_or self.keys 1 0) key) }
+        ensures fourth { get_or result.keys 3 0 ≡ max (get_or self.keys 3 0) (min (get_or self.keys 2 0) key) }
     {
+        let [a, b, c, d] = self.keys;
         Top {
             finished: false,
-            a: larger(self.a, key),
-            b: larger(self.b, smaller(self.a, key)),
-            c: larger(self.c, smaller(self.b, key)),
-            d: larger(self.d, smaller(self.c, key)),
+            keys: [
+                a.max(key),
+                b.max(a.min(key)),
+                c.max(b.min(key)),
+                d.max(c.min(key)),
+            ],
         }
     }
 
     // The key of the lightest of `split` mouths.
     fn nth(self, split: usize) -> u64
         requires { (1 ≤ split) × (split ≤ 4) }
-        ensures { result ≡ get_or (self.a ∷ self.b ∷ self.c ∷ self.d ∷ []) (split - 1) 0 }
+        ensures { result ≡ get_or self.keys (split - 1) 0 }
     {
-        if split == 1 {
-            return self.a;
-        }
-        if split == 2 {
-            return self.b;
-        }
-        if split == 3 {
-            return self.c;
-        }
-        self.d
+        self.keys[split - 1]
     }
 }
 
@@ -89,11 +80,9 @@ pub fn heaviest(span: UnitSpan, rule: Rule, cell: &[u32], size: &[u32], area: &[
     let floor = (rule.least as u64) * 65536;
     let mut top = Top {
         finished: true,
-        a: floor,
-        b: floor,
-        c: floor,
-        d: floor,
+        keys: [floor; 4],
     };
+    // A `while`, since a turn leaps over the subtree of a mouth.
     let mut j = span.lo;
     while j < hi {
         let s = size[j] as usize;
@@ -101,7 +90,7 @@ pub fn heaviest(span: UnitSpan, rule: Rule, cell: &[u32], size: &[u32], area: &[
             j += 1;
         } else {
             let key = key_at(j, cell, area);
-            if key < top.d {
+            if key < top.keys[3] {
                 j += s;
             } else {
                 top = top.with(key);

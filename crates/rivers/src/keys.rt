@@ -1,5 +1,5 @@
 // Keys of cells: the heavier of two cells has the larger key.
-ghost use Rattle.std.specs.Prelude.{◌≡◌, ◌<◌, max, min, length, get_or};
+ghost use Rattle.std.specs.Prelude.{◌≡◌, ◌<◌, length, get_or};
 ghost use Rattle.rivers.specs.Cut.{key_in, key_at};
 
 // The key of a cell.
@@ -18,16 +18,4 @@ pub fn key_at(j: usize, cell: &[u32], area: &[u32]) -> u64
     ensures { result ≡ key_at cell.now area.now j }
 {
     key_of(cell[j] as usize, area)
-}
-
-pub fn larger(a: u64, b: u64) -> u64
-    ensures { result ≡ max a b }
-{
-    if a < b { b } else { a }
-}
-
-pub fn smaller(a: u64, b: u64) -> u64
-    ensures { result ≡ min a b }
-{
-    if a < b { a } else { b }
 }

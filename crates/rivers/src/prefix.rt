@@ -3,10 +3,7 @@ ghost use Rattle.std.specs.Prelude.{◌≡◌, List, [], ◌∷◌, ◌++◌, �
 ghost use Rattle.sheet.specs.Record.{Digits, record_of};
 ghost use Rattle.rivers.specs.Prefix.{Prefix};
 
-use sheet::Label;
-
-// The least number of 18 digits: below it a first number has room for a digit more.
-const LEAST_OF_18_DIGITS: u64 = 100000000000000000;
+use sheet::{LEAST_OF_18_DIGITS, Label};
 
 // The prefix with one digit more: in the first number while that has fewer than 18 digits, then in the second.
 pub fn with_digit(prefix: Label, digit: u64) -> Label

@@ -20,6 +20,7 @@ fn fill(lo: usize, hi: usize, prefix: Label, cell: &[u32], labels: &mut [u64])
     ensures { labels.new
         ≡ cells_labelled (stands cell.now lo (hi - lo)) (λ c. prefix) labels.old }
 {
+    // By position, since the contract of `fill` does not ask that lo is at most hi, as `&cell[lo..hi]` would.
     for j in lo..hi {
         let at = 2 * cell[j] as usize;
         labels[at] = prefix.first;
@@ -63,6 +64,7 @@ fn label_run(
     // The run under way begins at lo and gets digit.
     let mut digit = 1;
     let mut lo = span.lo;
+    // A `while`, since a turn leaps over the subtree of a mouth.
     let mut j = lo;
     while j < hi {
         let s = size[j] as usize;
@@ -123,6 +125,7 @@ fn number_cells(lo: usize, hi: usize, number: u32, cell: &[u32], basins: &mut [u
     ensures { basins.new
         ≡ relabelled (stands cell.now lo (hi - lo)) (λ c. number) basins.old }
 {
+    // By position, since the contract of `number_cells` does not ask that lo is at most hi, as `&cell[lo..hi]` would.
     for i in lo..hi {
         basins[cell[i] as usize] = number;
     }

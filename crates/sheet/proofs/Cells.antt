@@ -9,17 +9,15 @@ use lib.Dec.{ltb, eqb}
 use lib.IntN.{ℤ, pos, negsuc, ◌+ℤ◌}
 use borrow.Author.Tests.{ltb-true, lt-ltb, eq-eqb, ne_eqb}
 use Rattle.sheet.specs.declared.Step.{Step}
-use Rattle.sheet.specs.declared.End.{End}
-use Rattle.sheet.specs.declared.End.TheVariants.{Off, At}
-use Rattle.sheet.specs.declared.Next.{Next}
-use Rattle.sheet.specs.declared.Next.TheVariants.{Outlet, To}
 use Rattle.sheet.specs.Direction.{step_of, below, moved_by, cell_at, step_end}
 use Rattle.sheet.specs.Sheet.{Grid, cells, dir_at, inside, end_of, onto, next, goes_nowhere, is_outlet}
+use Rattle.sheet.specs.Answer.{End, Next}
+use Rattle.std.specs.Prelude.{None, Some, is_some}
 
-pub off_not_at : {n : ℕ} → Off ≡ At n → ⊥
+pub off_not_at : {n : ℕ} → None ≡ Some n → ⊥
 off_not_at {n} e = let z : ◌≡◌ {A = ℕ} 0 1 = cc in omega arith
 
-pub outlet_not_to : {r : ℕ} → Outlet ≡ To r → ⊥
+pub outlet_not_to : {r : ℕ} → None ≡ Some r → ⊥
 outlet_not_to {r} e = let z : ◌≡◌ {A = ℕ} 0 1 = cc in omega arith
 
 -- ---- row and column
@@ -46,16 +44,16 @@ row_end row cols = sym (add-mul row 1 cols ∙ ap (λ (x : ℕ). row * cols + x)
 
 -- ---- the end of a step
 
-below_lt : (count : ℕ) (z : ℤ) (n : ℕ) → below count z ≡ At n → n < count
+below_lt : (count : ℕ) (z : ℤ) (n : ℕ) → below count z ≡ Some n → n < count
 unfolding below
 below_lt count (pos k) n e = go (ltb k count) refl e
   where
-    go : (b : Bool) → ltb k count ≡ b → cond b (At k) Off ≡ At n → n < count
+    go : (b : Bool) → ltb k count ≡ b → cond b (Some k) None ≡ Some n → n < count
     go true t e = let q : k ≡ n = cc in let l : k < count = ltb-true k count t in omega arith
     go false t e = absurd (off_not_at e)
 below_lt count (negsuc k) n e = absurd (off_not_at e)
 
-pub moved_lt : (a : ℕ) (z : ℤ) {count n : ℕ} → moved_by a z count ≡ At n → n < count
+pub moved_lt : (a : ℕ) (z : ℤ) {count n : ℕ} → moved_by a z count ≡ Some n → n < count
 unfolding moved_by
 moved_lt a z {count} {n} e = below_lt count (pos a +ℤ z) n e
 
@@ -63,37 +61,37 @@ moved_lt a z {count} {n} e = below_lt count (pos a +ℤ z) n e
 pub record Landed (cols : ℕ) (to_row to_col : End) (t : ℕ) : Type 0 where
   pub row : ℕ
   pub col : ℕ
-  pub row_is : to_row ≡ At row
-  pub col_is : to_col ≡ At col
+  pub row_is : to_row ≡ Some row
+  pub col_is : to_col ≡ Some col
   pub cell_is : row * cols + col ≡ t
 
 module _ (rows cols row col : ℕ) (s : Step) where
-  pub end_off_row : moved_by row s.row rows ≡ Off → Off ≡ step_end rows cols row col s
+  pub end_off_row : moved_by row s.row rows ≡ None → None ≡ step_end rows cols row col s
   unfolding step_end
   end_off_row e = rw e
 
-  pub end_off_col : {r : ℕ} → moved_by row s.row rows ≡ At r → moved_by col s.col cols ≡ Off
-      → Off ≡ step_end rows cols row col s
+  pub end_off_col : {r : ℕ} → moved_by row s.row rows ≡ Some r → moved_by col s.col cols ≡ None
+      → None ≡ step_end rows cols row col s
   unfolding step_end
   end_off_col e f = rw (e, f)
 
-  pub end_at : {r c : ℕ} → moved_by row s.row rows ≡ At r → moved_by col s.col cols ≡ At c
-      → At (r * cols + c) ≡ step_end rows cols row col s
+  pub end_at : {r c : ℕ} → moved_by row s.row rows ≡ Some r → moved_by col s.col cols ≡ Some c
+      → Some (r * cols + c) ≡ step_end rows cols row col s
   unfolding step_end
   end_at e f = rw (e, f)
 
-  pub end_landed : {t : ℕ} → step_end rows cols row col s ≡ At t
+  pub end_landed : {t : ℕ} → step_end rows cols row col s ≡ Some t
       → Landed cols (moved_by row s.row rows) (moved_by col s.col cols) t
   unfolding step_end
   end_landed {t} e = go (moved_by row s.row rows) (moved_by col s.col cols) refl refl e
     where
-      go : (a b : End) → moved_by row s.row rows ≡ a → moved_by col s.col cols ≡ b → cell_at cols a b ≡ At t
+      go : (a b : End) → moved_by row s.row rows ≡ a → moved_by col s.col cols ≡ b → cell_at cols a b ≡ Some t
           → Landed cols (moved_by row s.row rows) (moved_by col s.col cols) t
-      go Off b ea eb e = absurd (off_not_at e)
-      go (At r) Off ea eb e = absurd (off_not_at e)
-      go (At r) (At c) ea eb e = record { row = r; col = c; row_is = ea; col_is = eb; cell_is = cc }
+      go None b ea eb e = absurd (off_not_at e)
+      go (Some r) None ea eb e = absurd (off_not_at e)
+      go (Some r) (Some c) ea eb e = record { row = r; col = c; row_is = ea; col_is = eb; cell_is = cc }
 
-  pub end_lt : {t : ℕ} → step_end rows cols row col s ≡ At t → t < rows * cols
+  pub end_lt : {t : ℕ} → step_end rows cols row col s ≡ Some t → t < rows * cols
   end_lt {t} e =
       let l = end_landed e in
       subst (λ (x : ℕ). x < rows * cols) l.cell_is (cell_lt (moved_lt _ _ l.row_is) (moved_lt _ _ l.col_is))
@@ -139,58 +137,58 @@ end_of_lem G row col l = rw (cell_row row l, cell_col row l)
 -- the water of u goes to r
 pub record Goes (G : Grid) (u r : ℕ) : Type 0 where
   pub from_inside : inside G u ≡ true
-  pub ends : end_of G u ≡ At r
+  pub ends : end_of G u ≡ Some r
   pub to_inside : inside G r ≡ true
 
 module _ (G : Grid) (u : ℕ) where
-  pub next_outside : inside G u ≡ false → Outlet ≡ next G u
+  pub next_outside : inside G u ≡ false → None ≡ next G u
   unfolding next
   next_outside e = rw e
 
-  pub next_off : inside G u ≡ true → end_of G u ≡ Off → Outlet ≡ next G u
+  pub next_off : inside G u ≡ true → end_of G u ≡ None → None ≡ next G u
   unfolding next
   next_off i e = rw (i, e)
 
-  pub next_out : {r : ℕ} → inside G u ≡ true → end_of G u ≡ At r → inside G r ≡ false → Outlet ≡ next G u
+  pub next_out : {r : ℕ} → inside G u ≡ true → end_of G u ≡ Some r → inside G r ≡ false → None ≡ next G u
   unfolding next
   next_out i e o = rw (i, e, o)
 
-  pub next_to : {r : ℕ} → Goes G u r → To r ≡ next G u
+  pub next_to : {r : ℕ} → Goes G u r → Some r ≡ next G u
   unfolding next
   next_to g = rw (g.from_inside, g.ends, g.to_inside)
 
-  pub next_goes : {r : ℕ} → next G u ≡ To r → Goes G u r
+  pub next_goes : {r : ℕ} → next G u ≡ Some r → Goes G u r
   unfolding next
   next_goes {r} e = from (inside G u) refl e
     where
-      to : (t : ℕ) → inside G u ≡ true → end_of G u ≡ At t → (b : Bool) → inside G t ≡ b → cond b (To t) Outlet ≡ To r
+      to : (t : ℕ) → inside G u ≡ true → end_of G u ≡ Some t → (b : Bool) → inside G t ≡ b → cond b (Some t) None ≡ Some r
           → Goes G u r
       to t i n true j e =
-          let q : t ≡ r = cc in record { from_inside = i; ends = n ∙ ap At q; to_inside = ap (inside G) (sym q) ∙ j }
+          let q : t ≡ r = cc in record { from_inside = i; ends = n ∙ ap Some q; to_inside = ap (inside G) (sym q) ∙ j }
       to t i n false j e = absurd (outlet_not_to e)
 
-      end : inside G u ≡ true → (a : End) → end_of G u ≡ a → onto G a ≡ To r → Goes G u r
-      end i Off n e = absurd (outlet_not_to e)
-      end i (At t) n e = to t i n (inside G t) refl e
+      end : inside G u ≡ true → (a : End) → end_of G u ≡ a → onto G a ≡ Some r → Goes G u r
+      end i None n e = absurd (outlet_not_to e)
+      end i (Some t) n e = to t i n (inside G t) refl e
 
-      from : (b : Bool) → inside G u ≡ b → cond b (onto G (end_of G u)) Outlet ≡ To r → Goes G u r
+      from : (b : Bool) → inside G u ≡ b → cond b (onto G (end_of G u)) None ≡ Some r → Goes G u r
       from true i e = end i (end_of G u) refl e
       from false i e = absurd (outlet_not_to e)
 
   -- both cells lie on the sheet
-  pub next_from_lt : {r : ℕ} → next G u ≡ To r → u < cells G
+  pub next_from_lt : {r : ℕ} → next G u ≡ Some r → u < cells G
   next_from_lt e = inside_lt G u (next_goes e).from_inside
 
-  pub next_to_lt : {r : ℕ} → next G u ≡ To r → r < cells G
+  pub next_to_lt : {r : ℕ} → next G u ≡ Some r → r < cells G
   next_to_lt {r} e = inside_lt G r (next_goes e).to_inside
 
 -- ---- outlets
 
-pub is_outlet_lem : (G : Grid) (c : ℕ) → inside G c ≡ true → next G c ≡ Outlet → is_outlet G c ≡ true
+pub is_outlet_lem : (G : Grid) (c : ℕ) → inside G c ≡ true → next G c ≡ None → is_outlet G c ≡ true
 unfolding is_outlet
 is_outlet_lem G c i e = go (inside G c) (next G c) i e
   where
-    go : (b : Bool) (x : Next) → b ≡ true → x ≡ Outlet → cond b (goes_nowhere x) false ≡ true
+    go : (b : Bool) (x : Next) → b ≡ true → x ≡ None → cond b (goes_nowhere x) false ≡ true
     go b x i e = rw (i, e)
 
 module _ (G : Grid) (c : ℕ) where
@@ -201,10 +199,21 @@ module _ (G : Grid) (c : ℕ) where
       go : (b n : Bool) → b ≡ false → false ≡ cond b n false
       go b n e = rw e
 
-  pub outlet_to : {r : ℕ} → next G c ≡ To r → false ≡ is_outlet G c
+  -- an inside cell is an outlet exactly if its water goes to no cell
+  pub is_none_outlet : inside G c ≡ true → (answer : Bool) → is_some (next G c) ≡ not answer → answer ≡ is_outlet G c
+  unfolding is_outlet
+  is_none_outlet i answer e = go (inside G c) (next G c) answer i e
+    where
+      go : (b : Bool) (x : Next) (a : Bool) → b ≡ true → is_some x ≡ not a → a ≡ cond b (goes_nowhere x) false
+      go b (Some r) true i e = absurd (true≢false e)
+      go b (Some r) false i e = rw i
+      go b None true i e = rw i
+      go b None false i e = absurd (true≢false (sym e))
+
+  pub outlet_to : {r : ℕ} → next G c ≡ Some r → false ≡ is_outlet G c
   unfolding is_outlet
   outlet_to {r} e = go (inside G c) (next G c) e
     where
-      go : (b : Bool) (x : Next) → x ≡ To r → false ≡ cond b (goes_nowhere x) false
+      go : (b : Bool) (x : Next) → x ≡ Some r → false ≡ cond b (goes_nowhere x) false
       go true x e = rw e
       go false x e = refl

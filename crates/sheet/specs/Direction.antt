@@ -1,8 +1,7 @@
 -- Document 01's direction codes, their steps, and the cell that a step ends on.
-use Rattle.std.specs.Prelude.{Bool, cond, List, [], ◌∷◌, ℕ, ◌+◌, ◌*◌, ltb, eqb, ℤ, pos, negsuc, ◌+ℤ◌}
+use Rattle.std.specs.Prelude.{Bool, cond, List, [], ◌∷◌, ℕ, ◌+◌, ◌*◌, ltb, eqb, ℤ, pos, negsuc, ◌+ℤ◌, None, Some}
 use Rattle.sheet.specs.declared.Step.{Step}
-use Rattle.sheet.specs.declared.End.{End}
-use Rattle.sheet.specs.declared.End.TheVariants.{Off, At}
+use Rattle.sheet.specs.Answer.{End}
 
 abbrev pub step : ℕ → ℤ → ℤ → Step
 step code row col = record { code = code; row = row; col = col }
@@ -41,8 +40,8 @@ is_code byte = eqb (step_of byte).code byte
 
 -- the number z, where it is below count
 unfoldable pub below : ℕ → ℤ → End
-below count (pos n) = cond (ltb n count) (At n) Off
-below count (negsuc n) = Off
+below count (pos n) = cond (ltb n count) (Some n) None
+below count (negsuc n) = None
 
 -- a row or a column that a signed step leads to, of count many
 unfoldable pub moved_by : ℕ → ℤ → ℕ → End
@@ -55,9 +54,9 @@ cell_number cols row col = row * cols + col
 
 -- the cell of a row and a column, where both are on the sheet
 unfoldable pub cell_at : ℕ → End → End → End
-cell_at cols Off col = Off
-cell_at cols (At row) Off = Off
-cell_at cols (At row) (At col) = At (cell_number cols row col)
+cell_at cols None col = None
+cell_at cols (Some row) None = None
+cell_at cols (Some row) (Some col) = Some (cell_number cols row col)
 
 -- the cell that a step from a row and a column ends on
 unfoldable pub step_end : ℕ → ℕ → ℕ → ℕ → Step → End

@@ -1,8 +1,6 @@
 -- Document 01's flow question, and document 02's question about flow to a unit's outlet, here called the outlet
 -- question: where two labels part, the digit rule, refusals 2, 19, 11 and 12, and the answers.
-use Rattle.std.specs.Prelude.{Bool, true, false, cond, List, [], ◌∷◌, ℕ, suc, ◌+◌, ◌%◌, eqb, ltb, leb, length, get_or, drop}
-use Rattle.sheet.specs.declared.Found.{Found}
-use Rattle.sheet.specs.declared.Found.TheVariants.{At, Nothing}
+use Rattle.std.specs.Prelude.{Bool, true, false, cond, List, [], ◌∷◌, ℕ, suc, ◌+◌, ◌%◌, eqb, ltb, leb, length, get_or, drop, None, Some}
 use Rattle.sheet.specs.declared.Flow.{Flow}
 use Rattle.sheet.specs.declared.Flow.TheVariants.{Same, Yes, No, Undecided, Refused}
 use Rattle.sheet.specs.declared.OutletFlow.{OutletFlow}
@@ -12,12 +10,13 @@ use Rattle.sheet.specs.declared.Label.{Label}
 use Rattle.sheet.specs.declared.UnitName.{UnitName}
 use Rattle.sheet.specs.Record.{digits_of, is_record, same_label}
 use Rattle.sheet.specs.Refusal.{both, within, depth_fits, least_fits}
+use Rattle.sheet.specs.Answer.{Found}
 
 -- the first place from i on where both have a digit and the digits differ
 unfoldable pub part_from : ℕ → List ℕ → List ℕ → Found
-part_from i [] y = Nothing
-part_from i (a ∷ x) [] = Nothing
-part_from i (a ∷ x) (b ∷ y) = let r = part_from (suc i) x y in cond (eqb a b) r (At i)
+part_from i [] y = None
+part_from i (a ∷ x) [] = None
+part_from i (a ∷ x) (b ∷ y) = let r = part_from (suc i) x y in cond (eqb a b) r (Some i)
 
 -- where two labels "part"; of labels that do not, one begins the other
 unfoldable pub part_at : List ℕ → List ℕ → Found
@@ -50,8 +49,8 @@ is_label depth label = both (is_record label) (are_digits depth (digits_of label
 -- the answer for unequal labels: 12 where they do not part, else by the rule
 unfoldable pub answer_at : List ℕ → List ℕ → Found → OutletFlow
 unfolding rule_at
-answer_at x y Nothing = OutletRefused 12
-answer_at x y (At i) = cond (rule_at i x y) OutletYes OutletNo
+answer_at x y None = OutletRefused 12
+answer_at x y (Some i) = cond (rule_at i x y) OutletYes OutletNo
 
 -- the answer for unequal labels as records
 unfoldable pub answer_unequal : Label → Label → OutletFlow

@@ -1,7 +1,5 @@
 -- Document 01's labels: the digits of a cell; and document 02's records of them.
-use Rattle.std.specs.Prelude.{Bool, true, false, cond, List, [], ◌∷◌, ℕ, zero, suc, eqb}
-use Rattle.sheet.specs.declared.Found.{Found}
-use Rattle.sheet.specs.declared.Found.TheVariants.{At, Nothing}
+use Rattle.std.specs.Prelude.{Bool, true, false, cond, List, [], ◌∷◌, ℕ, zero, suc, eqb, None, Some}
 use Rattle.sheet.specs.declared.Label.{Label}
 use Rattle.sheet.specs.Record.{record_of, no_digits, numbers_of}
 use Rattle.sheet.specs.Sheet.{Grid, Sheet, cells, inside, next}
@@ -9,6 +7,7 @@ use Rattle.sheet.specs.Water.{passes, way_end}
 use Rattle.sheet.specs.Area.{area}
 use Rattle.sheet.specs.River.{Network, network, stem, mouth, Run, river}
 use Rattle.sheet.specs.Unit.{Parts, last, part, parts, finished}
+use Rattle.sheet.specs.Answer.{Found}
 
 -- the water of c passes v
 unfoldable pub passes_in : Network → ℕ → ℕ → Bool
@@ -56,8 +55,8 @@ label N (suc depth) R c =
     cond (finished N R) [] digits
 
 abbrev pub cell_found : Found → ℕ
-cell_found (At c) = c
-cell_found Nothing = 0
+cell_found (Some c) = c
+cell_found None = 0
 
 -- the outlet that an inside cell's water comes to
 unfoldable pub outlet_of : Grid → ℕ → ℕ

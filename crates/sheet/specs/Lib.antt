@@ -1,3 +1,4 @@
+pub mod Answer
 pub mod Direction
 pub mod Sheet
 pub mod Word

@@ -1,16 +1,13 @@
 -- The outcome of labelling: document 01's refusals 1 to 6 in order, with their places, with document 02's 19 straight
 -- after 2 and 17 straight after 3, and what each lent slice holds afterwards. Document 02 ends refusal 7; its number
 -- stays unused.
-use Rattle.std.specs.Prelude.{Bool, true, false, cond, not, List, ◌++◌, ℕ, zero, suc, ◌*◌, leb, eqb, length, drop, replicate, get_or}
-use Rattle.sheet.specs.declared.Found.{Found}
-use Rattle.sheet.specs.declared.Found.TheVariants.{At, Nothing}
-use Rattle.sheet.specs.declared.Outcome.{Outcome}
-use Rattle.sheet.specs.declared.Outcome.TheVariants.{Accepted, Refused}
+use Rattle.std.specs.Prelude.{Bool, true, false, cond, not, List, ◌++◌, ℕ, zero, suc, ◌*◌, leb, eqb, length, drop, replicate, get_or, Err, None, Some}
 use Rattle.sheet.specs.Direction.{is_code}
 use Rattle.sheet.specs.Sheet.{Grid, Sheet, cells, dir_at, inside, next, first}
 use Rattle.sheet.specs.Water.{reaches_outlet}
 use Rattle.sheet.specs.Record.{label_places}
 use Rattle.sheet.specs.Basins.{basin_areas, basin_labels, basins_of}
+use Rattle.sheet.specs.Answer.{Found, Outcome, Accepted, Refused}
 
 -- what is lent to labelling beside the directions and weights: areas (32-bit), labels (64-bit, two numbers each),
 -- basins (32-bit), work places (32-bit)
@@ -82,12 +79,12 @@ undrained G c = both (inside G c) (not (reaches_outlet (next G) (cells G) c))
 
 -- refused where a cell was found, by its number; else what follows
 unfoldable pub refused_at : ℕ → Found → Outcome → Outcome
-refused_at number (At c) rest = Refused number c
-refused_at number Nothing rest = rest
+refused_at number (Some c) rest = Refused number c
+refused_at number None rest = rest
 
 unfoldable pub refused_if_none : ℕ → Found → Outcome → Outcome
-refused_if_none number (At c) rest = rest
-refused_if_none number Nothing rest = Refused number 0
+refused_if_none number (Some c) rest = rest
+refused_if_none number None rest = Refused number 0
 
 -- 4, 5 and 6, in this order: a bad direction, no cell inside, a cell that never reaches an outlet
 unfoldable pub outcome_on : Grid → Outcome
@@ -131,7 +128,7 @@ pub record OutcomeValues : Type 0 where
 
 abbrev pub outcome_values : Outcome → OutcomeValues
 outcome_values Accepted = record { number = 0; place = 0 }
-outcome_values (Refused number place) = record { number = number; place = place }
+outcome_values (Err refusal) = record { number = refusal.number; place = refusal.place }
 
 -- the first places of a slice written with new values; the others keep theirs
 abbrev pub written : List ℕ → List ℕ → List ℕ
@@ -139,7 +136,7 @@ written new old = new ++ drop (length new) old
 
 abbrev pub if_accepted : Outcome → List ℕ → List ℕ → List ℕ
 if_accepted Accepted new old = written new old
-if_accepted (Refused number place) new old = old
+if_accepted (Err refusal) new old = old
 
 -- what the lent slices hold after labelling: areas, labels and basins are written where it is accepted, and the first
 -- 8n work places are 0 once check 3 is passed

@@ -1,9 +1,8 @@
 -- Document 01's rivers: the donors of a cell in order, stem cells, mouths of tributaries, and the river list.
-use Rattle.std.specs.Prelude.{Bool, false, cond, List, [], ◌∷◌, ℕ, zero, suc, eqb, leb}
-use Rattle.sheet.specs.declared.Next.{Next}
-use Rattle.sheet.specs.declared.Next.TheVariants.{Outlet, To}
+use Rattle.std.specs.Prelude.{Bool, false, cond, List, [], ◌∷◌, ℕ, zero, suc, eqb, leb, None, Some}
 use Rattle.sheet.specs.Sheet.{Grid, Sheet, cells, next}
 use Rattle.sheet.specs.Area.{area, heavier_by}
+use Rattle.sheet.specs.Answer.{Next}
 
 -- what rivers, units and labels are worked out from
 pub record Network : Type 0 where
@@ -38,8 +37,8 @@ insert heavier u [] = u ∷ []
 insert heavier u (v ∷ vs) = let r = insert heavier u vs in cond (heavier u v) (v ∷ r) (u ∷ v ∷ vs)
 
 unfoldable pub ends_on : Next → ℕ → Bool
-ends_on Outlet c = false
-ends_on (To r) c = eqb r c
+ends_on None c = false
+ends_on (Some r) c = eqb r c
 
 -- the donors of c among the first n cells, from lightest to heaviest
 unfoldable pub donors_below : (ℕ → Next) → (ℕ → ℕ → Bool) → ℕ → ℕ → List ℕ

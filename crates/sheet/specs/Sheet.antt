@@ -1,12 +1,7 @@
 -- Document 01's sheet: inside cells, where a cell's water goes, outlets.
-use Rattle.std.specs.Prelude.{Bool, true, false, cond, not, List, ℕ, zero, suc, ◌*◌, ◌/◌, ◌%◌, ltb, eqb, get_or}
-use Rattle.sheet.specs.declared.End.{End}
-use Rattle.sheet.specs.declared.End.TheVariants.{Off, At}
-use Rattle.sheet.specs.declared.Next.{Next}
-use Rattle.sheet.specs.declared.Next.TheVariants.{Outlet, To}
-use Rattle.sheet.specs.declared.Found.{Found}
-use Rattle.sheet.specs.declared.Found.TheVariants.{At as FoundAt, Nothing}
+use Rattle.std.specs.Prelude.{Bool, true, false, cond, not, List, ℕ, zero, suc, ◌*◌, ◌/◌, ◌%◌, ltb, eqb, get_or, None, Some}
 use Rattle.sheet.specs.Direction.{step_of, step_end}
+use Rattle.sheet.specs.Answer.{End, Next, Found}
 
 -- the rows, columns and direction bytes of a sheet; more bytes than cells may be lent
 pub record Grid : Type 0 where
@@ -45,17 +40,17 @@ end_of G c = step_end G.rows G.cols (c / G.cols) (c % G.cols) (step_of (dir_at G
 -- water that a step takes off the sheet or onto an outside cell goes nowhere
 unfoldable pub onto : Grid → End → Next
 unfolding inside
-onto G Off = Outlet
-onto G (At t) = cond (inside G t) (To t) Outlet
+onto G None = None
+onto G (Some t) = cond (inside G t) (Some t) None
 
 -- where a cell's water goes; that of an outside cell goes nowhere
 unfoldable pub next : Grid → ℕ → Next
 unfolding inside end_of onto
-next G c = cond (inside G c) (onto G (end_of G c)) Outlet
+next G c = cond (inside G c) (onto G (end_of G c)) None
 
 abbrev pub goes_nowhere : Next → Bool
-goes_nowhere Outlet = true
-goes_nowhere (To r) = false
+goes_nowhere None = true
+goes_nowhere (Some r) = false
 
 -- "outlet": an inside cell whose step leaves the sheet or ends on an outside cell
 unfoldable pub is_outlet : Grid → ℕ → Bool
@@ -64,8 +59,8 @@ is_outlet G c = cond (inside G c) (goes_nowhere (next G c)) false
 
 -- the first of the m cells from i on that passes a test
 unfoldable pub first_from : (ℕ → Bool) → ℕ → ℕ → Found
-first_from test i zero = Nothing
-first_from test i (suc m) = let r = first_from test (suc i) m in cond (test i) (FoundAt i) r
+first_from test i zero = None
+first_from test i (suc m) = let r = first_from test (suc i) m in cond (test i) (Some i) r
 
 -- the first of n cells in "reading order", which is rising cell number, that passes a test
 unfoldable pub first : (ℕ → Bool) → ℕ → Found

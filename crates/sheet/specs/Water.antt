@@ -1,18 +1,17 @@
 -- Document 01's way of a cell's water: what it passes, where it drains to, and the tests that compute the same.
-use Rattle.std.specs.Prelude.{◌≡◌, Bool, true, false, cond, ℕ, zero, suc, eqb}
-use Rattle.sheet.specs.declared.Next.{Next}
-use Rattle.sheet.specs.declared.Next.TheVariants.{Outlet, To}
+use Rattle.std.specs.Prelude.{◌≡◌, Bool, true, false, cond, ℕ, zero, suc, eqb, None, Some}
+use Rattle.sheet.specs.Answer.{Next}
 
 -- "water from q passes p": p is on q's way, which is q and then, as long as the last is no outlet, the cell its step
 -- ends on
 pub data Passes (next : ℕ → Next) : ℕ → ℕ → Type 0 where
   here : {p : ℕ} → Passes next p p
-  there : {q r p : ℕ} → next q ≡ To r → Passes next r p → Passes next q p
+  there : {q r p : ℕ} → next q ≡ Some r → Passes next r p → Passes next q p
 
 -- the way of x comes to c and holds none but cells of S up to there
 pub data Drains (next : ℕ → Next) (S : ℕ → Type 0) : ℕ → ℕ → Type 0 where
   drained : {c : ℕ} → S c → Drains next S c c
-  drains_on : {x r c : ℕ} → S x → next x ≡ To r → Drains next S r c → Drains next S x c
+  drains_on : {x r c : ℕ} → S x → next x ≡ Some r → Drains next S r c → Drains next S x c
 
 -- c is a cell of S to which the cells of S drain, through cells of S
 pub record DrainsTo (next : ℕ → Next) (S : ℕ → Type 0) (c : ℕ) : Type 0 where
@@ -21,8 +20,8 @@ pub record DrainsTo (next : ℕ → Next) (S : ℕ → Type 0) (c : ℕ) : Type 
 
 -- go on with f to the cell that water goes to, if there is one
 unfoldable pub onward : {A : Type 0} → Next → A → (ℕ → A) → A
-onward Outlet a f = a
-onward (To r) a f = f r
+onward None a f = a
+onward (Some r) a f = f r
 
 -- is p among the first n + 1 cells of q's way?
 unfoldable pub passes : (ℕ → Next) → ℕ → ℕ → ℕ → Bool

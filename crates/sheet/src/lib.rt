@@ -1,6 +1,8 @@
-// The definitions of the whole product (specs/) and their laws (proofs/). The types that the definitions share with the
-// code stand here; no code.
+// The definitions of the whole product (specs/) and their laws (proofs/). The types and the bounds that the definitions
+// share with the code stand here.
 #![tactic(auto)]
+
+ghost use Rattle.std.specs.Prelude.{◌≡◌};
 
 // A direction code with its signed step in rows and columns.
 #[derive(Clone, Copy)]
@@ -10,49 +12,45 @@ pub struct Step {
     pub col: i32,
 }
 
-// Where a step ends: off the sheet, or on a cell.
-#[derive(Clone, Copy)]
-pub enum End {
-    Off,
-    At(usize),
-}
-
-// Where a cell's water goes: nowhere on the sheet, or to the cell that its step ends on.
-#[derive(Clone, Copy)]
-pub enum Next {
-    Outlet,
-    To(usize),
-}
-
-// What a search in reading order found.
-#[derive(Clone, Copy)]
-pub enum Found {
-    At(usize),
-    Nothing,
-}
-
 // Document 02's label: its first 18 digits as one decimal number, then the next ones as another, 0 if there are none.
-#[derive(Clone, Copy)]
+#[derive(Clone, Copy, PartialEq, Eq)]
 pub struct Label {
     pub first: u64,
     pub rest: u64,
 }
 
+// The most digits of each of its two numbers.
+pub const NUMBER_DIGITS: usize = 18;
+
+// The least number of so many digits.
+pub const LEAST_OF_18_DIGITS: u64 = 100000000000000000;
+
 // What names a unit of a sheet: the number of its basin and its label.
-#[derive(Clone, Copy)]
+#[derive(Clone, Copy, PartialEq, Eq)]
 pub struct UnitName {
     pub basin: u32,
     pub label: Label,
 }
 
-// The answer of labelling: accepted, or refused with document 01's number and place.
-#[derive(Clone, Copy)]
-pub enum Outcome {
-    Accepted,
-    Refused(u8, usize),
+// Why a call is refused: document 01's number, and the place that goes with it, 0 where it names none. It is a number
+// and no enum of reasons: `report::write_report` and `listing::write_refusal` tell every number that they are handed.
+#[derive(Clone, Copy, Debug, PartialEq, Eq)]
+pub struct Refusal {
+    pub number: u8,
+    pub place: usize,
 }
 
-// The answer to the outlet question, in the order of the answers' numbers; a refusal carries document 01's number.
+impl Refusal {
+    // A refusal that names no place.
+    pub fn numbered(number: u8) -> Refusal
+        ensures { result ≡ record { number = number; place = 0 } }
+    {
+        Refusal { number, place: 0 }
+    }
+}
+
+// The answer to the outlet question, in the order of the answers' numbers; a refusal carries document 01's number. An enum
+// and no Result: an answer has one number, a refusal's too, and `flow::outlet_answer_number` tells it for every byte.
 #[derive(Clone, Copy)]
 pub enum OutletFlow {
     No,
@@ -61,7 +59,8 @@ pub enum OutletFlow {
     Refused(u8),
 }
 
-// The answer to the flow question, in the order of the answers' numbers; a refusal carries document 01's number.
+// The answer to the flow question, in the order of the answers' numbers; a refusal carries document 01's number. An enum
+// and no Result: an answer has one number, a refusal's too, and `flow::answer_number` tells it for every byte.
 #[derive(Clone, Copy)]
 pub enum Flow {
     No,

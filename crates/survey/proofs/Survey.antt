@@ -26,12 +26,12 @@ use Rattle.index.specs.Index.{LentIndex, written_index, index_after}
 use Rattle.index.specs.Steps.{Room}
 use Rattle.index.specs.Meaning.{index_unit, index_outlet, HasUnit, IndexMeaning, IndexedDirectly}
 use Rattle.index.proofs.Meaning.{means, index_filled, indexed_from}
-use Rattle.plan.specs.declared.PlanAnswer.TheVariants.{Accepted}
 use Rattle.plan.specs.Plan.{plan_answer}
 use Rattle.plan.specs.Meaning.{label_in, Stands, ByDigits, GoodPlan, GoodIndex}
 use Rattle.plan.proofs.Meaning.{plan_meaning}
 use Rattle.survey.specs.Survey.{basin_index, WaterPasses, SurveyMeaning, SurveyMeaningWhole}
 use Rattle.survey.proofs.BasinIndex.{BasinPlaces, no_digits_label, basin_places}
+use Rattle.sheet.specs.Answer.{Accepted}
 
 -- units of one basin stand in the order of their labels
 labels_before : (basin : ℕ) (p q : Label)

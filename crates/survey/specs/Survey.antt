@@ -12,9 +12,9 @@ use Rattle.intake.specs.Intake.{LentSheet}
 use Rattle.labelling.specs.Demand.{OfIntake}
 use Rattle.index.specs.Index.{LentIndex}
 use Rattle.index.specs.Meaning.{index_unit, index_outlet, HasUnit, IndexedDirectly, IndexedFrom}
-use Rattle.plan.specs.declared.PlanAnswer.TheVariants.{Accepted}
 use Rattle.plan.specs.Plan.{plan_answer}
 use Rattle.plan.specs.Meaning.{GoodIndex, Stands, GoodPlan}
+use Rattle.sheet.specs.Answer.{Accepted}
 
 -- the labels of a basin's index: those that a lookup without leading digits hands back, of the first `units` places
 -- of the index. In the lent slice they are what `lookup` hands back, two numbers each (sheet/proofs/Slices.antt:

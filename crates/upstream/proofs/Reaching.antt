@@ -5,8 +5,6 @@ use mathlib.Core.List.{List}
 use Prim.Native.Nat.{ℕ, zero, suc, ◌-◌, ◌<◌}
 use native.Mathlib.Decide.{ℕ_discrete}
 use native.Mathlib.Omega.{arith}
-use Rattle.sheet.specs.declared.Next.{Next}
-use Rattle.sheet.specs.declared.Next.TheVariants.{Outlet, To}
 use Rattle.sheet.specs.Sheet.{Grid, cells, inside, next}
 use Rattle.sheet.specs.Water.{reaches_outlet}
 use Rattle.sheet.specs.Refusal.{both}
@@ -20,6 +18,8 @@ use Rattle.upstream.specs.Search.{Upstream, Searched}
 use Rattle.upstream.specs.Growth.{Spread}
 use Rattle.upstream.proofs.Queues.{reached_yes, reached_no, place_on}
 use Rattle.upstream.proofs.Upstream.{way_on, next_before, inside_of}
+use Rattle.sheet.specs.Answer.{Next}
+use Rattle.std.specs.Prelude.{None, Some}
 
 module _ {G : Grid} {work : List ℕ} {queued : ℕ} (u : Upstream G work queued) where
   place_ends : (m i : ℕ) → i < m → i < queued → (k : ℕ) × Ends (next G) k (queued_at work i)
@@ -29,8 +29,8 @@ module _ {G : Grid} {work : List ℕ} {queued : ℕ} (u : Upstream G work queued
       go : (x : Next) → next G (queued_at work i) ≡ x
           → ((j : ℕ) → j < m → j < queued → (k : ℕ) × Ends (next G) k (queued_at work j)) → (k : ℕ) × Ends (next G) k
           (queued_at work i)
-      go Outlet e ih = (1, ends_here e)
-      go (To r) e ih =
+      go None e ih = (1, ends_here e)
+      go (Some r) e ih =
           let b = next_before u i r l e in
           let j = rank_of (cells G) work r - 1 in
           let w = ih j (omega (arith, b.reached, b.earlier)) (place_on u.queue r b.on b.reached) in (
@@ -55,7 +55,7 @@ module _ {G : Grid} {work : List ℕ} {queued : ℕ} (s : Spread G work queued q
       let h = ends_reached w g.to_inside in
       let q = s.upstream.queue in
       let on = next_to_lt G c e in
-      s.donors (rank_of (cells G) work r - 1) (place_on q r on h) c (e ∙ ap To (sym (q.stands r on h).place))
+      s.donors (rank_of (cells G) work r - 1) (place_on q r on h) c (e ∙ ap Some (sym (q.stands r on h).place))
 
   reached_is : (c : ℕ) → c < cells G
       → is_reached (cells G) work c ≡ both (inside G c) (reaches_outlet (next G) (cells G) c)

@@ -5,8 +5,6 @@ use Prim.Native.Nat.{ℕ, ◌+◌, ◌*◌, ◌/◌, ◌%◌, ◌<◌, ◌≤◌
 use native.Mathlib.Decide.{ℕ_discrete}
 use native.Mathlib.Nat.{div-add-mod', mod-lt}
 use native.Mathlib.Omega.{arith}
-use Rattle.sheet.specs.declared.End.TheVariants.{Off, At}
-use Rattle.sheet.specs.declared.Next.TheVariants.{To}
 use Rattle.sheet.specs.Sheet.{Grid, cells, next}
 use Rattle.directions.specs.Sizes.{Sized, OnSheet}
 use Rattle.directions.specs.Steps.{neighbour_against}
@@ -17,6 +15,7 @@ use Rattle.upstream.specs.Search.{Before, Upstream, Coded}
 use Rattle.upstream.specs.Growth.{Grown, Seeded, Ready, DonorsPushed, AllPushed, Spread}
 use Rattle.upstream.proofs.Queues.{end_on, grown_push, push_rank}
 use Rattle.upstream.proofs.Upstream.{inside_of, outlet_lt, to_numbered, upstream_push}
+use Rattle.std.specs.Prelude.{None, Some}
 
 pub grown_none : (n : ℕ) (work : List ℕ) (end : ℕ) → Grown n work end work end
 grown_none n work end = record { more = omega arith; ranks = λ c l h. refl; places = λ i l. refl; kept = refl }
@@ -39,7 +38,7 @@ module _ {G : Grid} {work : List ℕ} {end row col : ℕ} (ready : Ready G work 
   on = cell_lt ready.on.row_on ready.on.col_on
 
   -- what is found against a step goes to the cell
-  pub found_next : {k q : ℕ} → k < 8 → neighbour_against G row col k ≡ At q → next G q ≡ To cell
+  pub found_next : {k q : ℕ} → k < 8 → neighbour_against G row col k ≡ Some q → next G q ≡ Some cell
   found_next l e =
       neighbour_next G row col ready.on.row_on ready.on.col_on
       (inside_of ready.upstream cell on ready.reached) l e
@@ -48,16 +47,16 @@ module _ {G : Grid} {work : List ℕ} {end row col : ℕ} (ready : Ready G work 
     same_step : {j : ℕ} → k ≤ j → j < k + 1 → j ≡ k
     same_step l h = omega arith
 
-    pub donors_off : neighbour_against G row col k ≡ Off → DonorsPushed G work end work end row col k (k + 1)
+    pub donors_off : neighbour_against G row col k ≡ None → DonorsPushed G work end work end row col k (k + 1)
     donors_off e = record {
       upstream = ready.upstream;
       grown = grown_none _ _ _;
       donors = λ j l h q f. absurd (off_not_at (sym e ∙ ap (neighbour_against G row col) (sym (same_step l h)) ∙ f));
     }
 
-    module _ {p : ℕ} (found : neighbour_against G row col k ≡ At p) where
-      same_cell : {j q : ℕ} → k ≤ j → j < k + 1 → neighbour_against G row col j ≡ At q → p ≡ q
-      same_cell {q = q} l h f = let e : At p ≡ At q = sym found ∙ ap (neighbour_against G row col)
+    module _ {p : ℕ} (found : neighbour_against G row col k ≡ Some p) where
+      same_cell : {j q : ℕ} → k ≤ j → j < k + 1 → neighbour_against G row col j ≡ Some q → p ≡ q
+      same_cell {q = q} l h f = let e : Some p ≡ Some q = sym found ∙ ap (neighbour_against G row col)
           (sym (same_step l h)) ∙ f in cc
 
       pub donors_old : 0 < rank_of (cells G) work p → DonorsPushed G work end work end row col k (k + 1)
@@ -186,9 +185,9 @@ module _ {G : Grid} where
     };
     within = omega (arith, s.within, t.grown.more);
     donors = λ m h q e. elim (ℕ_discrete m head) [
-      | yes z ↦ t.donors q (e ∙ ap To (t.grown.places m (omega arith) ∙ ap (queued_at a) z))
+      | yes z ↦ t.donors q (e ∙ ap Some (t.grown.places m (omega arith) ∙ ap (queued_at a) z))
       | no d ↦
-          let r = s.donors m (omega arith) q (e ∙ ap To (t.grown.places m (omega arith))) in
+          let r = s.donors m (omega arith) q (e ∙ ap Some (t.grown.places m (omega arith))) in
           omega (arith, t.grown.ranks q (next_from_lt G q e) r)
     ];
   }

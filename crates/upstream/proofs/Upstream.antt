@@ -6,8 +6,6 @@ use Prim.Native.Nat.{ℕ, ◌+◌, ◌-◌, ◌<◌}
 use native.Mathlib.Decide.{ℕ_discrete}
 use native.Mathlib.Numerals.{add-one}
 use native.Mathlib.Omega.{arith}
-use Rattle.sheet.specs.declared.Next.{Next}
-use Rattle.sheet.specs.declared.Next.TheVariants.{Outlet, To}
 use Rattle.sheet.specs.Sheet.{Grid, cells, inside, is_outlet, goes_nowhere, next}
 use Rattle.sheet.specs.Water.{Passes, here, there}
 use Rattle.sheet.proofs.Cells.{inside_lt, next_goes, next_to_lt}
@@ -15,27 +13,29 @@ use Rattle.upstream.specs.Work.{queued_at, rank_of, receiver_of, numbered, pushe
 use Rattle.upstream.specs.Search.{Before, Upstream}
 use Rattle.upstream.proofs.Queues.{place_on, end_on, grown_push, queue_push, push_place, push_receiver}
 use Rattle.upstream.proofs.Queues.{push_receiver_other}
+use Rattle.sheet.specs.Answer.{Next}
+use Rattle.std.specs.Prelude.{None, Some}
 
 -- ---- receivers as numbers
 
-pub numbered_to : (x : Next) (r : ℕ) → numbered x ≡ r + 1 → x ≡ To r
-numbered_to Outlet r e = absurd (omega arith)
-numbered_to (To s) r e = let z : s ≡ r = omega arith in ap To z
+pub numbered_to : (x : Next) (r : ℕ) → numbered x ≡ r + 1 → x ≡ Some r
+numbered_to None r e = absurd (omega arith)
+numbered_to (Some s) r e = let z : s ≡ r = omega arith in ap Some z
 
-pub to_numbered : {x : Next} {r : ℕ} → x ≡ To r → numbered x ≡ r + 1
+pub to_numbered : {x : Next} {r : ℕ} → x ≡ Some r → numbered x ≡ r + 1
 to_numbered {r = r} e = ap numbered e ∙ sym (add-one r)
 
 -- ---- cells
 
 -- an outlet is inside, and its water goes nowhere
-pub outlet_is : (G : Grid) (c : ℕ) → is_outlet G c ≡ true → (inside G c ≡ true) × (next G c ≡ Outlet)
+pub outlet_is : (G : Grid) (c : ℕ) → is_outlet G c ≡ true → (inside G c ≡ true) × (next G c ≡ None)
 unfolding is_outlet
 outlet_is G c e = go (inside G c) (next G c) refl refl e
   where
     go : (b : Bool) (x : Next) → inside G c ≡ b → next G c ≡ x → cond b (goes_nowhere x) false ≡ true
-        → (inside G c ≡ true) × (next G c ≡ Outlet)
-    go true Outlet i n e = (i, n)
-    go true (To r) i n e = absurd (true≢false (sym e))
+        → (inside G c ≡ true) × (next G c ≡ None)
+    go true None i n e = (i, n)
+    go true (Some r) i n e = absurd (true≢false (sym e))
     go false x i n e = absurd (true≢false (sym e))
 
 pub outlet_lt : (G : Grid) (c : ℕ) → is_outlet G c ≡ true → c < cells G
@@ -55,7 +55,7 @@ way_inside G i (there {q = q} e h) = way_inside G (next_goes G q e).to_inside h
 
 module _ {G : Grid} {work : List ℕ} {queued : ℕ} (u : Upstream G work queued) where
   -- the cell that the water of a queued cell goes to stands before it
-  pub next_before : (i r : ℕ) → i < queued → next G (queued_at work i) ≡ To r → Before (cells G) work i r
+  pub next_before : (i r : ℕ) → i < queued → next G (queued_at work i) ≡ Some r → Before (cells G) work i r
   next_before i r l e = (u.queue.item i l).before r (u.receiver i l ∙ to_numbered e)
 
   module _ (c : ℕ) (on : c < cells G) (reached : 0 < rank_of (cells G) work c) where
@@ -73,7 +73,7 @@ module _ {G : Grid} {work : List ℕ} {queued : ℕ} (u : Upstream G work queued
 
 module _ {G : Grid} {work : List ℕ} {end : ℕ} (u : Upstream G work end) (cell : ℕ) (cell_on : cell < cells G)
     (free : rank_of (cells G) work cell ≡ 0)
-    (is-in : inside G cell ≡ true) (before : (r : ℕ) → next G cell ≡ To r → Before (cells G) work end r) where
+    (is-in : inside G cell ≡ true) (before : (r : ℕ) → next G cell ≡ Some r → Before (cells G) work end r) where
   abbrev receiver : ℕ
   receiver = numbered (next G cell)
 

@@ -1,7 +1,5 @@
 -- What holds between the parts of a search upstream.
-use Rattle.std.specs.Prelude.{◌≡◌, true, List, ℕ, ◌+◌, ◌*◌, ◌<◌, ◌≤◌}
-use Rattle.sheet.specs.declared.End.TheVariants.{At}
-use Rattle.sheet.specs.declared.Next.TheVariants.{To}
+use Rattle.std.specs.Prelude.{◌≡◌, true, List, ℕ, ◌+◌, ◌*◌, ◌<◌, ◌≤◌, Some}
 use Rattle.sheet.specs.Sheet.{Grid, cells, is_outlet, next}
 use Rattle.directions.specs.Sizes.{OnSheet, Sized}
 use Rattle.directions.specs.Steps.{neighbour_against}
@@ -40,18 +38,18 @@ pub record Ready (G : Grid) (work : List ℕ) (end row col : ℕ) : Type 0 where
 pub record DonorsPushed (G : Grid) (work : List ℕ) (end : ℕ) (work' : List ℕ) (end' row col from to : ℕ) : Type 0 where
   pub upstream : Upstream G work' end'
   pub grown : Grown (cells G) work end work' end'
-  pub donors : (k : ℕ) → from ≤ k → k < to → (q : ℕ) → neighbour_against G row col k ≡ At q
+  pub donors : (k : ℕ) → from ≤ k → k < to → (q : ℕ) → neighbour_against G row col k ≡ Some q
       → 0 < rank_of (cells G) work' q
 
 -- all donors of a cell are queued
 pub record AllPushed (G : Grid) (work : List ℕ) (end : ℕ) (work' : List ℕ) (end' cell : ℕ) : Type 0 where
   pub upstream : Upstream G work' end'
   pub grown : Grown (cells G) work end work' end'
-  pub donors : (q : ℕ) → next G q ≡ To cell → 0 < rank_of (cells G) work' q
+  pub donors : (q : ℕ) → next G q ≡ Some cell → 0 < rank_of (cells G) work' q
 
 -- the search has gone through the queue up to `head`
 pub record Spread (G : Grid) (work : List ℕ) (end head : ℕ) : Type 0 where
   pub upstream : Upstream G work end
   pub outlets : OutletsFirst G work
   pub within : outlet_count G ≤ end
-  pub donors : (i : ℕ) → i < head → (q : ℕ) → next G q ≡ To (queued_at work i) → 0 < rank_of (cells G) work q
+  pub donors : (i : ℕ) → i < head → (q : ℕ) → next G q ≡ Some (queued_at work i) → 0 < rank_of (cells G) work q

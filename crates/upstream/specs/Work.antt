@@ -1,8 +1,7 @@
 -- The work places of a sheet of n cells, in parts of n places each.
-use Rattle.std.specs.Prelude.{◌≡◌, Bool, List, ◌++◌, ℕ, zero, suc, ◌+◌, ◌*◌, ◌<◌, ◌≤◌, ltb, get_or, length, set, take, drop}
-use Rattle.sheet.specs.declared.Next.{Next}
-use Rattle.sheet.specs.declared.Next.TheVariants.{Outlet, To}
+use Rattle.std.specs.Prelude.{◌≡◌, Bool, List, ◌++◌, ℕ, zero, suc, ◌+◌, ◌*◌, ◌<◌, ◌≤◌, ltb, get_or, length, set, take, drop, None, Some}
 use Rattle.sheet.specs.Refusal.{written}
+use Rattle.sheet.specs.Answer.{Next}
 
 -- ---- the parts, by their numbers; the places of part k are those from k * n on
 
@@ -62,12 +61,12 @@ KeptFrom m old new = drop m new ≡ drop m old
 
 -- how a receiver is stored
 abbrev pub numbered : Next → ℕ
-numbered Outlet = 0
-numbered (To r) = suc r
+numbered None = 0
+numbered (Some r) = suc r
 
 abbrev pub next_of_number : ℕ → Next
-next_of_number zero = Outlet
-next_of_number (suc r) = To r
+next_of_number zero = None
+next_of_number (suc r) = Some r
 
 -- a cell is queued at the place `end`
 unfoldable pub pushed : ℕ → List ℕ → ℕ → ℕ → ℕ → List ℕ

@@ -10,11 +10,3 @@ pub overflow_mul-result : goal.overflow_mul-result
 overflow_mul-result c =
     let most = rows_cols_most _ _ (sym c.sizes_fit.ensures ∙ c.if-sizes_fit.true) in
     omega (arith, cells_most most.0 most.1)
-
-pub returns-then-sizes_fit : goal.returns-then-sizes_fit
-unfolding has_cells
-returns-then-sizes_fit c = rw (sym c.sizes_fit.ensures ∙ c.if-sizes_fit.true)
-
-pub returns : goal.returns
-unfolding has_cells
-returns c = rw (sym c.sizes_fit.ensures ∙ c.if-sizes_fit.false)

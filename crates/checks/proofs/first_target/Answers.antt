@@ -21,7 +21,7 @@ loop-col-init c = (omega arith, c.rows.invariant.1, λ k h. c.rows.invariant.2 k
 -- the row and the column lie on the sheet
 on : (c : In-loop-col)
     → let a =
-    c.args in OnSheet a.rows a.cols
+    c.args in OnSheet a.grid.rows a.grid.cols
     c.rows.row c.loop-col.col
 on c =
     let p = c.requires.0 in
@@ -39,8 +39,8 @@ overflow_add-found c = omega (arith, on_fits (on (goal.at.overflow_add-found c).
 -- what the call answers
 target_is : (c : After-is_target)
     → let a = c.args in
-    c.is_target.result ≡ is_target (grid a.rows a.cols a.dirs.now) a.reached.now a.target
-    (c.rows.row * a.cols + c.loop-col.col)
+    c.is_target.result ≡ is_target (grid a.grid.rows a.grid.cols a.grid.dirs.now) a.reached.now a.target
+    (c.rows.row * a.grid.cols + c.loop-col.col)
 target_is c = c.is_target.ensures
 
 pub loop-col-preserved : goal.loop-col-preserved
@@ -54,18 +54,18 @@ loop-col-preserved c =
 pub rows-preserved : goal.rows-preserved
 rows-preserved c =
     let a = c.args in
-    let e : c.loop-col.col ≡ a.cols = omega arith in (
+    let e : c.loop-col.col ≡ a.grid.cols = omega arith in (
       omega arith,
       c.loop-col.invariant.1,
       λ k h. c.loop-col.invariant.2 k (omega (
         arith,
-        row_end c.rows.row a.cols,
+        row_end c.rows.row a.grid.cols,
       )),
     )
 
 pub returns-after-rows : goal.returns-after-rows
 returns-after-rows c =
-    let e : c.rows.row ≡ c.args.rows = omega arith in
+    let e : c.rows.row ≡ c.args.grid.rows = omega arith in
     c.rows.invariant.1 ∙ sym (first_none _ _ (rw e at c.rows.invariant.2))
 
 pub returns-then-is_target : goal.returns-then-is_target

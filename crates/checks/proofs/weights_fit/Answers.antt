@@ -1,34 +1,24 @@
--- `weights_fit` meets its contract: before each turn the weights of the rows before it fit.
-use mathlib.Core.Path.{◌≡◌, sym, ◌∙◌}
-use native.Mathlib.Numerals.{add-one}
-use native.Mathlib.Omega.{arith}
-use Rattle.sheet.proofs.Weights.{fit_none, fit_more, fits_not}
+-- `weights_fit` meets its contract: `all` says whether each row's weight fits.
+use Rattle.std.proofs.Common.{rules, ◌≡◌, ◌≤◌, List, ℕ, Bool, true, length, get_or, take, arith}
+use Rattle.std.specs.Prelude.{◌↔◌, EachIndex}
+use Rattle.std.specs.Cmp.{both_ways}
+use Rattle.std.proofs.lemmas.List.{get_or-take, length-take-le}
+use Rattle.sheet.specs.Refusal.{weight_fits, weights_fit}
+use Rattle.sheet.proofs.Weights.{all_fit, fits_at}
 use Rattle.checks.proofs.weights_fit.Goals as goal
 
-pub loop-row-init : goal.loop-row-init
-loop-row-init c = (omega arith, fit_none _)
+-- of the first weights, cut off from the others
+abbrev EachFits : List ℕ → Type 0
+EachFits first = EachIndex first (λ row. weight_fits (get_or first row 0) ≡ true)
 
-pub bounds-weights-row : goal.bounds-weights-row
-bounds-weights-row c = omega arith
-
-pub overflow_cast-weights : goal.overflow_cast-weights
-overflow_cast-weights c = omega (arith, c.type_inv.weights c.loop-row.row)
-
-pub loop-row-preserved : goal.loop-row-preserved
-loop-row-preserved c =
-    let l = c.loop-row in (
-      omega arith,
-      rw (add-one l.row) (fit_more l.row _ l.invariant.1 (sym c.weight_fits.ensures ∙ c.if-weight_fits.true)),
-    )
-
-pub returns-else-weight_fits : goal.returns-else-weight_fits
-returns-else-weight_fits c =
-    let l = c.loop-row in
-    sym (fits_not _ _ l.row c.loop-row-test.true
-    (sym c.weight_fits.ensures ∙ c.if-weight_fits.false))
+of_each : (rows : ℕ) (weights : List ℕ) (answer : Bool) → rows ≤ length weights
+    → answer ≡ true ↔ EachFits (take rows weights) → answer ≡ weights_fit rows weights
+of_each rows weights answer room each =
+    let long : length (take rows weights) ≡ rows = length-take-le rows weights room in
+    both_ways answer (weights_fit rows weights)
+    (λ t. all_fit rows weights (λ row l. grind (arith, each.0 t row, get_or-take rows weights row 0)))
+    (λ t. each.1 (λ row l. grind (arith, fits_at rows weights t row, get_or-take rows weights row 0)))
 
 pub returns : goal.returns
 returns c =
-    let l = c.loop-row in
-    let e : l.row ≡ c.args.rows = omega arith in
-    sym (rw e at l.invariant.1)
+    of_each c.args.rows c.args.weights.now c.all.result c.requires (search rules)

@@ -1,38 +1,20 @@
--- `decimal::blanks_end` meets its contract. The invariant: the blanks from `end` on end where those from `at` on do.
--- The measure: the bytes that are left.
-use mathlib.Core.Path.{refl, ap}
-use native.Mathlib.Omega.{arith}
-use borrow.Author.Tests.{eq-eqb, ne_eqb}
-use lib.ListN.{length}
-use Rattle.decimal.specs.Value.{is_blank}
-use Rattle.decimal.proofs.TakeWhile.{while_at_end, while_at_stop, while_at_next}
+use Rattle.std.proofs.Common.{rules, tests, refl, ap, ◌∙◌, arith, length, not, eqb, ◌+◌, ◌≡◌, drop}
+use Rattle.std.proofs.lemmas.List.{take_rest}
+use Rattle.std.proofs.lemmas.Iterator.{YieldsList-from_slice}
+use Rattle.std.proofs.lemmas.Iterator.Search.{position_from_yields_List}
+use Rattle.decimal.specs.Ascii.{blank}
+use Rattle.decimal.specs.Value.{is_blank, blank_run}
+use Rattle.decimal.proofs.TakeWhile.{while_found, while_at_end}
 use Rattle.decimal.proofs.blanks_end.Goals as goal
 
-pub loop-end-init : goal.loop-end-init
-loop-end-init c = refl
-
-pub returns-then-line-end-ne-BLANK : goal.returns-then-line-end-ne-BLANK
-returns-then-line-end-ne-BLANK c =
-    let l = c.loop-end in
-    let stop = while_at_stop is_blank c.args.line.now l.end c.loop-end-test.true
-    (ne_eqb _ _ c.if-line-end-ne-BLANK.true) in
-    omega (arith, l.invariant, ap length stop)
-
-pub overflow_add-end : goal.overflow_add-end
-overflow_add-end c = omega arith
-
-pub loop-end-smaller : goal.loop-end-smaller
-loop-end-smaller c = omega arith
-
-pub loop-end-preserved : goal.loop-end-preserved
-loop-end-preserved c =
-    let l = c.loop-end in
-    let next = while_at_next is_blank c.args.line.now l.end c.loop-end-test.true
-    (eq-eqb _ _ c.if-line-end-ne-BLANK.false) in
-    omega (arith, l.invariant, ap length next)
+pub returns-in_default : goal.returns-in_default
+returns-in_default c =
+    omega (arith, ap length (while_at_end is_blank c.args.line.now c.args.at (omega (arith, c.in_default.ensures.lookup.0))))
 
 pub returns : goal.returns
 returns c =
-    let l = c.loop-end in
-    let none = while_at_end is_blank c.args.line.now l.end c.loop-end-test.false in
-    omega (arith, l.invariant, ap length none)
+    let found = position_from_yields_List (λ b. not (eqb b blank)) _ _ c.position.result c.position.ensures.ran
+    (YieldsList-from_slice c.in-Some.rest.now c.iter.ensures.rest) (λ x b q k. search (rules, tests)) in
+    let end = c.unwrap_or.ensures ∙ while_found is_blank (λ b. not (eqb b blank)) (λ b. refl) c.in-Some.rest.now found in
+    let rest : c.in-Some.rest.now ≡ drop c.args.at c.args.line.now = c.in-Some.ensures.lookup.0.2 ∙ take_rest c.args.line.now c.args.at in
+    ap (λ n. c.args.at + n) (end ∙ ap (λ s. length (blank_run s)) rest)

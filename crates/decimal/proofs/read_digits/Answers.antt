@@ -1,95 +1,59 @@
--- `decimal::read_digits` meets its contract. The invariant: the reader has gathered the digits up to `end`.
-use Prim.Native.Nat.{◌<◌, ◌-◌, ◌+◌, ◌*◌}
-use mathlib.Core.Path.{◌≡◌, sym, ◌∙◌}
-use mathlib.Core.List.{◌∷◌}
-use mathlib.Core.Bool.{true}
-use native.Mathlib.Omega.{arith}
-use native.Mathlib.Nat.{lt_trans}
-use lib.ListN.{drop, get_or}
-use lib.Dec.{lit<}
+-- `decimal::read_digits` meets its contract. The invariant: the digits before the place write `value`, so the ones from
+-- there on make it the number of all.
+use Rattle.std.proofs.Common.{◌≡◌, ◌<◌, ◌+◌, ◌-◌, ◌*◌, true, drop, get_or, sym, ap, ◌∙◌, arith}
+use Rattle.std.proofs.Common.{drop_of_length-le}
+use Rattle.std.proofs.lemmas.List.{take_rest}
 use Rattle.decimal.specs.Ascii.{digit_zero}
-use Rattle.decimal.specs.Value.{is_digit, digit_run}
-use Rattle.decimal.proofs.TakeWhile.{while_at_end, while_at_stop, while_at_next}
-use Rattle.decimal.proofs.ValueLaws.{gathered_none, gathered_all, gathered_over, gathered_digit}
-use Rattle.decimal.proofs.ValueLaws.{gathered_fits, digit_low, digit_high}
+use Rattle.decimal.specs.Value.{is_digit, digit_run, value_from}
+use Rattle.decimal.proofs.TakeWhile.{while_item}
+use Rattle.decimal.proofs.ValueLaws.{next_digit, next_small, few_fit, digit_low, number_over, number_of}
 use Rattle.decimal.proofs.read_digits.Goals as goal
-use Rattle.decimal.proofs.read_digits.Goals.{Else-left-eq0, Then-is_digit}
+use Rattle.decimal.proofs.read_digits.Goals.{After-digits-digits, In-loop-digit}
 
-pub loop-end-init : goal.loop-end-init
-loop-end-init c = (gathered_none _ _ _, c.requires.0, c.requires.1)
+-- the digits that were found are those at the position
+found : (c : After-digits-digits) → c.digits-digits.result.now ≡ digit_run (drop c.args.at c.args.line.now)
+found c = c.digits-digits.ensures ∙ ap digit_run (take_rest c.args.line.now c.args.at)
 
--- the byte at `end` is a digit
-digit : (c : Then-is_digit)
-    → is_digit
-    (get_or c.args.line.now
-    c.loop-end.end 0) ≡ true
-digit c = sym c.is_digit.ensures ∙ c.if-is_digit.true
-
--- the byte at `end` is a digit
-digit-Else-left-eq0 : (c : Else-left-eq0)
-    → is_digit
-    (get_or c.args.line.now
-    c.loop-end.end 0) ≡ true
-digit-Else-left-eq0 c = sym c.is_digit.ensures ∙ c.if-is_digit.true
-
--- the digits to come begin with it
-to-come : (c : Then-is_digit)
-    → digit_run
-    (drop c.loop-end.end
-    c.args.line.now)
-    ≡ get_or c.args.line.now
-    c.loop-end.end 0 ∷ digit_run (drop (c.loop-end.end + 1) c.args.line.now)
-to-come c = while_at_next is_digit _ _ c.loop-end-test.true (digit c)
-
--- the digits to come begin with it
-to-come-Else-left-eq0 : (c : Else-left-eq0)
-    → digit_run
-    (drop c.loop-end.end
-    c.args.line.now)
-    ≡ get_or c.args.line.now
-    c.loop-end.end 0 ∷ digit_run (drop (c.loop-end.end + 1) c.args.line.now)
-to-come-Else-left-eq0 c = while_at_next is_digit _ _ c.loop-end-test.true (digit-Else-left-eq0 c)
-
-pub returns-then-left-eq0 : goal.returns-then-left-eq0
-returns-then-left-eq0 c =
-    gathered_over c.loop-end.invariant.0 (to-come (goal.at.returns-then-left-eq0 c).Then-is_digit) c.if-left-eq0.true
+-- each of them is a digit
+digit : (c : In-loop-digit) → is_digit (get_or c.digits-digits.result.now c.loop-digit.digit-index 0) ≡ true
+digit c =
+    let run = c.digits-digits.ensures in
+    rw run (while_item is_digit _ c.loop-digit.digit-index (rw run at c.loop-digit-test.true))
 
 -- with the digit the number stays below 10 ^ 9
-fits : (c : Else-left-eq0)
-    → c.loop-end.value * 10 +
-    (get_or c.args.line.now
-    c.loop-end.end 0 - digit_zero) < 1000000000
+fits : (c : In-loop-digit)
+    → c.loop-digit.value * 10 + (get_or c.digits-digits.result.now c.loop-digit.digit-index 0 - digit_zero)
+    < 1000000000
 fits c =
-    let l = c.loop-end in
-    gathered_fits l.invariant.0 (to-come-Else-left-eq0 c) (digit-Else-left-eq0 c) c.if-left-eq0.false l.invariant.2
+    few_fit _ (c.loop-digit.digit-index + 1)
+    (next_small c.digits-digits.result.now c.loop-digit.digit-index c.loop-digit.value c.loop-digit.invariant.1 (digit c))
+    (omega (arith, c.loop-digit-test.true, c.if-most-digits.false, c.requires.1))
+
+pub returns-then-most-digits : goal.returns-then-most-digits
+returns-then-most-digits c =
+    let all = found (goal.at.returns-then-most-digits c).After-digits-digits in
+    sym (number_over c.args.most c.args.line.now c.args.at (rw all at c.if-most-digits.true))
 
 pub overflow_mul-value : goal.overflow_mul-value
 overflow_mul-value c = omega (arith, fits c)
 
 pub overflow_sub-value : goal.overflow_sub-value
-overflow_sub-value c = digit_low _ (digit (goal.at.overflow_sub-value c).Then-is_digit)
-
-pub overflow_cast-value : goal.overflow_cast-value
-overflow_cast-value c = omega (arith, digit_high _ (digit (goal.at.overflow_cast-value c).Then-is_digit))
+overflow_sub-value c = digit_low _ (digit (goal.at.overflow_sub-value c).In-loop-digit)
 
 pub overflow_add-value : goal.overflow_add-value
-overflow_add-value c = record { fits = lt_trans (fits c) (lit< tt) }
+overflow_add-value c = omega (arith, fits (goal.at.overflow_add-value c).In-loop-digit)
 
-pub loop-end-smaller : goal.loop-end-smaller
-loop-end-smaller c = omega arith
-
-pub loop-end-preserved : goal.loop-end-preserved
-loop-end-preserved c =
-    let l = c.loop-end in (
-      gathered_digit l.invariant.0 (to-come (goal.at.loop-end-preserved c).Then-is_digit) (digit (goal.at.loop-end-preserved c).Then-is_digit) c.if-left-eq0.false l.invariant.2,
-      omega arith,
-      omega arith,
-    )
-
-pub returns-else-is_digit : goal.returns-else-is_digit
-returns-else-is_digit c =
-    gathered_all c.loop-end.invariant.0
-    (while_at_stop is_digit _ _ c.loop-end-test.true (sym c.is_digit.ensures ∙ c.if-is_digit.false))
+pub loop-digit-preserved : goal.loop-digit-preserved
+loop-digit-preserved c =
+    let d = digit (goal.at.loop-digit-preserved c).In-loop-digit in
+    (next_digit _ _ _ c.loop-digit.invariant.0 c.loop-digit-test.true, next_small _ _ _ c.loop-digit.invariant.1 d)
 
 pub returns : goal.returns
-returns c = gathered_all c.loop-end.invariant.0 (while_at_end is_digit _ _ c.loop-end-test.false)
+unfolding value_from
+returns c =
+    let all = found (goal.at.returns c).After-digits-digits in
+    let digits = c.digits-digits.result.now in
+    let number : c.loop-digit.value ≡ value_from 0 digits =
+    sym (ap (value_from c.loop-digit.value) (drop_of_length-le digits c.loop-digit-test.false))
+    ∙ c.loop-digit.invariant.0 in
+    rw (number, all) (sym (number_of c.args.most c.args.line.now c.args.at (rw all at c.if-most-digits.false)))

@@ -1,13 +1,7 @@
-use Prim.Native.Nat.{◌≤◌, ◌-◌}
-use lib.ListN.{length, drop}
-use Rattle.decimal.specs.Value.{digit_run, most_digits}
-use Rattle.decimal.proofs.ValueLaws.{Gathered}
+use Rattle.std.proofs.Common.{◌≡◌, ◌^◌, ◌<◌, drop}
+use Rattle.decimal.specs.Value.{value_from}
 use Rattle.decimal.proofs.read_digits.Given as goal
 
-abbrev pub invariant-loop-end : goal.invariant-loop-end
-invariant-loop-end l =
-    Gathered (digit_run (drop l.at l.line)) (digit_run (drop l.end l.line)) l.at l.most l.end l.left l.value × (l.end ≤ length l.line) ×
-    (l.left ≤ most_digits)
-
-abbrev pub decreases-loop-end : goal.decreases-loop-end
-decreases-loop-end l = length l.line - l.end
+abbrev pub invariant-loop-digit : goal.invariant-loop-digit
+invariant-loop-digit l =
+    (value_from l.value (drop l.digit-index l.digits) ≡ value_from 0 l.digits) × (l.value < 10 ^ l.digit-index)

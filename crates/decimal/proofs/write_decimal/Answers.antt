@@ -4,7 +4,7 @@ use Prim.Native.Nat.{ℕ, ◌+◌}
 use mathlib.Core.Path.{refl, ap, ◌∙◌}
 use native.Mathlib.Omega.{arith}
 use lib.ListN.{length-set}
-use Rattle.decimal.specs.Text.{WrittenValues, written_values, Writing}
+use Rattle.decimal.specs.Text.{decimal_text, WrittenValues, written_values, Writing}
 use Rattle.decimal.proofs.TextLaws.{text_longer, text_some, write_last_digit, write_first_digit, written}
 use Rattle.decimal.proofs.TextLaws.{not_written}
 use Rattle.decimal.proofs.write_decimal.Goals as goal
@@ -13,11 +13,13 @@ use Rattle.decimal.proofs.write_decimal.Goals as goal
 abbrev values : Writing → WrittenValues
 values w = written_values w.answer
 
-pub returns-then-out-at : goal.returns-then-out-at
-returns-then-out-at c = let e = (not_written _ _ _ (omega arith)) in record { written = e; values = ap values e }
+pub returns-in_err-room : goal.returns-in_err-room
+returns-in_err-room c =
+    rw c.from_residual.ensures
+    (let e = (not_written c.args.out.now c.args.at (decimal_text c.args.n) (omega (arith, c.in_err-room.ensures))) in record { written = e; values = ap values e })
 
-pub returns-then-out-at-2 : goal.returns-then-out-at-2
-returns-then-out-at-2 c = let e = (not_written _ _ _ (omega arith)) in record { written = e; values = ap values e }
+pub returns-then-room-count : goal.returns-then-room-count
+returns-then-room-count c = let e = (not_written _ _ _ (omega arith)) in record { written = e; values = ap values e }
 
 pub overflow_add-end : goal.overflow_add-end
 overflow_add-end c = omega arith

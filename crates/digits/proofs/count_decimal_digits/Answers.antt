@@ -4,14 +4,8 @@ use Rattle.sheet.proofs.Digits.{digits_at_most_20}
 use Rattle.digits.proofs.LastDigit.{digits_none, digits_longer}
 use Rattle.digits.proofs.count_decimal_digits.Goals as goal
 
-pub loop-m-init : goal.loop-m-init
-loop-m-init c = (omega arith, omega arith)
-
 pub overflow_add-count : goal.overflow_add-count
 overflow_add-count c = omega (arith, digits_at_most_20 c.args.number)
-
-pub loop-m-smaller : goal.loop-m-smaller
-loop-m-smaller c = omega arith
 
 pub loop-m-preserved : goal.loop-m-preserved
 loop-m-preserved c = (omega (arith, digits_longer c.loop-m.m (omega arith) (omega arith)), omega arith)

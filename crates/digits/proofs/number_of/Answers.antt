@@ -1,42 +1,26 @@
 -- `number_of` meets its contract: the number gathered, and the digits from here on, give the whole number.
-use native.Mathlib.Omega.{arith}
-use mathlib.Core.Path.{refl, sym, ◌∙◌}
+use Rattle.std.proofs.Common.{arith, refl, sym, ◌∙◌}
 use Rattle.sheet.specs.Record.{number}
 use Rattle.digits.proofs.Places.{number_turn, number_end, number_room}
 use Rattle.digits.proofs.number_of.Goals as goal
 
-pub loop-i-init : goal.loop-i-init
+pub loop-digit-init : goal.loop-digit-init
 unfolding number
-loop-i-init c = refl
+loop-digit-init c = refl
 
-pub overflow_mul-m : goal.overflow_mul-m
-overflow_mul-m c =
-    let l = c.loop-i in
-    omega (
-      arith,
-      number_room l.m c.args.digits.now l.i c.loop-i-test.true,
-      l.invariant,
-      c.requires,
-    )
+pub overflow_mul-number : goal.overflow_mul-number
+overflow_mul-number c =
+    let l = c.loop-digit in
+    omega (arith, number_room l.number c.args.digits.now l.digit-index c.loop-digit-test.true, l.invariant, c.requires)
 
-pub overflow_cast-m : goal.overflow_cast-m
-overflow_cast-m c = omega (arith, c.type_inv.digits c.loop-i.i)
+pub overflow_add-number : goal.overflow_add-number
+overflow_add-number c =
+    let l = c.loop-digit in
+    omega (arith, number_room l.number c.args.digits.now l.digit-index c.loop-digit-test.true, l.invariant, c.from.ensures, c.requires)
 
-pub overflow_add-m : goal.overflow_add-m
-overflow_add-m c =
-    let l = c.loop-i in
-    omega (
-      arith,
-      number_room l.m c.args.digits.now l.i c.loop-i-test.true,
-      l.invariant,
-      c.requires,
-    )
-
-pub loop-i-smaller : goal.loop-i-smaller
-loop-i-smaller c = omega arith
-
-pub loop-i-preserved : goal.loop-i-preserved
-loop-i-preserved c = number_turn _ _ _ c.loop-i-test.true ∙ c.loop-i.invariant
+pub loop-digit-preserved : goal.loop-digit-preserved
+loop-digit-preserved c =
+    rw c.from.ensures (number_turn c.loop-digit.number _ _ c.loop-digit-test.true ∙ c.loop-digit.invariant)
 
 pub returns : goal.returns
-returns c = sym (number_end _ _ _ c.loop-i-test.false) ∙ c.loop-i.invariant
+returns c = sym (number_end _ _ _ c.loop-digit-test.false) ∙ c.loop-digit.invariant

@@ -7,10 +7,10 @@ use borrow.Rule.Slice.PartMut.{put_mid}
 use borrow.Author.Tests.{le-leb, lt-leb}
 use Rattle.sheet.specs.Record.{decimal_digits, digits_of}
 use Rattle.sheet.proofs.Digits.{digits_at_most_20}
-use Rattle.digits.specs.declared.DigitsAnswer.TheVariants.{Written}
 use Rattle.digits.specs.Digits.{digits_answer, digits_values, digits_places}
 use Rattle.digits.proofs.Numbers.{digits_counted}
 use Rattle.digits.proofs.Written.{written_join}
+use Rattle.std.specs.Prelude.{Ok}
 use Rattle.digits.proofs.write_digits.Goals as goal
 
 pub overflow_add-count : goal.overflow_add-count
@@ -28,58 +28,35 @@ pub returns-then-out-count : goal.returns-then-out-count
 unfolding digits_answer digits_places
 returns-then-out-count c =
     let a = c.args in
-    let fits = sym c.depth_fits.ensures
-    ∙ c.if-depth_fits.true in
-    let label = sym c.is_label.ensures ∙ c.if-is_label.true in
+    let fits = sym c.depth_fits.ensures ∙ c.if-not-depth_fits.false in
+    let label = sym c.is_label.ensures ∙ c.if-not-is_label.false in
     let short = lt-leb (length (digits_of a.label)) (length a.out.now) (omega (
       arith,
       digits_counted a.label,
       c.count_decimal_digits-rest.ensures,
       c.count_decimal_digits-first.ensures,
     )) in record {
-      answer = simp (fits, label, short);
-      values = simp (fits, label, short);
+      answer = simp (c.numbered-then-out-count.ensures, fits, label, short);
+      values = simp (c.numbered-then-out-count.ensures, fits, label, short);
       places = simp (fits, label, short);
     }
 
-pub returns-then-is_label : goal.returns-then-is_label
+pub returns : goal.returns
 unfolding digits_answer digits_places digits_of
-returns-then-is_label c =
+returns c =
     let put = c.put_digits in
     let a = c.args in
     let first = c.count_decimal_digits-first in
     let rest = c.count_decimal_digits-rest in
-    let fits = sym c.depth_fits.ensures
-    ∙ c.if-depth_fits.true in
-    let label = sym c.is_label.ensures ∙ c.if-is_label.true in
+    let fits = sym c.depth_fits.ensures ∙ c.if-not-depth_fits.false in
+    let label = sym c.is_label.ensures ∙ c.if-not-is_label.false in
     let count : first.result + rest.result ≡ length (digits_of a.label) =
     omega (arith, digits_counted a.label, first.ensures, rest.ensures) in
     let room = le-leb (length (digits_of a.label)) (length a.out.now) (omega arith) in
-    let places = ap (put_mid first.result (length put.new.out - first.result) put.new.out)
-    c.put_digits-then-is_label.ensures
+    let places = ap (put_mid first.result (length put.new.out - first.result) put.new.out) c.put_digits-2.ensures
     ∙ written_join (decimal_digits a.label.first) (decimal_digits a.label.rest) a.out.now
-    put.new.out first.result first.ensures (omega (arith, first.ensures, rest.ensures))
-    put.ensures in record {
-      answer = ap Written count ∙ simp (fits, label, room);
-      values = ap (λ n. digits_values (Written n)) count ∙ simp (fits, label, room);
-      places = simp (fits, label, room) places;
-    }
-
-pub returns-then-depth_fits : goal.returns-then-depth_fits
-unfolding digits_answer digits_places
-returns-then-depth_fits c =
-    let fits = sym c.depth_fits.ensures ∙ c.if-depth_fits.true in
-    let no_label = sym c.is_label.ensures ∙ c.if-is_label.false in record {
-      answer = simp (fits, no_label);
-      values = simp (fits, no_label);
-      places = simp (fits, no_label);
-    }
-
-pub returns : goal.returns
-unfolding digits_answer digits_places
-returns c =
-    let unfit = sym c.depth_fits.ensures ∙ c.if-depth_fits.false in record {
-      answer = simp unfit;
-      values = simp unfit;
-      places = simp unfit;
+    put.new.out first.result first.ensures (omega (arith, first.ensures, rest.ensures)) put.ensures in record {
+      answer = ap Ok count ∙ simp (fits, label, room);
+      values = ap (λ n. digits_values (Ok n)) count ∙ simp (fits, label, room);
+      places = places ∙ simp (fits, label, room);
     }

@@ -12,11 +12,6 @@ use Rattle.dues.proofs.BasinParts.{basin_within, holds_basin}
 use Rattle.dues.proofs.basin_part.Goals as goal
 use Rattle.dues.proofs.basin_part.Goals.{After-size_at-size}
 
-pub basin_start-start-requires : goal.basin_start-start-requires
-basin_start-start-requires c =
-    let a = c.args in
-    rw (part_is (ordered_sizes_part * a.n) a.queued) c.requires.sizes
-
 -- the sizes, and what they tell
 abbrev sizes : After-size_at-size → List ℕ
 sizes c = let a = c.args in sizes_in a.n a.work.now a.queued

@@ -1,5 +1,5 @@
 -- `pairs_code` meets its contract.
 use Rattle.exports.proofs.pairs_code.Goals as goal
 
-pub returns-in-Pairs : goal.returns-in-Pairs
-returns-in-Pairs c = rw c.in-Pairs.is
+pub returns-in-Ok : goal.returns-in-Ok
+returns-in-Ok c = rw c.in-Ok.is

@@ -1,29 +1,19 @@
--- `part_at` meets its contract: from here on the labels part where the whole ones do.
-use native.Mathlib.Omega.{arith}
-use mathlib.Core.Path.{refl, sym, ◌∙◌}
+-- `part_at` meets its contract: the first pair of digits that differ stands where the labels part.
+use Rattle.std.proofs.Common.{rules, tests, ◌∙◌}
+use Rattle.std.proofs.lemmas.Iterator.{YieldsList-from_slice, YieldsList-from_zip}
+use Rattle.std.proofs.lemmas.Iterator.Adapters.{position_from-zero}
+use Rattle.std.proofs.lemmas.Iterator.Search.{position_from_yields_List}
+use Rattle.std.specs.List.{zip}
 use Rattle.sheet.specs.Flow.{part_at}
-use Rattle.flow.proofs.Places.{part_end, part_short, part_same, part_here}
+use Rattle.flow.proofs.Places.{differ, part_zipped}
 use Rattle.flow.proofs.part_at.Goals as goal
 
-pub loop-i-init : goal.loop-i-init
-unfolding part_at
-loop-i-init c = refl
-
-pub returns-then-q-i : goal.returns-then-q-i
-returns-then-q-i c = sym (part_short _ _ _ c.loop-i-test.true c.if-q-i.true) ∙ c.loop-i.invariant
-
-pub returns-then-p-i : goal.returns-then-p-i
-returns-then-p-i c =
-    sym (part_here _ _ _ c.loop-i-test.true c.if-q-i.false
-    c.if-p-i.true) ∙ c.loop-i.invariant
-
-pub loop-i-smaller : goal.loop-i-smaller
-loop-i-smaller c = omega arith
-
-pub loop-i-preserved : goal.loop-i-preserved
-loop-i-preserved c =
-    part_same _ _ _ c.loop-i-test.true c.if-q-i.false
-    c.if-p-i.false ∙ c.loop-i.invariant
-
 pub returns : goal.returns
-returns c = sym (part_end _ _ _ c.loop-i-test.false) ∙ c.loop-i.invariant
+unfolding part_at
+returns c =
+    let p = c.args.p.now in
+    let q = c.args.q.now in
+    position_from_yields_List differ c.position.new.self _ c.position.result c.position.ensures.ran
+    (YieldsList-from_zip {s = c.zip.result} (YieldsList-from_slice p cc) (YieldsList-from_slice q cc)) (λ x b u k. search (rules, tests))
+    ∙ position_from-zero differ (zip p q)
+    ∙ part_zipped 0 p q

@@ -4,80 +4,75 @@ use Prim.Native.Nat.{◌*◌, ◌≤◌}
 use native.Mathlib.Omega.{arith}
 use lib.ListN.{length}
 use lib.Seq.{length-take-le}
-use Rattle.sheet.specs.declared.Outcome.TheVariants.{Accepted}
 use Rattle.sheet.specs.Sheet.{Sheet, cells}
 use Rattle.sheet.specs.Refusal.{Lent}
-use Rattle.labelling.specs.Labelling.{sheet, lent, first_checks}
+use Rattle.std.proofs.lemmas.Result.{err_from_is_err_and}
+use Rattle.intake.specs.Intake.{lent_sheet}
+use Rattle.labelling.specs.FromIntake.{sheet_of}
+use Rattle.labelling.specs.Labelling.{lent, first_checks}
 use Rattle.labelling.proofs.Calls.{room, sizes_bounded, fitting, still_passed}
 use Rattle.index.specs.Index.{LentIndex, lent_index}
 use Rattle.index.proofs.Steps.{refused_first, indexed_after}
 use Rattle.index.proofs.index.Goals as goal
-use Rattle.index.proofs.index.Goals.{After-first_checks, In-Accepted}
+use Rattle.index.proofs.index.Goals.{After-first_checks, In_ok-first_checks}
+use Rattle.sheet.specs.Answer.{Accepted}
 
 -- the sheet and what is lent
 abbrev S : After-first_checks → Sheet
-S c =
-    let a = c.args in
-    sheet a.rows a.cols a.depth a.least a.split a.dirs.now a.weights.now
-
--- the sheet and what is lent
-abbrev S-In-Accepted : In-Accepted → Sheet
-S-In-Accepted c =
-    let a = c.args in
-    sheet a.rows a.cols a.depth a.least a.split a.dirs.now a.weights.now
+S c = let a = c.args in sheet_of a.sizes (lent_sheet a.dirs.now a.weights.now)
 
 abbrev L : After-first_checks → Lent
-L c =
-    let a = c.args in
-    lent a.areas.now a.labels.now a.basins.now a.work.now
-
-abbrev L-In-Accepted : In-Accepted → Lent
-L-In-Accepted c =
-    let a = c.args in
-    lent a.areas.now a.labels.now a.basins.now a.work.now
+L c = let a = c.args in lent a.areas.now a.labels.now a.basins.now a.work.now
 
 abbrev I : After-first_checks → LentIndex
-I c =
-    let a = c.args in
-    lent_index a.units.now a.outlets.now a.counts.now a.unit_basins.now
+I c = let a = c.args in lent_index a.units.now a.outlets.now a.counts.now a.unit_basins.now
 
-passed : (c : In-Accepted) → first_checks (S-In-Accepted c) (L-In-Accepted c) ≡ Accepted
-passed c = sym c.first_checks.ensures ∙ c.in-Accepted.is
+abbrev S-in : In_ok-first_checks → Sheet
+S-in c = let a = c.args in sheet_of a.sizes (lent_sheet a.dirs.now a.weights.now)
 
-few : (c : In-Accepted) → cells (S-In-Accepted c).grid ≤ 65536
-few c = (sizes_bounded (S-In-Accepted c) (L-In-Accepted c) (passed c)).cells_fit
+abbrev L-in : In_ok-first_checks → Lent
+L-in c = let a = c.args in lent a.areas.now a.labels.now a.basins.now a.work.now
 
-enough : (c : In-Accepted)
-    → 8 * cells (S-In-Accepted c).grid ≤ length (L-In-Accepted c).work
-enough c = room (S-In-Accepted c) (L-In-Accepted c) (passed c)
+abbrev I-in : In_ok-first_checks → LentIndex
+I-in c = let a = c.args in lent_index a.units.now a.outlets.now a.counts.now a.unit_basins.now
+
+passed : (c : In_ok-first_checks) → first_checks (S-in c) (L-in c) ≡ Accepted
+passed c = sym c.first_checks.ensures ∙ c.in_ok-first_checks.was
+
+few : (c : In_ok-first_checks) → cells (S-in c).grid ≤ 65536
+few c = (sizes_bounded (S-in c) (L-in c) (passed c)).cells_fit
+
+enough : (c : In_ok-first_checks) → 8 * cells (S-in c).grid ≤ length (L-in c).work
+enough c = room (S-in c) (L-in c) (passed c)
 
 pub overflow_mul-places : goal.overflow_mul-places
-overflow_mul-places c = omega (arith, few c)
+overflow_mul-places c = omega (arith, few (goal.at.overflow_mul-places c).In_ok-first_checks)
 
-pub overflow_mul-places-in-Accepted : goal.overflow_mul-places-in-Accepted
-overflow_mul-places-in-Accepted c = omega (arith, few c)
+pub overflow_mul-places-2 : goal.overflow_mul-places-2
+overflow_mul-places-2 c = omega (arith, few (goal.at.overflow_mul-places-2 c).In_ok-first_checks)
 
 pub slice_bounds-index_fitting-end : goal.slice_bounds-index_fitting-end
-slice_bounds-index_fitting-end c = enough (goal.at.slice_bounds-index_fitting-end c).In-Accepted
+slice_bounds-index_fitting-end c = enough (goal.at.slice_bounds-index_fitting-end c).In_ok-first_checks
 
-pub slice_bounds-index_fitting-end-in-Accepted : goal.slice_bounds-index_fitting-end-in-Accepted
-slice_bounds-index_fitting-end-in-Accepted c =
-    sym (length-take-le (8 * cells (S (goal.at.slice_bounds-index_fitting-end-in-Accepted c).After-first_checks).grid) (L (goal.at.slice_bounds-index_fitting-end-in-Accepted c).After-first_checks).work (enough (goal.at.slice_bounds-index_fitting-end-in-Accepted c).In-Accepted))
+pub slice_bounds-index_fitting-end-2 : goal.slice_bounds-index_fitting-end-2
+slice_bounds-index_fitting-end-2 c =
+    let p = (goal.at.slice_bounds-index_fitting-end-2 c).In_ok-first_checks in
+    sym (length-take-le (8 * cells (S-in p).grid) (L-in p).work (enough p))
 
 pub index_fitting-requires : goal.index_fitting-requires
-index_fitting-requires c = record {
-  fitting = fitting (S (goal.at.index_fitting-requires c).After-first_checks) (L (goal.at.index_fitting-requires c).After-first_checks) (passed (goal.at.index_fitting-requires c).In-Accepted);
-  work_value = still_passed (S (goal.at.index_fitting-requires c).After-first_checks) (L (goal.at.index_fitting-requires c).After-first_checks) (passed (goal.at.index_fitting-requires c).In-Accepted);
-}
+index_fitting-requires c =
+    let p = (goal.at.index_fitting-requires c).In_ok-first_checks in
+    record { fitting = fitting (S-in p) (L-in p) (passed p); work_value = still_passed (S-in p) (L-in p) (passed p) }
 
-pub returns-in-Accepted : goal.returns-in-Accepted
-returns-in-Accepted c =
-    let d = (goal.at.returns-in-Accepted c).After-first_checks in
-    let told = indexed_after (S d) (L d) (I d) (passed (goal.at.returns-in-Accepted c).In-Accepted) c.index_fitting.ensures in
-    record { answer = told.0; values = told.1.0; lent = told.1.1.0; index = told.1.1.1 }
+pub returns-in_err-first_checks : goal.returns-in_err-first_checks
+returns-in_err-first_checks c =
+    let p = err_from_is_err_and c.from_residual.result c.from_residual.ensures.1 in
+    let s = (goal.at.returns-in_err-first_checks c).After-first_checks in
+    let told = refused_first (S s) (L s) (I s) (sym c.first_checks.ensures ∙ c.in_err-first_checks.was) in
+    record { answer = rw (p.1, p.2) told.0; values = rw (p.1, p.2) told.1.0; lent = told.1.1.0; index = told.1.1.1 }
 
-pub returns-in-Refused : goal.returns-in-Refused
-returns-in-Refused c =
-    let d = (goal.at.returns-in-Refused c).After-first_checks in
-    let told = refused_first (S d) (L d) (I d) (sym c.first_checks.ensures ∙ c.in-Refused.is) in
+pub returns : goal.returns
+returns c =
+    let p = (goal.at.returns c).In_ok-first_checks in
+    let told = indexed_after (S-in p) (L-in p) (I-in p) (passed p) c.index_fitting.ensures in
     record { answer = told.0; values = told.1.0; lent = told.1.1.0; index = told.1.1.1 }

@@ -1,20 +1,12 @@
 -- `index_fitting` meets its contract: each step hands the next what it asks.
 use mathlib.Core.Path.{ap, ◌∙◌}
 use Prim.Native.Nat.{ℕ}
-use native.Mathlib.Omega.{arith}
 use lib.ListN.{replicate}
+use native.Mathlib.Omega.{arith}
 use Rattle.sheet.specs.Record.{label_places}
 use Rattle.sheet.proofs.Cells.{cells_most}
 use Rattle.index.proofs.Steps.{in_order_lem, indexed_fitting}
 use Rattle.index.proofs.index_fitting.Goals as goal
-
-pub label_in_order-found-requires : goal.label_in_order-found-requires
-label_in_order-found-requires c = c.requires.fitting
-
-pub overflow_mul-rows : goal.overflow_mul-rows
-overflow_mul-rows c =
-    let p = c.requires.fitting in
-    omega (arith, cells_most p.sized.rows_most p.sized.cols_most)
 
 pub index_in_order-answer-requires : goal.index_in_order-answer-requires
 index_in_order-answer-requires c =

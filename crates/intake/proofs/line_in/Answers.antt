@@ -43,4 +43,4 @@ returns-in-TakingCells c =
 
 pub returns-in-Ended : goal.returns-in-Ended
 unfolding line_in
-returns-in-Ended c = simp (c.in-Ended.is, c.answer.ensures)
+returns-in-Ended c = simp (c.in-Ended.is, c.refused.ensures)

@@ -11,5 +11,5 @@ returns-then-weights_fit c = λ depth least split.
     c.inspect.ensures
 
 pub returns : goal.returns
-returns c = λ depth least split.
-    refused_17 (sheet _ _ depth least split _ _) (sym c.weights_fit.ensures ∙ c.if-weights_fit.false)
+returns c = λ depth least split. rw c.numbered.ensures
+    (refused_17 (sheet _ _ depth least split _ _) (sym c.weights_fit.ensures ∙ c.if-weights_fit.false))

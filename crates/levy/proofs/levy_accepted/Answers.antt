@@ -63,4 +63,5 @@ returns-then-dues_fit c =
 
 pub returns : goal.returns
 returns c =
-    too_short _ _ _ _ _ (all (goal.at.returns c).After-basin_part-part) (those (goal.at.returns c).After-basin_part-part) _ _ c.requires.outcome_value (tested (goal.at.returns c).After-dues_fit c.if-dues_fit.false)
+    rw c.numbered.ensures
+    (too_short _ _ _ _ _ (all (goal.at.returns c).After-basin_part-part) (those (goal.at.returns c).After-basin_part-part) _ _ c.requires.outcome_value (tested (goal.at.returns c).After-dues_fit c.if-dues_fit.false))

@@ -7,15 +7,16 @@ use Rattle.sheet.specs.Sheet.{Sheet}
 use Rattle.sheet.specs.Record.{label_places}
 use Rattle.sheet.specs.Refusal.{Lent}
 use Rattle.sheet.proofs.Cells.{cells_most}
-use Rattle.labelling.specs.Labelling.{sheet, lent}
+use Rattle.intake.specs.Intake.{lent_sheet}
+use Rattle.labelling.specs.FromIntake.{sheet_of}
+use Rattle.labelling.specs.Labelling.{lent}
 use Rattle.levy.proofs.Steps.{Lengths, in_order_levy, levied_fitting}
 use Rattle.levy.proofs.levy_fitting.Goals as goal
 use Rattle.levy.proofs.levy_fitting.Goals.{After-label_in_order-found}
 
 abbrev S : After-label_in_order-found → Sheet
 S c =
-    let a = c.args in sheet a.rows a.cols a.depth a.least a.split a.dirs.now
-    a.weights.now
+    let a = c.args in sheet_of a.sizes (lent_sheet a.dirs.now a.weights.now)
 
 -- what the slices hold after labelling
 abbrev L' : After-label_in_order-found → Lent
@@ -34,8 +35,8 @@ long c =
       work = k.work ∙ p.work;
     }
 
-pub overflow_mul-rows : goal.overflow_mul-rows
-overflow_mul-rows c =
+pub overflow_mul-sizes : goal.overflow_mul-sizes
+overflow_mul-sizes c =
     let p = c.requires.fitting in
     omega (arith, cells_most p.sized.rows_most p.sized.cols_most)
 

@@ -15,11 +15,11 @@ few : (c : After-label_length-label_bytes)
 few c =
     omega (
       arith,
-      text_32_bit c.args.basin c.ranges.basin.fits,
-      text_64_bit c.args.row c.ranges.row.fits,
-      text_64_bit c.args.col c.ranges.col.fits,
-      text_32_bit c.args.area c.ranges.area.fits,
-      label_most c.args.label,
+      text_32_bit c.args.values.basin (omega arith),
+      text_64_bit c.args.values.row (omega arith),
+      text_64_bit c.args.values.col (omega arith),
+      text_32_bit c.args.values.area (omega arith),
+      label_most c.args.values.label,
     )
 
 pub overflow_add-result : goal.overflow_add-result
@@ -38,6 +38,7 @@ pub overflow_add-result-5 : goal.overflow_add-result-5
 overflow_add-result-5 c = omega (arith, few c)
 
 pub returns : goal.returns
-returns c =
-    let a = c.args in
-    omega (arith, cell_length_lem a.basin a.row a.col a.area (label_text a.label))
+returns c = let a = c.args in record {
+  bytes = omega (arith, cell_length_lem a.values.basin a.values.row a.values.col a.values.area (label_text a.values.label));
+  few = omega (arith, few (goal.at.returns c).After-label_length-label_bytes);
+}

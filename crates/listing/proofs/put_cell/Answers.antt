@@ -5,6 +5,7 @@ use native.Mathlib.Omega.{arith}
 use lib.ListN.{length}
 use Rattle.decimal.specs.Ascii.{comma, line_feed}
 use Rattle.decimal.specs.Text.{decimal_text}
+use Rattle.listing.specs.declared.CellValues.{CellValues}
 use Rattle.listing.specs.Listing.{label_text, field, cell_line}
 use Rattle.listing.proofs.Lengths.{cell_length_lem}
 use Rattle.listing.proofs.Putting.{put_room, put_then, field_end_lem}
@@ -14,11 +15,11 @@ use Rattle.listing.proofs.put_cell.Goals.{After-put_field-area_at, After-put_fie
 -- the digits of the five values and the five bytes after them have room
 room : (c : Start)
     → let a = c.args in
-    a.at + length (decimal_text a.basin) + length (decimal_text a.row) + length (decimal_text a.col)
-    + length (decimal_text a.area) + length (label_text a.label) + 5 ≤ length a.out.now
+    a.at + length (decimal_text a.values.basin) + length (decimal_text a.values.row) + length (decimal_text a.values.col)
+    + length (decimal_text a.values.area) + length (label_text a.values.label) + 5 ≤ length a.out.now
 room c =
     let a = c.args in
-    omega (arith, c.requires, cell_length_lem a.basin a.row a.col a.area (label_text a.label))
+    omega (arith, c.requires, cell_length_lem a.values.basin a.values.row a.values.col a.values.area (label_text a.values.label))
 
 pub put_field-row_at-requires : goal.put_field-row_at-requires
 put_field-row_at-requires c = omega (arith, room (goal.at.put_field-row_at-requires c).Start)
@@ -71,99 +72,43 @@ put_label-requires c =
       c.put_field-label_at.auto.out,
     )
 
--- each field has room, with those after it
-abbrev area_on-After-put_field-area_at : After-put_field-area_at → List ℕ
-area_on-After-put_field-area_at c = let a = c.args in field (decimal_text a.area) comma ++ field (label_text a.label) line_feed
+-- the fields from the area, the column and the row on
+abbrev area_on : CellValues → List ℕ
+area_on v = field (decimal_text v.area) comma ++ field (label_text v.label) line_feed
+
+abbrev col_on : CellValues → List ℕ
+col_on v = field (decimal_text v.col) comma ++ area_on v
+
+abbrev row_on : CellValues → List ℕ
+row_on v = field (decimal_text v.row) comma ++ col_on v
 
 -- each field has room, with those after it
-abbrev area_on-After-put_field-col_at : After-put_field-col_at → List ℕ
-area_on-After-put_field-col_at c = let a = c.args in field (decimal_text a.area) comma ++ field (label_text a.label) line_feed
-
--- each field has room, with those after it
-abbrev area_on-After-put_field-row_at : After-put_field-row_at → List ℕ
-area_on-After-put_field-row_at c = let a = c.args in field (decimal_text a.area) comma ++ field (label_text a.label) line_feed
-
--- each field has room, with those after it
-abbrev area_on : Start → List ℕ
-area_on c = let a = c.args in field (decimal_text a.area) comma ++ field (label_text a.label) line_feed
-
-abbrev col_on-After-put_field-col_at : After-put_field-col_at → List ℕ
-col_on-After-put_field-col_at c = field (decimal_text c.args.col) comma ++ area_on-After-put_field-col_at c
-
-abbrev col_on-After-put_field-area_at : After-put_field-area_at → List ℕ
-col_on-After-put_field-area_at c = field (decimal_text c.args.col) comma ++ area_on-After-put_field-area_at c
-
-abbrev col_on-After-put_field-row_at : After-put_field-row_at → List ℕ
-col_on-After-put_field-row_at c = field (decimal_text c.args.col) comma ++ area_on-After-put_field-row_at c
-
-abbrev col_on : Start → List ℕ
-col_on c = field (decimal_text c.args.col) comma ++ area_on c
-
-abbrev row_on-After-put_field-row_at : After-put_field-row_at → List ℕ
-row_on-After-put_field-row_at c = field (decimal_text c.args.row) comma ++ col_on-After-put_field-row_at c
-
-abbrev row_on : Start → List ℕ
-row_on c = field (decimal_text c.args.row) comma ++ col_on c
-
-abbrev row_on-After-put_field-col_at : After-put_field-col_at → List ℕ
-row_on-After-put_field-col_at c = field (decimal_text c.args.row) comma ++ col_on-After-put_field-col_at c
-
-abbrev row_on-After-put_field-area_at : After-put_field-area_at → List ℕ
-row_on-After-put_field-area_at c = field (decimal_text c.args.row) comma ++ col_on-After-put_field-area_at c
-
 basin-room : (c : Start)
-    → c.args.at + length (field (decimal_text c.args.basin) comma ++ row_on c) ≤ length c.args.out.now
+    → let v = c.args.values in
+    c.args.at + length (field (decimal_text v.basin) comma ++ row_on v) ≤ length c.args.out.now
 unfolding cell_line
 basin-room c = c.requires
 
-basin-room-After-put_field-row_at : (c : After-put_field-row_at)
-    → c.args.at + length (field (decimal_text c.args.basin) comma ++ row_on-After-put_field-row_at c) ≤ length c.args.out.now
-unfolding cell_line
-basin-room-After-put_field-row_at c = c.requires
-
-basin-room-After-put_field-col_at : (c : After-put_field-col_at)
-    → c.args.at + length (field (decimal_text c.args.basin) comma ++ row_on-After-put_field-col_at c) ≤ length c.args.out.now
-unfolding cell_line
-basin-room-After-put_field-col_at c = c.requires
-
-basin-room-After-put_field-area_at : (c : After-put_field-area_at)
-    → c.args.at + length (field (decimal_text c.args.basin) comma ++ row_on-After-put_field-area_at c) ≤ length c.args.out.now
-unfolding cell_line
-basin-room-After-put_field-area_at c = c.requires
-
 row_room : (c : After-put_field-row_at)
-    → c.put_field-row_at.result + length (row_on-After-put_field-row_at c) ≤ length c.put_field-row_at.new.out
-row_room c = put_room c.put_field-row_at.ensures _ (basin-room-After-put_field-row_at c)
-
-row_room-After-put_field-col_at : (c : After-put_field-col_at)
-    → c.put_field-row_at.result + length (row_on-After-put_field-col_at c) ≤ length c.put_field-row_at.new.out
-row_room-After-put_field-col_at c = put_room c.put_field-row_at.ensures _ (basin-room-After-put_field-col_at c)
-
-row_room-After-put_field-area_at : (c : After-put_field-area_at)
-    → c.put_field-row_at.result + length (row_on-After-put_field-area_at c) ≤ length c.put_field-row_at.new.out
-row_room-After-put_field-area_at c = put_room c.put_field-row_at.ensures _ (basin-room-After-put_field-area_at c)
+    → c.put_field-row_at.result + length (row_on c.args.values) ≤ length c.put_field-row_at.new.out
+row_room c = put_room c.put_field-row_at.ensures _ (basin-room (goal.at.After-put_field-row_at c).Start)
 
 col-room : (c : After-put_field-col_at)
-    → c.put_field-col_at.result + length (col_on-After-put_field-col_at c)
-    ≤ length c.put_field-col_at.new.out
-col-room c = put_room c.put_field-col_at.ensures _ (row_room-After-put_field-col_at c)
-
-col-room-After-put_field-area_at : (c : After-put_field-area_at)
-    → c.put_field-col_at.result + length (col_on-After-put_field-area_at c)
-    ≤ length c.put_field-col_at.new.out
-col-room-After-put_field-area_at c = put_room c.put_field-col_at.ensures _ (row_room-After-put_field-area_at c)
+    → c.put_field-col_at.result + length (col_on c.args.values) ≤ length c.put_field-col_at.new.out
+col-room c = put_room c.put_field-col_at.ensures _ (row_room (goal.at.After-put_field-col_at c).After-put_field-row_at)
 
 area-room : (c : After-put_field-area_at)
-    → c.put_field-area_at.result + length
-    (area_on-After-put_field-area_at c)
-    ≤ length c.put_field-area_at.new.out
-area-room c = put_room c.put_field-area_at.ensures _ (col-room-After-put_field-area_at c)
+    → c.put_field-area_at.result + length (area_on c.args.values) ≤ length c.put_field-area_at.new.out
+area-room c = put_room c.put_field-area_at.ensures _ (col-room (goal.at.After-put_field-area_at c).After-put_field-col_at)
 
 pub returns : goal.returns
 unfolding cell_line
 returns c =
+    let p = goal.at.returns c in
     put_then c.put_field-row_at.ensures
     (put_then c.put_field-col_at.ensures
     (put_then c.put_field-area_at.ensures
-    (put_then c.put_field-label_at.ensures c.put_label.ensures (area-room (goal.at.returns c).After-put_field-area_at)) (col-room (goal.at.returns c).After-put_field-col_at))
-    (row_room (goal.at.returns c).After-put_field-row_at)) (basin-room (goal.at.returns c).Start)
+    (put_then c.put_field-label_at.ensures c.put_label.ensures (area-room p.After-put_field-area_at))
+    (col-room p.After-put_field-col_at))
+    (row_room p.After-put_field-row_at))
+    (basin-room p.Start)

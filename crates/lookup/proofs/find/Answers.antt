@@ -1,78 +1,48 @@
 -- `find` meets its contract, return by return.
 use native.Mathlib.Omega.{arith}
-use mathlib.Core.Path.{◌≡◌, sym, ◌∙◌}
-use mathlib.Core.Bool.{true}
-use mathlib.Core.List.{List}
+use mathlib.Core.Path.{◌≡◌, sym, ap, ◌∙◌}
 use Prim.Native.Nat.{◌≤◌}
 use lib.ListN.{length}
-use Rattle.sheet.specs.declared.Label.{Label}
-use Rattle.sheet.specs.Record.{labels_in, units_in}
-use Rattle.sheet.specs.Flow.{every, is_label}
-use Rattle.lookup.specs.Lookup.{greatest_depth, is_rising}
+use Rattle.std.specs.Prelude.{Ok, Err}
+use Rattle.sheet.specs.Record.{labels_in}
+use Rattle.lookup.specs.Lookup.{lookup_answer, lookup_values}
 use Rattle.lookup.proofs.Answers.{answer_3, answer_11, entries_11, answer_16, answer_part}
 use Rattle.lookup.proofs.Counted.{labels_counted}
 use Rattle.lookup.proofs.find.Goals as goal
-use Rattle.lookup.proofs.find.Goals.{Else-basins-label_count, Then-all_labels, Then-is_label, Then-is_rising}
-
-abbrev labels_at-Else-basins-label_count : Else-basins-label_count → List Label
-labels_at-Else-basins-label_count c = labels_in c.args.labels.now
-
-abbrev labels_at-Then-all_labels : Then-all_labels → List Label
-labels_at-Then-all_labels c = labels_in c.args.labels.now
-
-abbrev labels_at-Then-is_rising : Then-is_rising → List Label
-labels_at-Then-is_rising c = labels_in c.args.labels.now
-
--- What the tests showed.
-enough : (c : Else-basins-label_count) → length (labels_at-Else-basins-label_count c) ≤ length c.args.basins.now
-enough c = omega (arith, labels_counted c.args.labels.now, c.label_count.ensures)
-
-label-known : (c : Then-is_label) → is_label greatest_depth c.args.leading.label ≡ true
-label-known c = sym c.is_label.ensures ∙ c.if-is_label.true
-
-entries-known : (c : Then-all_labels) → every (is_label greatest_depth) (labels_at-Then-all_labels c) ≡ true
-entries-known c = sym c.all_labels.ensures ∙ c.if-all_labels.true
-
-rises-known : (c : Then-is_rising)
-    → is_rising (units_in c.args.basins.now (labels_at-Then-is_rising c)) ≡ true
-rises-known c = sym c.is_rising.ensures ∙ c.if-is_rising.true
+use Rattle.lookup.proofs.find.Goals.{then-not-is_label-via-then-not-is_label, then-not-is_label-via-else-not-is_label+then-not-all_labels}
 
 pub returns-then-basins-label_count : goal.returns-then-basins-label_count
 returns-then-basins-label_count c =
-    let both = answer_3 _ _ _ (omega (arith, labels_counted c.args.labels.now, c.label_count.ensures)) in
-    record { answer = both.0; values = both.1 }
+    let e = ap Err c.numbered.ensures
+    ∙ answer_3 c.args.leading _ _ (omega (arith, labels_counted c.args.labels.now, c.label_count.ensures)) in
+    record { answer = e; values = ap lookup_values e }
 
-pub is_rising-requires : goal.is_rising-requires
-is_rising-requires c = record {
-  labels_in_bounds = enough (goal.at.is_rising-requires c).Else-basins-label_count;
-  labels_value = entries-known c;
-}
+pub returns-then-not-is_label : goal.returns-then-not-is_label
+returns-then-not-is_label c =
+    let labels = labels_in c.args.labels.now in
+    let enough : length labels ≤ length c.args.basins.now =
+    omega (arith, labels_counted c.args.labels.now, c.label_count.ensures) in
+    let e : Err c.numbered-then-not-is_label.result ≡ lookup_answer c.args.leading labels c.args.basins.now =
+    ap Err c.numbered-then-not-is_label.ensures ∙ elim c.then-not-is_label.branch [
+      | then-not-is_label-via-then-not-is_label w ↦ answer_11 _ _ _ enough (sym c.is_label.ensures ∙ w.if-not-is_label.true)
+      | then-not-is_label-via-else-not-is_label+then-not-all_labels w ↦
+          entries_11 _ _ _ enough (sym c.is_label.ensures ∙ w.if-not-is_label.false)
+          (sym w.all_labels.ensures ∙ w.if-not-all_labels.true)
+    ] in
+    record { answer = e; values = ap lookup_values e }
 
-pub part_found-requires : goal.part_found-requires
-part_found-requires c = record {
-  label_value = label-known (goal.at.part_found-requires c).Then-is_label;
-  labels_in_bounds = enough (goal.at.part_found-requires c).Else-basins-label_count;
-  labels_value = entries-known (goal.at.part_found-requires c).Then-all_labels;
-}
-
-pub returns-then-is_rising : goal.returns-then-is_rising
-returns-then-is_rising c =
-    let both = answer_part _ _ _ (enough (goal.at.returns-then-is_rising c).Else-basins-label_count) (label-known (goal.at.returns-then-is_rising c).Then-is_label) (entries-known (goal.at.returns-then-is_rising c).Then-all_labels) (rises-known (goal.at.returns-then-is_rising c).Then-is_rising)
-    _ c.part_found.ensures in
-    record { answer = both.0; values = both.1 }
-
-pub returns-then-all_labels : goal.returns-then-all_labels
-returns-then-all_labels c =
-    let both = answer_16 _ _ _ (enough (goal.at.returns-then-all_labels c).Else-basins-label_count) (label-known (goal.at.returns-then-all_labels c).Then-is_label) (entries-known (goal.at.returns-then-all_labels c).Then-all_labels)
-    (sym c.is_rising.ensures ∙ c.if-is_rising.false) in
-    record { answer = both.0; values = both.1 }
-
-pub returns-then-is_label : goal.returns-then-is_label
-returns-then-is_label c =
-    let both = entries_11 _ _ _ (enough (goal.at.returns-then-is_label c).Else-basins-label_count) (label-known (goal.at.returns-then-is_label c).Then-is_label) (sym c.all_labels.ensures ∙ c.if-all_labels.false) in
-    record { answer = both.0; values = both.1 }
+pub returns-then-not-is_rising : goal.returns-then-not-is_rising
+returns-then-not-is_rising c =
+    let e = ap Err c.numbered-then-not-is_rising.ensures ∙ answer_16 c.args.leading _ _
+    (omega (arith, labels_counted c.args.labels.now, c.label_count.ensures))
+    (sym c.is_label.ensures ∙ c.if-not-is_label.false) (sym c.all_labels.ensures ∙ c.if-not-all_labels.false)
+    (sym c.is_rising.ensures ∙ c.if-not-is_rising.true) in
+    record { answer = e; values = ap lookup_values e }
 
 pub returns : goal.returns
 returns c =
-    let both = answer_11 _ _ _ (enough (goal.at.returns c).Else-basins-label_count) (sym c.is_label.ensures ∙ c.if-is_label.false) in
-    record { answer = both.0; values = both.1 }
+    let e = ap Ok c.part_found.ensures ∙ answer_part _ _ _
+    (omega (arith, labels_counted c.args.labels.now, c.label_count.ensures))
+    (sym c.is_label.ensures ∙ c.if-not-is_label.false) (sym c.all_labels.ensures ∙ c.if-not-all_labels.false)
+    (sym c.is_rising.ensures ∙ c.if-not-is_rising.false) in
+    record { answer = e; values = ap lookup_values e }

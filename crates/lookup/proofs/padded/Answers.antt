@@ -5,18 +5,18 @@ use Rattle.lookup.specs.PaddedHalves.{joined}
 use Rattle.lookup.proofs.PaddedHalves.{first_short, rest_short, padded_rest_below, padded_halves}
 use Rattle.lookup.proofs.padded.Goals as goal
 
-pub padded_number-first-requires : goal.padded_number-first-requires
-padded_number-first-requires c = first_short c.args.label c.requires
+pub padded_number-requires : goal.padded_number-requires
+padded_number-requires c = first_short c.args.label c.requires
 
-pub padded_number-rest-requires : goal.padded_number-rest-requires
-padded_number-rest-requires c = rest_short c.args.label c.requires
+pub padded_number-requires-2 : goal.padded_number-requires-2
+padded_number-requires-2 c = rest_short c.args.label c.requires
 
 pub returns : goal.returns
 unfolding joined
 returns c =
     record {
       whole =
-          rw (c.padded_number-first.ensures, c.padded_number-rest.ensures)
+          rw (c.padded_number.ensures, c.padded_number-2.ensures)
           (sym (padded_halves c.args.label c.requires));
-      most = omega (arith, c.padded_number-rest.ensures, padded_rest_below c.args.label c.requires);
+      most = omega (arith, c.padded_number-2.ensures, padded_rest_below c.args.label c.requires);
     }

@@ -12,8 +12,8 @@ pub overflow_add-leading : goal.overflow_add-leading
 overflow_add-leading c =
     omega (arith, first_small c.args.leading c.requires)
 
-pub with_zeros-first-requires : goal.with_zeros-first-requires
-with_zeros-first-requires c =
+pub with_zeros-requires : goal.with_zeros-requires
+with_zeros-requires c =
     let short = first_short c.args.leading c.requires in
     let below = short_below c.args.leading.first short in record {
       number_bound = rw c.count_decimal_digits.ensures (omega arith);
@@ -26,7 +26,7 @@ returns-then-leading-eq0 c =
     let count = c.count_decimal_digits.ensures in
     record {
       whole =
-          rw (c.with_zeros-first.ensures, count)
+          rw (c.with_zeros.ensures, count)
           (end_first c.args.leading c.requires c.if-leading-eq0.true);
       most = omega arith;
     }
@@ -35,8 +35,8 @@ pub overflow_add-leading-2 : goal.overflow_add-leading-2
 overflow_add-leading-2 c =
     omega (arith, rest_small c.args.leading c.requires)
 
-pub with_zeros-rest-requires : goal.with_zeros-rest-requires
-with_zeros-rest-requires c =
+pub with_zeros-requires-2 : goal.with_zeros-requires-2
+with_zeros-requires-2 c =
     let short = rest_short c.args.leading c.requires in
     let below = short_below c.args.leading.rest short in record {
       number_bound = rw c.count_decimal_digits-2.ensures (omega arith);
@@ -51,10 +51,10 @@ returns c =
     let below = short_below c.args.leading.rest short in
     record {
       whole =
-          rw (c.with_zeros-rest.ensures, count)
+          rw (c.with_zeros-2.ensures, count)
           (end_rest c.args.leading c.requires c.if-leading-eq0.false);
       most =
-          rw (c.with_zeros-rest.ensures, count)
+          rw (c.with_zeros-2.ensures, count)
           (zeros_most (c.args.leading.rest + 1) (length (decimal_digits c.args.leading.rest)) (omega arith)
           short);
     }

@@ -12,12 +12,6 @@ returns-then-number-eq0 c = sym (zero_padded _ c.if-number-eq0.true)
 pub loop-m-init : goal.loop-m-init
 loop-m-init c = (refl, omega arith)
 
-pub overflow_mul-m : goal.overflow_mul-m
-overflow_mul-m c = omega arith
-
-pub loop-m-smaller : goal.loop-m-smaller
-loop-m-smaller c = omega arith
-
 pub loop-m-preserved : goal.loop-m-preserved
 loop-m-preserved c =
     let l = c.loop-m in (padded_turn l.m l.invariant.1 (omega arith) ∙ l.invariant.0, omega (arith, l.invariant.1))

@@ -7,7 +7,7 @@ use Prim.Native.Nat.{◌+◌, ◌-◌}
 use Rattle.sheet.specs.declared.UnitName.{UnitName}
 use Rattle.sheet.specs.Record.{labels_in, units_in}
 use Rattle.lookup.specs.Lookup.{start_of, length_of}
-use Rattle.lookup.proofs.Limits.{start_below, end_below, part_by}
+use Rattle.lookup.proofs.Limits.{start_below, end_below}
 use Rattle.lookup.proofs.part_found.Goals as goal
 use Rattle.lookup.proofs.part_found.Goals.{After-count_below-end, After-count_below-start}
 
@@ -37,5 +37,7 @@ overflow_sub-result c = omega (arith, start_is (goal.at.overflow_sub-result c).A
 pub returns : goal.returns
 returns c =
     let begin = start_is (goal.at.returns c).After-count_below-start in
-    part_by c.args.leading (units_at (goal.at.returns c).After-count_below-start) _ (c.count_below-end.result - c.count_below-start.result) begin
-    (omega (arith, begin, end_is c))
+    let count : c.count_below-end.result - c.count_below-start.result ≡ length_of c.args.leading
+    (units_in c.args.basins.now (labels_in c.args.labels.now)) =
+    omega (arith, begin, end_is c) in
+    rw (count, begin)

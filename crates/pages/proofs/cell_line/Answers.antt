@@ -1,13 +1,13 @@
 -- `cell_line` meets its contract: the texts of the values are set into their fields one after the other.
 use native.Mathlib.Omega.{arith}
-use Rattle.pages.specs.Line.{Texts, value_texts}
+use Rattle.pages.specs.Line.{Texts, texts_of, value_texts}
 use Rattle.pages.proofs.Fields.{Fit, fit_of, fields_set}
 use Rattle.pages.proofs.cell_line.Goals as goal
 use Rattle.pages.proofs.cell_line.Goals.{Start}
 
 -- the texts of the values, which fit their fields
 abbrev columns : Start → Texts
-columns c = let a = c.args in value_texts a.basin a.row a.col a.area a.label
+columns c = texts_of c.args.values
 
 fit : (c : Start) → Fit (columns c)
 fit c = fit_of (columns c) c.requires

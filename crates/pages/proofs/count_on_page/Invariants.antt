@@ -1,14 +1,10 @@
 use mathlib.Core.Path.{◌≡◌}
-use Prim.Native.Nat.{◌-◌, ◌≤◌}
 use lib.ListN.{length}
-use Rattle.sheet.specs.Sheet.{grid}
+use Rattle.listing.specs.Labelled.{grid_of}
 use Rattle.pages.specs.Page.{inside_below, page_cells}
 use Rattle.pages.proofs.count_on_page.Given as goal
 
 abbrev pub invariant-loop-cell : goal.invariant-loop-cell
 invariant-loop-cell l =
-    let G = grid l.rows l.cols l.dirs in
-    (l.cell ≤ l.n) × (l.seen ≡ length (inside_below G l.cell)) × (l.count ≡ length (page_cells l.page (inside_below G l.cell)))
-
-abbrev pub decreases-loop-cell : goal.decreases-loop-cell
-decreases-loop-cell l = l.n - l.cell
+    let G = grid_of l.sheet in
+    (l.seen ≡ length (inside_below G l.cell)) × (l.count ≡ length (page_cells l.page (inside_below G l.cell)))

@@ -1,147 +1,72 @@
 -- The invariant: the inside cells before this one are counted, and those of them on the page fit.
 use mathlib.Core.Path.{◌≡◌, refl, sym, ap, ◌∙◌}
-use mathlib.Core.List.{◌∷◌, [], ◌++◌}
-use Prim.Native.Nat.{ℕ, ◌+◌, ◌*◌, ◌<◌, ◌≤◌}
+use Prim.Native.Nat.{ℕ, ◌*◌}
 use native.Mathlib.Omega.{arith}
-use Rattle.sheet.specs.Sheet.{Grid, grid}
+use Rattle.listing.specs.Labelled.{grid_of}
 use Rattle.sheet.proofs.Cells.{cells_most}
-use Rattle.listing.proofs.Answers.{cell_small}
-use Rattle.pages.specs.Line.{Texts, texts_fit, cell_texts}
+use Rattle.pages.specs.Line.{texts_fit, cell_texts}
 use Rattle.pages.specs.Page.{inside_below, inside_cells, page_cells}
 use Rattle.pages.specs.Writing.{all_fit, page_fits}
-use Rattle.pages.proofs.PageLaws.{below_few, none_before, seen_outside, seen_inside, page_outside, page_off}
-use Rattle.pages.proofs.PageLaws.{page_on}
-use Rattle.pages.proofs.Putting.{columns_of, cell_too_wide, cell_fits_too}
+use Rattle.pages.proofs.PageLaws.{below_few, none_before, seen_outside, seen_inside, page_outside, page_off, page_on}
+use Rattle.pages.proofs.Putting.{columns_at, cell_too_wide, cell_fits_too}
 use Rattle.pages.proofs.page_fits.Goals as goal
-use Rattle.pages.proofs.page_fits.Goals.{After-values_fit, At-loop-cell, Else-seen-page, Start}
-
--- the sheet that is lent, and the texts of a cell's values
-abbrev G : Start → Grid
-G c = grid c.args.rows c.args.cols c.args.dirs.now
-
--- the sheet that is lent, and the texts of a cell's values
-abbrev G-At-loop-cell : At-loop-cell → Grid
-G-At-loop-cell c = grid c.args.rows c.args.cols c.args.dirs.now
-
--- the sheet that is lent, and the texts of a cell's values
-abbrev G-Else-seen-page : Else-seen-page → Grid
-G-Else-seen-page c = grid c.args.rows c.args.cols c.args.dirs.now
-
--- the sheet that is lent, and the texts of a cell's values
-abbrev G-After-values_fit : After-values_fit → Grid
-G-After-values_fit c = grid c.args.rows c.args.cols c.args.dirs.now
-
-abbrev texts : Start → ℕ → Texts
-texts c = let a = c.args in cell_texts (G c) a.areas.now a.labels.now a.basins.now
-
-abbrev texts-After-values_fit : After-values_fit → ℕ → Texts
-texts-After-values_fit c = let a = c.args in cell_texts (G-After-values_fit c) a.areas.now a.labels.now a.basins.now
-
--- few cells are counted
-few : (c : At-loop-cell) → c.loop-cell.seen ≤ 65536
-few c =
-    omega (
-      arith,
-      c.loop-cell.invariant.1,
-      below_few (G-At-loop-cell c) c.loop-cell.cell,
-      cells_most c.requires.rows_most c.requires.cols_most,
-    )
-
--- the number of this cell is small
-small : (c : Else-seen-page) → c.loop-cell.cell < 65536
-small c = cell_small c.requires c.loop-cell-test.true
-
--- this cell is on the page
-page-here : (c : Else-seen-page)
-    → page_cells c.args.page (inside_below (G-Else-seen-page c) (c.loop-cell.cell + 1))
-    ≡ page_cells c.args.page (inside_below (G-Else-seen-page c) c.loop-cell.cell) ++ (c.loop-cell.cell ∷ [])
-page-here c =
-    page_on (G-Else-seen-page c) c.args.page c.loop-cell.cell c.loop-cell-test.true c.if-dirs-cell-eq0.false
-    c.loop-cell.invariant.1 c.if-seen-page.false
-
--- what was answered of this cell's values
-this-cell : (c : After-values_fit)
-    → c.values_fit.result ≡ texts_fit (texts-After-values_fit c c.loop-cell.cell)
-this-cell c =
-    c.values_fit.ensures
-    ∙ ap texts_fit
-    (columns_of (G-After-values_fit c) c.args.areas.now c.args.labels.now c.args.basins.now c.loop-cell.cell
-    c.label_at-label.ensures)
-
-pub overflow_mul-n : goal.overflow_mul-n
-overflow_mul-n c =
-    omega (arith, cells_most c.requires.rows_most c.requires.cols_most)
+use Rattle.pages.proofs.page_fits.Goals.{then-seen-page+else-not-values_fit, else-seen-page}
 
 pub loop-cell-init : goal.loop-cell-init
 unfolding inside_below all_fit
 loop-cell-init c =
-    (omega arith, refl, ap (all_fit (texts (goal.at.loop-cell-init c).Start)) (none_before c.args.page))
+    let a = c.args in
+    (refl, ap (all_fit (cell_texts (grid_of a.sheet) a.sheet.areas.now a.sheet.labels.now a.sheet.basins.now)) (none_before a.page))
 
-pub bounds-dirs-cell : goal.bounds-dirs-cell
-bounds-dirs-cell c = omega arith
-
-pub loop-cell-preserved-then-dirs-cell-eq0 : goal.loop-cell-preserved-then-dirs-cell-eq0
-loop-cell-preserved-then-dirs-cell-eq0 c = (
-  omega arith,
-  c.loop-cell.invariant.1 ∙ seen_outside (G (goal.at.loop-cell-preserved-then-dirs-cell-eq0 c).Start) c.args.page c.loop-cell.cell c.if-dirs-cell-eq0.true,
-  ap (all_fit (texts (goal.at.loop-cell-preserved-then-dirs-cell-eq0 c).Start)) (page_outside (G (goal.at.loop-cell-preserved-then-dirs-cell-eq0 c).Start) c.args.page c.loop-cell.cell c.if-dirs-cell-eq0.true) ∙ c.loop-cell.invariant.2,
-)
-
-pub overflow_add-seen : goal.overflow_add-seen
-overflow_add-seen c = omega (arith, few (goal.at.overflow_add-seen c).At-loop-cell)
-
-pub overflow_add-seen-then-seen-page : goal.overflow_add-seen-then-seen-page
-overflow_add-seen-then-seen-page c = omega (arith, few (goal.at.overflow_add-seen-then-seen-page c).At-loop-cell)
-
-pub loop-cell-preserved-then-seen-page : goal.loop-cell-preserved-then-seen-page
-loop-cell-preserved-then-seen-page c =
-    let on = c.loop-cell-test.true in (
-      omega arith,
-      seen_inside (G (goal.at.loop-cell-preserved-then-seen-page c).Start) c.args.page c.loop-cell.cell on c.if-dirs-cell-eq0.false c.loop-cell.invariant.1,
-      ap (all_fit (texts (goal.at.loop-cell-preserved-then-seen-page c).Start))
-          (page_off (G (goal.at.loop-cell-preserved-then-seen-page c).Start) c.args.page c.loop-cell.cell on c.if-dirs-cell-eq0.false c.loop-cell.invariant.1 c.if-seen-page.true)
-          ∙ c.loop-cell.invariant.2,
+pub loop-cell-preserved-then-sheet-cell-eq0 : goal.loop-cell-preserved-then-sheet-cell-eq0
+loop-cell-preserved-then-sheet-cell-eq0 c =
+    let a = c.args in
+    let G = grid_of a.sheet in (
+      c.loop-cell.invariant.0 ∙ seen_outside G a.page c.loop-cell.cell c.if-sheet-cell-eq0.true,
+      ap (all_fit (cell_texts G a.sheet.areas.now a.sheet.labels.now a.sheet.basins.now)) (page_outside G a.page c.loop-cell.cell c.if-sheet-cell-eq0.true)
+          ∙ c.loop-cell.invariant.1,
     )
 
-pub label_at-label-requires : goal.label_at-label-requires
-label_at-label-requires c =
-    let on = c.loop-cell-test.true in
-    omega (arith, on, c.requires.labels_long)
-
-pub offset_bounds-basins-cell : goal.offset_bounds-basins-cell
-offset_bounds-basins-cell c = omega (arith, small (goal.at.offset_bounds-basins-cell c).Else-seen-page)
-
-pub bounds-basins-cell : goal.bounds-basins-cell
-bounds-basins-cell c = omega arith
-
-pub offset_bounds-areas-cell : goal.offset_bounds-areas-cell
-offset_bounds-areas-cell c = omega (arith, small (goal.at.offset_bounds-areas-cell c).Else-seen-page)
-
-pub bounds-areas-cell : goal.bounds-areas-cell
-bounds-areas-cell c = omega arith
-
-pub overflow_add-seen-then-values_fit : goal.overflow_add-seen-then-values_fit
-overflow_add-seen-then-values_fit c = omega (arith, few (goal.at.overflow_add-seen-then-values_fit c).At-loop-cell)
-
-pub returns-else-values_fit : goal.returns-else-values_fit
-returns-else-values_fit c =
+pub returns-then-not-values_fit : goal.returns-then-not-values_fit
+returns-then-not-values_fit c =
     let a = c.args in
-    sym
-    (cell_too_wide (G (goal.at.returns-else-values_fit c).Start) a.areas.now a.labels.now a.basins.now a.page c.loop-cell.cell
-    c.loop-cell-test.true (page-here (goal.at.returns-else-values_fit c).Else-seen-page) (sym (this-cell (goal.at.returns-else-values_fit c).After-values_fit) ∙ c.if-values_fit.false))
+    let G = grid_of a.sheet in
+    let cell = c.loop-cell.cell in
+    let on = c.loop-cell-test.true in
+    let here = page_on G a.page cell on c.if-sheet-cell-eq0.false c.loop-cell.invariant.0 c.if-seen-page.true in
+    let this = c.values_fit.ensures ∙ ap texts_fit (columns_at a.sheet cell c.values_at.ensures) in
+    sym (cell_too_wide G a.sheet.areas.now a.sheet.labels.now a.sheet.basins.now a.page cell on here (sym this ∙ c.if-not-values_fit.true))
+
+pub overflow_add-seen-in-loop-cell : goal.overflow_add-seen-in-loop-cell
+overflow_add-seen-in-loop-cell c =
+    let G = grid_of c.args.sheet in
+    omega (arith, c.loop-cell.invariant.0, below_few G c.loop-cell.cell, cells_most c.requires.rows_most c.requires.cols_most)
 
 pub loop-cell-preserved : goal.loop-cell-preserved
 loop-cell-preserved c =
     let a = c.args in
-    let on = c.loop-cell-test.true in (
-      omega arith,
-      seen_inside (G (goal.at.loop-cell-preserved c).Start) a.page c.loop-cell.cell on c.if-dirs-cell-eq0.false c.loop-cell.invariant.1,
-      cell_fits_too (G (goal.at.loop-cell-preserved c).Start) a.areas.now a.labels.now a.basins.now a.page c.loop-cell.cell on
-          (page-here (goal.at.loop-cell-preserved c).Else-seen-page) c.loop-cell.invariant.2 (sym (this-cell (goal.at.loop-cell-preserved c).After-values_fit) ∙ c.if-values_fit.true),
+    let G = grid_of a.sheet in
+    let cell = c.loop-cell.cell in
+    let on = c.loop-cell-test.true in
+    let ne = c.if-sheet-cell-eq0.false in
+    let seen = c.loop-cell.invariant.0 in (
+      seen_inside G a.page cell on ne seen,
+      elim c.if-seen-page.branch [
+        | then-seen-page+else-not-values_fit w ↦
+            let this = w.values_fit.ensures ∙ ap texts_fit (columns_at a.sheet cell w.values_at.ensures) in
+            cell_fits_too G a.sheet.areas.now a.sheet.labels.now a.sheet.basins.now a.page cell on
+            (page_on G a.page cell on ne seen w.if-seen-page.true) c.loop-cell.invariant.1 (sym this ∙ w.if-not-values_fit.false)
+        | else-seen-page w ↦
+            ap (all_fit (cell_texts G a.sheet.areas.now a.sheet.labels.now a.sheet.basins.now)) (page_off G a.page cell on ne seen w.if-seen-page.false)
+            ∙ c.loop-cell.invariant.1
+      ],
     )
 
 pub returns : goal.returns
 unfolding page_fits inside_cells
 returns c =
-    let e : c.loop-cell.cell ≡ c.args.rows * c.args.cols = omega arith in
-    sym c.loop-cell.invariant.2 ∙ ap (λ (k : ℕ). all_fit (texts (goal.at.returns c).Start) (page_cells c.args.page (inside_below (G (goal.at.returns c).Start) k))) e
+    let a = c.args in
+    let G = grid_of a.sheet in
+    let e : c.loop-cell.cell ≡ a.sheet.rows * a.sheet.cols = omega arith in
+    sym c.loop-cell.invariant.1
+    ∙ ap (λ (k : ℕ). all_fit (cell_texts G a.sheet.areas.now a.sheet.labels.now a.sheet.basins.now) (page_cells a.page (inside_below G k))) e

@@ -1,40 +1,25 @@
--- `first_missing` meets its contract. The invariant: the first place from i on that is 0 is the first of all. The
--- measure: the places left.
-use native.Mathlib.Omega.{arith}
-use mathlib.Core.Path.{refl, sym, ◌∙◌}
-use lib.ListN.{get_or}
-use borrow.Author.Tests.{lt-ltb}
-use Rattle.plan.proofs.Come.{missing_end, missing_here, missing_later}
+-- `first_missing` meets its contract: the search finds the place of the first unit that has not come.
+use Rattle.std.proofs.Common.{rules, tests, ◌≡◌, sym, ap, ◌∙◌}
+use native.Mathlib.Numerals.{add-one}
+use Rattle.std.proofs.lemmas.Iterator.{YieldsList-from_slice}
+use Rattle.std.proofs.lemmas.Iterator.Adapters.{position_from-zero}
+use Rattle.std.proofs.lemmas.Iterator.Search.{position_from_yields_List}
+use Rattle.plan.specs.Steps.{missing_in}
+use Rattle.plan.proofs.Come.{missing_at, is_zero, missing_found}
 use Rattle.plan.proofs.first_missing.Goals as goal
+use Rattle.plan.proofs.first_missing.Goals.{After-position}
 
-pub loop-i-init : goal.loop-i-init
-loop-i-init c = refl
-
-pub offset_bounds-work-i : goal.offset_bounds-work-i
-offset_bounds-work-i c = omega arith
-
-pub bounds-work-i : goal.bounds-work-i
-bounds-work-i c = omega arith
-
-pub overflow_add-result : goal.overflow_add-result
-overflow_add-result c = omega arith
-
-pub returns-then-work-i-eq0 : goal.returns-then-work-i-eq0
-returns-then-work-i-eq0 c =
-    sym (missing_here _ _ c.loop-i-test.true c.if-work-i-eq0.true) ∙ c.loop-i.invariant
-
-pub overflow_add-i : goal.overflow_add-i
-overflow_add-i c = omega arith
-
-pub loop-i-smaller : goal.loop-i-smaller
-loop-i-smaller c = omega arith
-
-pub loop-i-preserved : goal.loop-i-preserved
-loop-i-preserved c =
+found : (c : After-position) → missing_at c.position.result ≡ missing_in 0 c.args.work.now
+found c =
     let work = c.args.work.now in
-    let i = c.loop-i.i in
-    missing_later work i c.loop-i-test.true (lt-ltb 0 (get_or work i 0) (omega arith))
-    ∙ c.loop-i.invariant
+    ap missing_at (position_from_yields_List is_zero c.position.new.self _ c.position.result c.position.ensures.ran
+    (YieldsList-from_slice work cc) (λ x b q k. search (rules, tests))
+    ∙ position_from-zero is_zero work)
+    ∙ sym (missing_found 0 work)
 
-pub returns : goal.returns
-returns c = sym (missing_end _ _ c.loop-i-test.false) ∙ c.loop-i.invariant
+pub returns-in-Some : goal.returns-in-Some
+returns-in-Some c =
+    rw (add-one c.in-Some.place) (ap missing_at (sym c.in-Some.is) ∙ found (goal.at.returns-in-Some c).After-position)
+
+pub returns-in-None : goal.returns-in-None
+returns-in-None c = ap missing_at (sym c.in-None.is) ∙ found (goal.at.returns-in-None c).After-position

@@ -1,25 +1,23 @@
--- `judge_place` meets its contract, in each arm.
-use mathlib.Core.Path.{sym, ◌∙◌}
-use Rattle.plan.proofs.Judging.{judged_by, judged_unknown}
+-- `judge_place` meets its contract: as `judge_unit` for the place of the unit in the index, 20 where it has none.
+use mathlib.Core.Path.{sym, ap, ◌∙◌}
+use Rattle.std.specs.Prelude.{Err}
+use Rattle.sheet.specs.Record.{labels_in}
+use Rattle.plan.proofs.Judging.{outcome_then, work_then, judged_by, judged_unknown}
 use Rattle.plan.proofs.judge_place.Goals as goal
 
-pub place_of-requires : goal.place_of-requires
-place_of-requires c = c.requires.judged.rising
+pub returns-in_default : goal.returns-in_default
+returns-in_default c =
+    let a = c.args in
+    let unknown = judged_by (labels_in a.index.now) a.p a.work.now _ (sym c.place_of.ensures ∙ c.in_default.is)
+    ∙ judged_unknown (labels_in a.index.now) a.p a.work.now in record {
+      answer = ap Err c.numbered.ensures ∙ outcome_then unknown;
+      work = work_then unknown;
+    }
 
-pub judge_unit-requires : goal.judge_unit-requires
-judge_unit-requires c = record {
-  judged = c.requires.judged;
-  p_value = sym c.place_of.ensures ∙ c.in-At.is;
-  work_len = c.requires.work_len;
-  spans = c.requires.spans;
-}
-
-pub returns-in-Nothing : goal.returns-in-Nothing
-returns-in-Nothing c =
-    sym (judged_by _ _ _ _ (sym c.place_of.ensures ∙ c.in-Nothing.is) ∙ judged_unknown _ _ _)
-
-pub returns-in-At : goal.returns-in-At
-returns-in-At c =
-    c.judge_unit.ensures
-    ∙ sym (judged_by _ _ _ _
-    (sym c.place_of.ensures ∙ c.in-At.is))
+pub returns : goal.returns
+returns c =
+    let a = c.args in
+    let known = judged_by (labels_in a.index.now) a.p a.work.now _ (sym c.place_of.ensures ∙ c.in-Some.is) in record {
+      answer = c.judge_unit.ensures.answer ∙ outcome_then known;
+      work = c.judge_unit.ensures.work ∙ work_then known;
+    }

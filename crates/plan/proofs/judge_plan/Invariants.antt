@@ -1,5 +1,4 @@
 use mathlib.Core.Path.{◌≡◌}
-use Prim.Native.Nat.{◌-◌}
 use lib.ListN.{drop}
 use Rattle.sheet.specs.Record.{labels_in}
 use Rattle.plan.specs.Steps.{plan_judged}
@@ -10,6 +9,3 @@ abbrev pub invariant-loop-k : goal.invariant-loop-k
 invariant-loop-k l =
     (plan_judged (labels_in l.index) l.k (drop l.k (labels_in l.plan)) l.work ≡ plan_judged (labels_in l.index) 0 (labels_in l.plan) l.initial.work)
     × WorkFor (labels_in l.index) l.work
-
-abbrev pub decreases-loop-k : goal.decreases-loop-k
-decreases-loop-k l = l.places - l.k

@@ -2,7 +2,6 @@
 use mathlib.Core.Path.{◌≡◌, sym, ◌∙◌}
 use Prim.Native.Nat.{◌+◌, ◌*◌, ◌<◌, ◌≤◌}
 use native.Mathlib.Omega.{arith}
-use Rattle.sheet.specs.declared.End.TheVariants.{At}
 use Rattle.sheet.specs.Sheet.{grid}
 use Rattle.directions.specs.Steps.{neighbour_against}
 use Rattle.sheet.proofs.Cells.{cells_most, cell_lt}
@@ -10,7 +9,8 @@ use Rattle.directions.proofs.Neighbours.{neighbour_lt}
 use Rattle.upstream.proofs.Queues.{end_on}
 use Rattle.upstream.proofs.Spreading.{donors_off, donors_old, donors_new}
 use Rattle.upstream.proofs.push_donor.Goals as goal
-use Rattle.upstream.proofs.push_donor.Goals.{In-At, Start}
+use Rattle.upstream.proofs.push_donor.Goals.{In-Some, Start}
+use Rattle.std.specs.Prelude.{Some}
 
 pub neighbour_against-requires : goal.neighbour_against-requires
 neighbour_against-requires c = let p = c.requires in (p.0.sized, p.0.on, p.1)
@@ -21,24 +21,24 @@ returns-in_default c =
     (sym c.neighbour_against.ensures ∙ c.in_default.is)
 
 -- the donor, which lies on the sheet
-found : (c : In-At)
+found : (c : In-Some)
     → let a =
     c.args in neighbour_against
-    (grid a.rows a.cols a.dirs.now) a.row a.col a.k ≡ At c.in-At.donor
-found c = sym c.neighbour_against.ensures ∙ c.in-At.is
+    (grid a.grid.rows a.grid.cols a.grid.dirs.now) a.row a.col a.k ≡ Some c.in-Some.donor
+found c = sym c.neighbour_against.ensures ∙ c.in-Some.is
 
-donor-on : (c : In-At)
+donor-on : (c : In-Some)
     → let a =
-    c.args in c.in-At.donor < a.rows * a.cols
+    c.args in c.in-Some.donor < a.grid.rows * a.grid.cols
 donor-on c =
     let a = c.args in
-    neighbour_lt (grid a.rows a.cols a.dirs.now) a.row a.col a.k (found c)
+    neighbour_lt (grid a.grid.rows a.grid.cols a.grid.dirs.now) a.row a.col a.k (found c)
 
 -- the cell, which lies on the sheet
-on_sheet_lem : (c : Start) → c.args.row * c.args.cols + c.args.col < c.args.rows * c.args.cols
+on_sheet_lem : (c : Start) → c.args.row * c.args.grid.cols + c.args.col < c.args.grid.rows * c.args.grid.cols
 on_sheet_lem c = cell_lt c.requires.0.on.row_on c.requires.0.on.col_on
 
-cells_fit : (c : Start) → c.args.rows * c.args.cols ≤ 65536
+cells_fit : (c : Start) → c.args.grid.rows * c.args.grid.cols ≤ 65536
 cells_fit c = cells_most c.requires.0.sized.rows_most c.requires.0.sized.cols_most
 
 pub overflow_mul-n-2 : goal.overflow_mul-n-2
@@ -54,7 +54,7 @@ pub bounds-work-n : goal.bounds-work-n
 bounds-work-n c =
     omega (
       arith,
-      donor-on (goal.at.bounds-work-n c).In-At,
+      donor-on (goal.at.bounds-work-n c).In-Some,
       c.requires.0.upstream.queue.room,
     )
 
@@ -85,7 +85,7 @@ overflow_add-row-then-work-n-eq0 c =
 pub push-requires : goal.push-requires
 push-requires c =
     let q = c.requires.0.upstream.queue in
-    let on = donor-on (goal.at.push-requires c).In-At in (
+    let on = donor-on (goal.at.push-requires c).In-Some in (
       q.room,
       cells_fit (goal.at.push-requires c).Start,
       end_on q _ on c.if-work-n-eq0.true,
@@ -102,11 +102,11 @@ returns-then-work-n-eq0 c =
       c.push.ensures.0,
       c.push.ensures.1,
     ) (donors_new c.requires.0 _
-    (found (goal.at.returns-then-work-n-eq0 c).In-At)
+    (found (goal.at.returns-then-work-n-eq0 c).In-Some)
     c.requires.1
     c.if-work-n-eq0.true)
 
 pub returns-else-work-n-eq0 : goal.returns-else-work-n-eq0
 returns-else-work-n-eq0 c =
-    donors_old c.requires.0 _ (found (goal.at.returns-else-work-n-eq0 c).In-At)
+    donors_old c.requires.0 _ (found (goal.at.returns-else-work-n-eq0 c).In-Some)
     (omega (arith, c.if-work-n-eq0.false))

@@ -11,20 +11,20 @@ use Rattle.upstream.proofs.push_donors.Goals.{Start}
 
 -- the column is what the division leaves
 col_is : (c : Start)
-    → let a = c.args in a.cell - (a.cell / a.cols) * a.cols ≡ a.cell % a.cols
-col_is c = omega (arith, div-add-mod' c.args.cell c.args.cols)
+    → let a = c.args in a.cell - (a.cell / a.grid.cols) * a.grid.cols ≡ a.cell % a.grid.cols
+col_is c = omega (arith, div-add-mod' c.args.cell c.args.grid.cols)
 
 ready : (c : Start)
     → let a =
-    c.args in Ready (grid a.rows a.cols a.dirs.now) a.work.now a.end (a.cell / a.cols)
-    (a.cell - (a.cell / a.cols) * a.cols)
+    c.args in Ready (grid a.grid.rows a.grid.cols a.grid.dirs.now) a.work.now a.end (a.cell / a.grid.cols)
+    (a.cell - (a.cell / a.grid.cols) * a.grid.cols)
 ready c = rw (col_is c) c.requires.1
 
 pub overflow_mul-col : goal.overflow_mul-col
-overflow_mul-col c = omega (arith, div-add-mod' c.args.cell c.args.cols)
+overflow_mul-col c = omega (arith, div-add-mod' c.args.cell c.args.grid.cols)
 
 pub overflow_sub-col : goal.overflow_sub-col
-overflow_sub-col c = omega (arith, div-add-mod' c.args.cell c.args.cols)
+overflow_sub-col c = omega (arith, div-add-mod' c.args.cell c.args.grid.cols)
 
 pub loop-k-init : goal.loop-k-init
 loop-k-init c = (omega arith, refl, donors_start (ready (goal.at.loop-k-init c).Start))
@@ -51,9 +51,9 @@ returns c =
     let a = c.args in
     let r = ready (goal.at.returns c).Start in
     let e : c.loop-k.k ≡ 8 = omega arith in
-    let is : (a.cell / a.cols) * a.cols + (a.cell - (a.cell / a.cols) * a.cols) ≡ a.cell = omega (
+    let is : (a.cell / a.grid.cols) * a.grid.cols + (a.cell - (a.cell / a.grid.cols) * a.grid.cols) ≡ a.cell = omega (
       arith,
       col_is (goal.at.returns c).Start,
-      div-add-mod' a.cell a.cols,
+      div-add-mod' a.cell a.grid.cols,
     ) in
     all_pushed c.requires.0 r.on is (rw e at c.loop-k.invariant.2)

@@ -11,15 +11,15 @@ use Rattle.upstream.proofs.push_outlet.Goals as goal
 use Rattle.upstream.proofs.push_outlet.Goals.{Start, Then-is_outlet}
 
 abbrev cell : Start → ℕ
-cell c = c.args.row * c.args.cols + c.args.col
+cell c = c.args.row * c.args.grid.cols + c.args.col
 
 abbrev cell-Then-is_outlet : Then-is_outlet → ℕ
-cell-Then-is_outlet c = c.args.row * c.args.cols + c.args.col
+cell-Then-is_outlet c = c.args.row * c.args.grid.cols + c.args.col
 
-on_sheet_lem : (c : Start) → cell c < c.args.rows * c.args.cols
+on_sheet_lem : (c : Start) → cell c < c.args.grid.rows * c.args.grid.cols
 on_sheet_lem c = cell_lt c.requires.1.row_on c.requires.1.col_on
 
-cells_fit : (c : Start) → c.args.rows * c.args.cols ≤ 65536
+cells_fit : (c : Start) → c.args.grid.rows * c.args.grid.cols ≤ 65536
 cells_fit c = cells_most c.requires.0.rows_most c.requires.0.cols_most
 
 pub overflow_mul-row : goal.overflow_mul-row
@@ -40,7 +40,7 @@ overflow_add-row c =
 
 is : (c : Then-is_outlet)
     → let a =
-    c.args in is_outlet (grid a.rows a.cols a.dirs.now)
+    c.args in is_outlet (grid a.grid.rows a.grid.cols a.grid.dirs.now)
     (cell-Then-is_outlet c) ≡ true
 is c = sym c.is_outlet.ensures ∙ c.if-is_outlet.true
 

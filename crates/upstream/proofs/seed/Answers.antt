@@ -8,7 +8,7 @@ use Rattle.upstream.proofs.seed.Goals as goal
 pub loop-row-init : goal.loop-row-init
 loop-row-init c =
     let a = c.args in
-    let e : 0 * a.cols ≡ 0 = omega arith in
+    let e : 0 * a.grid.cols ≡ 0 = omega arith in
     (omega arith, refl, rw e (seeded_start _ c.requires.1), refl)
 
 pub seed_row-end-requires : goal.seed_row-end-requires
@@ -29,5 +29,5 @@ shape_of-work c = c.loop-row.invariant.1
 
 pub returns : goal.returns
 returns c =
-    let e : c.loop-row.row ≡ c.args.rows = omega arith in
+    let e : c.loop-row.row ≡ c.args.grid.rows = omega arith in
     (rw e at c.loop-row.invariant.2, c.loop-row.invariant.3)

@@ -8,7 +8,7 @@ use Rattle.upstream.proofs.seed_row.Goals as goal
 pub loop-col-init : goal.loop-col-init
 loop-col-init c =
     let a = c.args in
-    let e : a.row * a.cols + 0 ≡ a.row * a.cols = omega arith in
+    let e : a.row * a.grid.cols + 0 ≡ a.row * a.grid.cols = omega arith in
     (omega arith, refl, rw e c.requires.2, refl)
 
 pub push_outlet-last-requires : goal.push_outlet-last-requires
@@ -23,7 +23,7 @@ pub loop-col-preserved : goal.loop-col-preserved
 loop-col-preserved c =
     let a = c.args in
     let l = c.loop-col in
-    let e : a.row * a.cols + (l.col + 1) ≡ a.row * a.cols + l.col + 1 = omega arith in (
+    let e : a.row * a.grid.cols + (l.col + 1) ≡ a.row * a.grid.cols + l.col + 1 = omega arith in (
       omega arith,
       c.push_outlet-last.auto.work ∙ l.invariant.1,
       rw e c.push_outlet-last.ensures.0,
@@ -37,5 +37,5 @@ pub returns : goal.returns
 returns c =
     let a = c.args in
     let l = c.loop-col in
-    let e : a.row * a.cols + l.col ≡ (a.row + 1) * a.cols = omega (arith, row_end a.row a.cols) in
+    let e : a.row * a.grid.cols + l.col ≡ (a.row + 1) * a.grid.cols = omega (arith, row_end a.row a.grid.cols) in
     (rw (← e) l.invariant.2, l.invariant.3)

@@ -13,11 +13,11 @@ loop-head-init c = (omega arith, refl, c.requires.2, refl)
 
 -- the queue ends within the sheet's cells
 end_most : (c : At-loop-head)
-    → c.loop-head.end ≤ c.args.rows * c.args.cols
+    → c.loop-head.end ≤ c.args.grid.rows * c.args.grid.cols
 end_most c = queued_most c.loop-head.invariant.2.upstream.queue
 
 cells_fit : (c : At-loop-head)
-    → c.args.rows * c.args.cols ≤ 65536
+    → c.args.grid.rows * c.args.grid.cols ≤ 65536
 cells_fit c = cells_most c.requires.0.rows_most c.requires.0.cols_most
 
 pub offset_bounds-work-head : goal.offset_bounds-work-head

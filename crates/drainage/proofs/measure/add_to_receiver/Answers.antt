@@ -1,15 +1,11 @@
 -- `add_to_receiver` meets its contract.
 use mathlib.Core.Path.{◌≡◌}
-use Prim.Native.Nat.{ℕ, ◌+◌, ◌*◌, ◌-◌, ◌<◌}
+use Prim.Native.Nat.{ℕ, ◌+◌, ◌-◌, ◌<◌}
 use native.Mathlib.Omega.{arith}
-use Rattle.upstream.specs.Work.{receivers_part, receiver_of}
+use Rattle.upstream.specs.Work.{receiver_of}
 use Rattle.drainage.proofs.Gathering.{added_none, added_some}
 use Rattle.drainage.proofs.measure.add_to_receiver.Goals as goal
 use Rattle.drainage.proofs.measure.add_to_receiver.Goals.{Then-receiver-ne0}
-
-pub overflow_cast-receiver : goal.overflow_cast-receiver
-overflow_cast-receiver c =
-    omega (arith, c.type_inv.work (receivers_part * c.args.n + c.args.cell))
 
 abbrev receiver : Then-receiver-ne0 → ℕ
 receiver c =
@@ -22,21 +18,8 @@ is c = omega (arith, c.if-receiver-ne0.true)
 on : (c : Then-receiver-ne0) → receiver c - 1 < c.args.n
 on c = c.requires.receiver_on (receiver c - 1) (is c)
 
-pub offset_bounds-totals-to : goal.offset_bounds-totals-to
-offset_bounds-totals-to c = omega (arith, on c, c.requires.room)
-
 pub bounds-totals-to : goal.bounds-totals-to
 bounds-totals-to c = omega (arith, on (goal.at.bounds-totals-to c).Then-receiver-ne0, c.requires.room)
-
-pub overflow_add-totals : goal.overflow_add-totals
-overflow_add-totals c =
-    omega (
-      arith,
-      c.requires.fits (receiver (goal.at.overflow_add-totals c).Then-receiver-ne0 - 1) (is (goal.at.overflow_add-totals c).Then-receiver-ne0),
-    )
-
-pub offset_bounds-totals-to-then-receiver-ne0 : goal.offset_bounds-totals-to-then-receiver-ne0
-offset_bounds-totals-to-then-receiver-ne0 c = omega (arith, on (goal.at.offset_bounds-totals-to-then-receiver-ne0 c).Then-receiver-ne0, c.requires.room)
 
 pub bounds-totals-to-then-receiver-ne0 : goal.bounds-totals-to-then-receiver-ne0
 bounds-totals-to-then-receiver-ne0 c = omega (arith, on (goal.at.bounds-totals-to-then-receiver-ne0 c).Then-receiver-ne0, c.requires.room)

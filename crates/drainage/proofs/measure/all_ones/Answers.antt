@@ -1,27 +1,24 @@
--- `all_ones` meets its contract: before each turn the weights of the rows before it are 1, and one that is not decides.
-use mathlib.Core.Path.{◌≡◌, sym}
-use native.Mathlib.Numerals.{add-one}
-use native.Mathlib.Omega.{arith}
-use borrow.Author.Tests.{eq-eqb, ne_eqb}
-use Rattle.drainage.proofs.Ones.{ones_none, ones_more, ones_not}
+-- `all_ones` meets its contract: `all` says whether each row's weight is 1.
+use Rattle.std.proofs.Common.{rules, ◌≡◌, ◌≤◌, List, ℕ, Bool, true, length, get_or, take, arith}
+use Rattle.std.specs.Prelude.{◌↔◌, EachIndex}
+use Rattle.std.specs.Cmp.{both_ways}
+use Rattle.std.proofs.lemmas.List.{get_or-take, length-take-le}
+use Rattle.drainage.specs.Total.{all_ones}
+use Rattle.drainage.proofs.Ones.{ones_all, ones_at}
 use Rattle.drainage.proofs.measure.all_ones.Goals as goal
 
-pub loop-row-init : goal.loop-row-init
-loop-row-init c = (omega arith, ones_none _, λ l n. sym (ones_not _ _ _ l (ne_eqb _ _ n)))
+-- of the first weights, cut off from the others
+abbrev EachOne : List ℕ → Type 0
+EachOne first = EachIndex first (λ row. get_or first row 0 ≡ 1)
 
-pub bounds-weights-row : goal.bounds-weights-row
-bounds-weights-row c = omega arith
-
-pub loop-row-preserved : goal.loop-row-preserved
-loop-row-preserved c =
-    let l = c.loop-row in (
-      omega arith,
-      rw (add-one l.row) (ones_more _ l.row l.invariant.1 (eq-eqb _ _ (omega arith))),
-      λ k n. sym (ones_not _ _ _ k (ne_eqb _ _ n)),
-    )
+of_each : (rows : ℕ) (weights : List ℕ) (answer : Bool) → rows ≤ length weights
+    → answer ≡ true ↔ EachOne (take rows weights) → answer ≡ all_ones rows weights
+of_each rows weights answer room each =
+    let long : length (take rows weights) ≡ rows = length-take-le rows weights room in
+    both_ways answer (all_ones rows weights)
+    (λ t. ones_all weights rows (λ row l. grind (arith, each.0 t row, get_or-take rows weights row 0)))
+    (λ t. each.1 (λ row l. grind (arith, ones_at weights rows t row, get_or-take rows weights row 0)))
 
 pub returns : goal.returns
 returns c =
-    let l = c.loop-row in
-    let e : l.row ≡ c.args.rows = omega arith in
-    sym (rw e at l.invariant.1)
+    of_each c.args.rows c.args.weights.now c.all.result c.requires (search rules)

@@ -14,7 +14,7 @@ use Rattle.drainage.proofs.measure.areas.Goals.{After-own_weights}
 own : (c : After-own_weights)
     → let a =
     c.args in c.own_weights.new.totals ≡ filled
-    (own_values a.dirs.now (row_weight a.cols a.weights.now)) (a.rows * a.cols) a.areas.now
+    (own_values a.grid.dirs.now (row_weight a.grid.cols a.weights.now)) (a.grid.rows * a.grid.cols) a.areas.now
 own c = c.own_weights.ensures ∙ sym (filled_written _ _ _)
 
 pub gather-requires : goal.gather-requires
@@ -22,8 +22,8 @@ gather-requires c =
     let p = c.requires in
     let a = c.args in
     rw (own (goal.at.gather-requires c).After-own_weights)
-    (own_gathers p.1 (row_weight a.cols a.weights.now) _
-    (λ q l. (weight_bounds _ (fits_at a.rows a.weights.now p.2.fit _ (row_lt p.0.cols_some l))).1)
+    (own_gathers p.1 (row_weight a.grid.cols a.weights.now) _
+    (λ q l. (weight_bounds _ (fits_at a.grid.rows a.weights.now p.2.fit _ (row_lt p.0.cols_some l))).1)
     (cells_most p.0.rows_most p.0.cols_most) p.3)
 
 pub returns : goal.returns

@@ -1,73 +1,55 @@
--- `gather` meets its contract: before each turn the totals are gathered down to the place i of the queue.
-use mathlib.Core.Path.{◌≡◌, subst}
-use Prim.Native.Nat.{ℕ, ◌+◌, ◌-◌, ◌<◌}
+-- `gather` meets its contract: before each turn the totals are gathered down to the cells of the queue that are left.
+use mathlib.Core.Path.{◌≡◌, sym, ◌∙◌, ap}
+use mathlib.Core.List.{List, [], ◌∷◌}
+use Prim.Native.Nat.{ℕ, ◌+◌, ◌<◌}
 use native.Mathlib.Omega.{arith}
+use lib.ListN.{length, take, get_or, length-append}
+use lib.Seq.{length-take-le}
+use Rattle.std.proofs.Common.{rules}
 use Rattle.upstream.proofs.Queues.{queued_most}
-use Rattle.drainage.proofs.Gathering.{Gathered, gathered_start, gathered_more, gathered_end, adds}
+use Rattle.drainage.proofs.Gathering.{Gathered, gathered_start, gathered_more, gathered_end, adds, last_left}
 use Rattle.drainage.proofs.measure.gather.Goals as goal
-use Rattle.drainage.proofs.measure.gather.Goals.{In-loop-i}
+use Rattle.drainage.proofs.measure.gather.Goals.{In-Some}
 
-pub loop-i-init : goal.loop-i-init
-loop-i-init c = (omega arith, gathered_start c.requires)
-
--- the place before i
-on : (c : In-loop-i) → c.loop-i.i - 1 < c.args.queued
-on c = omega arith
-
-gathered : (c : In-loop-i)
-    → let a =
-    c.args in Gathered a.n a.work.now (c.loop-i.i - 1 + 1)
-    a.totals.now c.loop-i.totals
-gathered c =
+pub loop-cell-init : goal.loop-cell-init
+loop-cell-init c =
     let a = c.args in
-    let e : c.loop-i.i ≡ c.loop-i.i - 1 + 1 = omega arith in
-    subst (λ (i : ℕ). Gathered a.n a.work.now i a.totals.now c.loop-i.totals) e
-    c.loop-i.invariant.1
+    let left = c.into_iter-cell-iterator.result.iter.rest.now in
+    let all : left ≡ take a.queued a.work.now = search rules in
+    let long : length left ≡ a.queued = ap length all ∙ length-take-le a.queued a.work.now
+    (omega (arith, queued_most c.requires.queue, c.requires.queue.room)) in
+    (all ∙ ap (λ (k : ℕ). take k a.work.now) (sym long), omega arith, rw long (gathered_start c.requires))
 
-pub overflow_sub-i : goal.overflow_sub-i
-overflow_sub-i c = omega arith
+-- the cell that is taken, and those that are left after it
+module _ (c : In-Some) where
+  abbrev left : List ℕ
+  left = c.next.new.self.iter.rest.now
 
-pub offset_bounds-work-i : goal.offset_bounds-work-i
-offset_bounds-work-i c =
-    omega (
-      arith,
-      on c,
-      queued_most c.requires.queue,
-      c.requires.queue.room,
-    )
+  one : length c.loop-cell.cell-iterator.iter.rest.now ≡ length left + 1
+  one = ap length c.in-Some.ensures.steps ∙ length-append left (c.in-Some.cell.now ∷ [])
 
-pub bounds-work-i : goal.bounds-work-i
-bounds-work-i c =
-    omega (
-      arith,
-      on (goal.at.bounds-work-i c).In-loop-i,
-      queued_most c.requires.queue,
-      c.requires.queue.room,
-    )
+  last : (left ≡ take (length left) c.args.work.now) × (c.in-Some.cell.now ≡ get_or c.args.work.now (length left) 0)
+  last = last_left c.args.work.now left c.in-Some.cell.now (rw c.in-Some.ensures.steps at c.loop-cell.invariant.0)
 
-pub overflow_cast-work : goal.overflow_cast-work
-overflow_cast-work c = omega (arith, c.type_inv.work (c.loop-i.i - 1))
+  on : length left < c.args.queued
+  on = omega (arith, one)
+
+  gathered : Gathered c.args.n c.args.work.now (length left + 1) c.args.totals.now c.loop-cell.totals
+  gathered = rw one at c.loop-cell.invariant.2
 
 pub add_to_receiver-requires : goal.add_to_receiver-requires
 add_to_receiver-requires c =
-    adds c.requires (on (goal.at.add_to_receiver-requires c).In-loop-i)
-    (gathered (goal.at.add_to_receiver-requires c).In-loop-i)
+    let at = (goal.at.add_to_receiver-requires c).In-Some in
+    rw (last at).1 (adds c.requires (on at) (gathered at))
 
-pub loop-i-smaller : goal.loop-i-smaller
-loop-i-smaller c = omega arith
-
-pub loop-i-preserved : goal.loop-i-preserved
-loop-i-preserved c = (
-  omega arith,
-  rw c.add_to_receiver.ensures
-      (gathered_more c.requires
-      (on (goal.at.loop-i-preserved c).In-loop-i) (gathered (goal.at.loop-i-preserved c).In-loop-i)),
-)
-
-pub shape_of-totals : goal.shape_of-totals
-shape_of-totals c = c.loop-i.invariant.1.long
+pub loop-cell-preserved : goal.loop-cell-preserved
+loop-cell-preserved c =
+    let at = (goal.at.loop-cell-preserved c).In-Some in
+    let less : length (left at) < c.args.queued = on at in (
+      (last at).0,
+      omega arith,
+      rw (c.add_to_receiver.ensures, (last at).1) (gathered_more c.requires (on at) (gathered at)),
+    )
 
 pub returns : goal.returns
-returns c =
-    let e : c.loop-i.i ≡ 0 = omega arith in
-    gathered_end c.requires (rw e at c.loop-i.invariant.1)
+returns c = gathered_end c.requires (rw c.in-None.ensures.steps.0 at c.loop-cell.invariant.2)

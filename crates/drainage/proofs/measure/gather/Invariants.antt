@@ -1,9 +1,12 @@
-use Prim.Native.Nat.{◌≤◌}
+use mathlib.Core.Path.{◌≡◌}
+use mathlib.Core.List.{List}
+use Prim.Native.Nat.{ℕ, ◌≤◌}
+use lib.ListN.{length, take}
 use Rattle.drainage.proofs.Gathering.{Gathered}
 use Rattle.drainage.proofs.measure.gather.Given as goal
 
-abbrev pub invariant-loop-i : goal.invariant-loop-i
-invariant-loop-i l = (l.i ≤ l.queued) × Gathered l.n l.work l.i l.initial.totals l.totals
-
-abbrev pub decreases-loop-i : goal.decreases-loop-i
-decreases-loop-i l = l.i
+-- the cells of the queue that are left
+abbrev pub invariant-loop-cell : goal.invariant-loop-cell
+invariant-loop-cell l =
+    let left : List ℕ = l.cell-iterator.iter.rest.now in
+    (left ≡ take (length left) l.work) × (length left ≤ l.queued) × Gathered l.n l.work (length left) l.initial.totals l.totals

@@ -35,7 +35,7 @@ areas-requires c =
 pub returns : goal.returns
 returns c =
     let a = c.args in
-    let G = grid a.rows a.cols a.dirs.now in (
+    let G = grid a.grid.rows a.grid.cols a.grid.dirs.now in (
       c.sizes.ensures.0,
       λ S s w. (rw c.sizes.ensures.1 at (c.areas.ensures S s w))
           ∙ written_over (areas_of S) (sizes_of G) a.lent_areas.now

@@ -16,13 +16,13 @@ use Rattle.drainage.proofs.measure.own_weights.Goals.{After-loop-row, In-loop-ro
 
 -- the row under way ends on the sheet
 row_on : (c : In-loop-row)
-    → let a = c.args in c.loop-row.row * a.cols + a.cols ≤ a.rows * a.cols
+    → let a = c.args in c.loop-row.row * a.grid.cols + a.grid.cols ≤ a.grid.rows * a.grid.cols
 row_on c =
     let a = c.args in
-    let l : c.loop-row.row + 1 ≤ a.rows = omega (arith, c.loop-row-test.true) in
-    rw (row_end c.loop-row.row a.cols) (mul-le-mul_right a.cols l)
+    let l : c.loop-row.row + 1 ≤ a.grid.rows = omega (arith, c.loop-row-test.true) in
+    rw (row_end c.loop-row.row a.grid.cols) (mul-le-mul_right a.grid.cols l)
 
-few : (c : In-loop-row) → let a = c.args in a.rows * a.cols ≤ 65536
+few : (c : In-loop-row) → let a = c.args in a.grid.rows * a.grid.cols ≤ 65536
 few c = let p = c.requires in cells_most p.0.rows_most p.0.cols_most
 
 long : (c : In-loop-row) → length c.loop-row.totals ≡ length c.args.totals.now
@@ -30,20 +30,20 @@ long c =
     let a = c.args in
     let l = c.loop-row in
     ap length l.invariant.1
-    ∙ filled_long (own_values a.dirs.now (row_weight a.cols a.weights.now)) (l.row * a.cols) a.totals.now
+    ∙ filled_long (own_values a.grid.dirs.now (row_weight a.grid.cols a.weights.now)) (l.row * a.grid.cols) a.totals.now
     (omega (arith, row_on c, c.requires.2))
 
 pub loop-row-init : goal.loop-row-init
-loop-row-init c = (omega arith, rw (zero-mul c.args.cols) (filled_none _ _))
+loop-row-init c = (omega arith, rw (zero-mul c.args.grid.cols) (filled_none _ _))
 
 pub overflow_mul-first : goal.overflow_mul-first
 overflow_mul-first c = record { fits = omega (arith, row_on c, few c) }
 
 pub slice_bounds-own_values-count : goal.slice_bounds-own_values-count
-slice_bounds-own_values-count c = omega (arith, row_on c, c.requires.0.long)
+slice_bounds-own_values-count c = omega (arith, row_on (goal.at.slice_bounds-own_values-count c).In-loop-row, c.requires.0.long)
 
 pub slice_bounds-own_values-start : goal.slice_bounds-own_values-start
-slice_bounds-own_values-start c = omega (arith, row_on c, c.requires.0.long)
+slice_bounds-own_values-start c = omega (arith, row_on (goal.at.slice_bounds-own_values-start c).In-loop-row, c.requires.0.long)
 
 pub bounds-weights-row : goal.bounds-weights-row
 bounds-weights-row c = omega (arith, c.requires.1)
@@ -70,9 +70,9 @@ rest-long first count l h =
 pub own_values-requires : goal.own_values-requires
 own_values-requires c =
     let a = c.args in
-    let first = c.loop-row.row * a.cols in (
-      rest-long first a.cols a.dirs.now (omega (arith, row_on (goal.at.own_values-requires c).In-loop-row, c.requires.0.long)),
-      rest-long first a.cols c.loop-row.totals (omega (arith, row_on (goal.at.own_values-requires c).In-loop-row, long (goal.at.own_values-requires c).In-loop-row, c.requires.2)),
+    let first = c.loop-row.row * a.grid.cols in (
+      rest-long first a.grid.cols a.grid.dirs.now (omega (arith, row_on (goal.at.own_values-requires c).In-loop-row, c.requires.0.long)),
+      rest-long first a.grid.cols c.loop-row.totals (omega (arith, row_on (goal.at.own_values-requires c).In-loop-row, long (goal.at.own_values-requires c).In-loop-row, c.requires.2)),
     )
 
 -- what the cells of the row add, by their places in the row
@@ -88,31 +88,31 @@ pub loop-row-preserved : goal.loop-row-preserved
 loop-row-preserved c =
     let a = c.args in
     let l = c.loop-row in
-    let first = l.row * a.cols in (
+    let first = l.row * a.grid.cols in (
       omega arith,
       ap (put_mid first (length l.totals - first) l.totals) c.own_values.ensures
-          ∙ filled_part (own_values a.dirs.now (row_weight a.cols a.weights.now)) _ first a.cols
+          ∙ filled_part (own_values a.grid.dirs.now (row_weight a.grid.cols a.weights.now)) _ first a.grid.cols
           a.totals.now l.totals (omega (arith, row_on (goal.at.loop-row-preserved c).In-loop-row, c.requires.2)) l.invariant.1
-          (row-values a.dirs.now a.weights.now l.row a.cols)
-          ∙ ap (λ (k : ℕ). filled (own_values a.dirs.now (row_weight a.cols a.weights.now)) k a.totals.now)
-          (row_end l.row a.cols),
+          (row-values a.grid.dirs.now a.weights.now l.row a.grid.cols)
+          ∙ ap (λ (k : ℕ). filled (own_values a.grid.dirs.now (row_weight a.grid.cols a.weights.now)) k a.totals.now)
+          (row_end l.row a.grid.cols),
     )
 
 -- after the last row
 whole : (c : After-loop-row)
     → let a =
     c.args in c.loop-row.totals ≡ filled
-    (own_values a.dirs.now (row_weight a.cols a.weights.now)) (a.rows * a.cols) a.totals.now
+    (own_values a.grid.dirs.now (row_weight a.grid.cols a.weights.now)) (a.grid.rows * a.grid.cols) a.totals.now
 whole c =
     let l = c.loop-row in
-    let e : l.row ≡ c.args.rows = omega arith in
+    let e : l.row ≡ c.args.grid.rows = omega arith in
     rw e at l.invariant.1
 
 pub shape_of-totals : goal.shape_of-totals
 shape_of-totals c =
     let a = c.args in
     ap length (whole c)
-    ∙ filled_long (own_values a.dirs.now (row_weight a.cols a.weights.now)) (a.rows * a.cols)
+    ∙ filled_long (own_values a.grid.dirs.now (row_weight a.grid.cols a.weights.now)) (a.grid.rows * a.grid.cols)
     a.totals.now c.requires.2
 
 pub returns : goal.returns

@@ -1,13 +1,10 @@
 -- `sizes` meets its contract.
-use mathlib.Core.Path.{◌≡◌, sym, ◌∙◌, ap}
-use Prim.Native.Nat.{◌*◌, ◌-◌}
+use mathlib.Core.Path.{◌≡◌, sym, ◌∙◌}
+use Prim.Native.Nat.{◌*◌}
 use native.Mathlib.Omega.{arith}
-use lib.ListN.{length}
-use borrow.Rule.Slice.PartMut.{put_mid}
 use Rattle.sheet.specs.Sheet.{grid}
 use Rattle.sheet.specs.Refusal.{written}
 use Rattle.sheet.proofs.Cells.{cells_most}
-use Rattle.upstream.specs.Work.{sizes_part}
 use Rattle.drainage.specs.Total.{own_values, sizes_of}
 use Rattle.drainage.proofs.Lists.{filled, filled_written}
 use Rattle.drainage.proofs.Measures.{ones, sizes_long, sizes_written_lem, sizes_put, own_gathers}
@@ -18,14 +15,14 @@ use Rattle.drainage.proofs.measure.sizes.Goals.{After-gather, After-own_values}
 own : (c : After-own_values)
     → let a =
     c.args in c.own_values.new.totals ≡ filled
-    (own_values a.dirs.now ones) (a.rows * a.cols) a.areas.now
+    (own_values a.grid.dirs.now ones) (a.grid.rows * a.grid.cols) a.areas.now
 own c = c.own_values.ensures ∙ sym (filled_written _ _ _)
 
 -- the own counts
 own-After-gather : (c : After-gather)
     → let a =
     c.args in c.own_values.new.totals ≡ filled
-    (own_values a.dirs.now ones) (a.rows * a.cols) a.areas.now
+    (own_values a.grid.dirs.now ones) (a.grid.rows * a.grid.cols) a.areas.now
 own-After-gather c = c.own_values.ensures ∙ sym (filled_written _ _ _)
 
 pub gather-requires : goal.gather-requires
@@ -38,7 +35,7 @@ gather-requires c =
 gathered : (c : After-gather)
     → let a =
     c.args in c.gather.new.totals ≡ written
-    (sizes_of (grid a.rows a.cols a.dirs.now)) a.areas.now
+    (sizes_of (grid a.grid.rows a.grid.cols a.grid.dirs.now)) a.areas.now
 gathered c =
     (rw (own-After-gather c) at c.gather.ensures) ∙ sizes_written_lem
     c.requires.1 _
@@ -46,11 +43,10 @@ gathered c =
 pub returns : goal.returns
 returns c =
     let a = c.args in
-    let G = grid a.rows a.cols a.dirs.now in
-    let n = a.rows * a.cols in (
-      ap (put_mid (sizes_part * n) (length a.work.now - sizes_part * n) a.work.now)
-          c.copy.ensures
-          ∙ sizes_put n a.work.now (sizes_of G) _ a.areas.now c.requires.1.searched.upstream.queue.room
-          (sizes_long G) (gathered (goal.at.returns c).After-gather),
-      gathered (goal.at.returns c).After-gather,
+    let G = grid a.grid.rows a.grid.cols a.grid.dirs.now in
+    let written_sizes = gathered (goal.at.returns c).After-gather in (
+      rw c.copy_from_slice.ensures.after
+          (sizes_put (a.grid.rows * a.grid.cols) a.work.now (sizes_of G) _ a.areas.now c.requires.1.searched.upstream.queue.room
+          (sizes_long G) written_sizes),
+      written_sizes,
     )

@@ -140,12 +140,6 @@ overflow_cast-answers c = omega (arith, number_byte _ _ _ _ _ (answered c))
 pub bounds-answers-i : goal.bounds-answers-i
 bounds-answers-i c = omega (arith, (fit (goal.at.bounds-answers-i c).Start).of_answers, c.loop-i.invariant.same_length)
 
-pub overflow_add-i : goal.overflow_add-i
-overflow_add-i c = omega arith
-
-pub loop-i-smaller : goal.loop-i-smaller
-loop-i-smaller c = omega arith
-
 pub loop-i-preserved : goal.loop-i-preserved
 loop-i-preserved c =
     answering_goes_on _ _ _ _ _ c.loop-i.invariant _ (omega (arith, counted (goal.at.loop-i-preserved c).Start)) (answered c)

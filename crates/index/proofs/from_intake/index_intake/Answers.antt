@@ -1,69 +1,22 @@
--- `index_intake` meets its contract: by the intake's stage.
-use mathlib.Core.Path.{refl}
+-- `index_intake` meets its contract: by whether the intake has ended.
+use mathlib.Core.Path.{refl, sym, ◌∙◌}
 use Rattle.labelling.specs.FromIntake.{intake_lent}
 use Rattle.index.specs.FromIntake.{intake_indexed, intake_index_after}
 use Rattle.index.proofs.from_intake.index_intake.Goals as goal
 
-pub returns-in-WaitingForSizeNames : goal.returns-in-WaitingForSizeNames
+pub returns-in_default : goal.returns-in_default
 unfolding intake_indexed intake_lent intake_index_after
-returns-in-WaitingForSizeNames c = record {
-  answer = rw c.in-WaitingForSizeNames.is refl;
-  values = rw c.in-WaitingForSizeNames.is refl;
-  lent = rw c.in-WaitingForSizeNames.is refl;
-  index = rw c.in-WaitingForSizeNames.is refl;
-}
+returns-in_default c =
+    let none = sym c.ended_sizes.ensures ∙ c.in_default.is in
+    record { answer = rw none (cc); values = rw none (cc); lent = rw none; index = rw none }
 
-pub returns-in-WaitingForSizes : goal.returns-in-WaitingForSizes
+pub returns : goal.returns
 unfolding intake_indexed intake_lent intake_index_after
-returns-in-WaitingForSizes c = record {
-  answer = rw c.in-WaitingForSizes.is refl;
-  values = rw c.in-WaitingForSizes.is refl;
-  lent = rw c.in-WaitingForSizes.is refl;
-  index = rw c.in-WaitingForSizes.is refl;
-}
-
-pub returns-in-WaitingForWeightOrCellNames : goal.returns-in-WaitingForWeightOrCellNames
-unfolding intake_indexed intake_lent intake_index_after
-returns-in-WaitingForWeightOrCellNames c = record {
-  answer = rw c.in-WaitingForWeightOrCellNames.is refl;
-  values = rw c.in-WaitingForWeightOrCellNames.is refl;
-  lent = rw c.in-WaitingForWeightOrCellNames.is refl;
-  index = rw c.in-WaitingForWeightOrCellNames.is refl;
-}
-
-pub returns-in-WaitingForWeight : goal.returns-in-WaitingForWeight
-unfolding intake_indexed intake_lent intake_index_after
-returns-in-WaitingForWeight c = record {
-  answer = rw c.in-WaitingForWeight.is refl;
-  values = rw c.in-WaitingForWeight.is refl;
-  lent = rw c.in-WaitingForWeight.is refl;
-  index = rw c.in-WaitingForWeight.is refl;
-}
-
-pub returns-in-WaitingForCellNames : goal.returns-in-WaitingForCellNames
-unfolding intake_indexed intake_lent intake_index_after
-returns-in-WaitingForCellNames c = record {
-  answer = rw c.in-WaitingForCellNames.is refl;
-  values = rw c.in-WaitingForCellNames.is refl;
-  lent = rw c.in-WaitingForCellNames.is refl;
-  index = rw c.in-WaitingForCellNames.is refl;
-}
-
-pub returns-in-TakingCells : goal.returns-in-TakingCells
-unfolding intake_indexed intake_lent intake_index_after
-returns-in-TakingCells c = record {
-  answer = rw c.in-TakingCells.is refl;
-  values = rw c.in-TakingCells.is refl;
-  lent = rw c.in-TakingCells.is refl;
-  index = rw c.in-TakingCells.is refl;
-}
-
-pub returns-in-Ended : goal.returns-in-Ended
-unfolding intake_indexed intake_lent intake_index_after
-returns-in-Ended c =
+returns c =
+    let some = sym c.ended_sizes.ensures ∙ c.in-Some.is in
     record {
-      answer = rw c.in-Ended.is c.index.ensures.answer;
-      values = rw c.in-Ended.is c.index.ensures.values;
-      lent = rw c.in-Ended.is c.index.ensures.lent;
-      index = rw c.in-Ended.is c.index.ensures.index;
+      answer = rw some c.index.ensures.answer;
+      values = rw some c.index.ensures.values;
+      lent = rw some c.index.ensures.lent;
+      index = rw some c.index.ensures.index;
     }

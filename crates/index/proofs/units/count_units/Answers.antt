@@ -3,30 +3,8 @@
 use mathlib.Core.Path.{ap}
 use native.Mathlib.Omega.{arith}
 use lib.ListN.{length}
-use Rattle.index.proofs.Groups.{one_more, groups_past}
+use Rattle.index.proofs.Groups.{groups_past}
 use Rattle.index.proofs.units.count_units.Goals as goal
-
-pub loop-first-init : goal.loop-first-init
-loop-first-init c = (omega arith, omega arith, omega arith)
-
-pub last_of_group-first-requires : goal.last_of_group-first-requires
-last_of_group-first-requires c = record {
-  cells_labelled = c.requires;
-  first_in_bounds = c.loop-first-test.true;
-}
-
-pub overflow_add-first : goal.overflow_add-first
-overflow_add-first c = omega arith
-
-pub overflow_add-count : goal.overflow_add-count
-overflow_add-count c = omega arith
-
-pub loop-first-smaller : goal.loop-first-smaller
-loop-first-smaller c = omega arith
-
-pub loop-first-preserved : goal.loop-first-preserved
-loop-first-preserved c =
-    let more = one_more _ _ _ c.last_of_group-first.ensures in (omega arith, omega arith, omega arith)
 
 pub returns : goal.returns
 returns c =

@@ -2,12 +2,12 @@
 use mathlib.Core.Path.{◌≡◌, sym, ap, ◌∙◌, refl}
 use Prim.Native.Nat.{ℕ}
 use lib.ListN.{length}
-use Rattle.index.specs.declared.Indexed.TheVariants.{Units}
 use Rattle.index.specs.Index.{LentIndex, lent_index, index_fits}
 use Rattle.index.specs.Steps.{groups_of, Room}
 use Rattle.index.proofs.Room.{fits_room, less_room, room_found, no_room, groups_few}
 use Rattle.index.proofs.units.write_units.Goals as goal
 use Rattle.index.proofs.units.write_units.Goals.{After-index_fits-2, Then-index_fits, Then-index_fits-2}
+use Rattle.std.specs.Prelude.{Ok}
 
 -- what was lent, and how many groups there are
 abbrev lent_at-Then-index_fits : Then-index_fits → LentIndex
@@ -36,7 +36,7 @@ unfolding index_fits
 room-for-cells c =
     let a = c.args in
     less_room _ (groups_few a.cells.now a.labels.now a.basins.now)
-    (fits_room (lent_at-Then-index_fits c) (length a.cells.now) (sym c.index_fits.ensures ∙ c.if-index_fits.true))
+    (fits_room (lent_at-Then-index_fits c) (length a.cells.now) (sym (rw c.label_count-places.ensures at c.index_fits.ensures) ∙ c.if-index_fits.true))
 
 -- the test of as many places as were counted
 fits-counted : (c : After-index_fits-2)
@@ -44,7 +44,7 @@ fits-counted : (c : After-index_fits-2)
 unfolding index_fits
 fits-counted c =
     let tested : c.index_fits-2.result ≡ index_fits c.count_units-count.result (lent_at-After-index_fits-2 c) =
-    c.index_fits-2.ensures in
+    rw c.label_count-places.ensures at c.index_fits-2.ensures in
     tested ∙ ap (λ (n : ℕ). index_fits n (lent_at-After-index_fits-2 c)) c.count_units-count.ensures
 
 -- the test of as many places as were counted
@@ -53,7 +53,7 @@ fits-counted-Then-index_fits-2 : (c : Then-index_fits-2)
 unfolding index_fits
 fits-counted-Then-index_fits-2 c =
     let tested : c.index_fits-2.result ≡ index_fits c.count_units-count.result (lent_at-Then-index_fits-2 c) =
-    c.index_fits-2.ensures in
+    rw c.label_count-places.ensures at c.index_fits-2.ensures in
     tested ∙ ap (λ (n : ℕ). index_fits n (lent_at-Then-index_fits-2 c)) c.count_units-count.ensures
 
 room-counted : (c : Then-index_fits-2)
@@ -69,7 +69,7 @@ fill_units-requires c = record {
 
 pub returns-then-index_fits : goal.returns-then-index_fits
 returns-then-index_fits c = record {
-  answer = ap Units c.fill_units.ensures.count ∙ room_found _ _ (room-for-cells (goal.at.returns-then-index_fits c).Then-index_fits);
+  answer = ap Ok c.fill_units.ensures.count ∙ room_found _ _ (room-for-cells (goal.at.returns-then-index_fits c).Then-index_fits);
   index = c.fill_units.ensures.index;
 }
 
@@ -81,12 +81,12 @@ fill_units-requires-then-index_fits-2 c = record {
 
 pub returns-then-index_fits-2 : goal.returns-then-index_fits-2
 returns-then-index_fits-2 c = record {
-  answer = ap Units c.fill_units-then-index_fits-2.ensures.count ∙ room_found _ _ (room-counted (goal.at.returns-then-index_fits-2 c).Then-index_fits-2);
+  answer = ap Ok c.fill_units-then-index_fits-2.ensures.count ∙ room_found _ _ (room-counted (goal.at.returns-then-index_fits-2 c).Then-index_fits-2);
   index = c.fill_units-then-index_fits-2.ensures.index;
 }
 
 pub returns : goal.returns
 returns c = record {
-  answer = no_room _ _ (sym (fits-counted (goal.at.returns c).After-index_fits-2) ∙ c.if-index_fits-2.false);
+  answer = rw c.numbered.ensures (no_room _ _ (sym (fits-counted (goal.at.returns c).After-index_fits-2) ∙ c.if-index_fits-2.false));
   index = refl;
 }

@@ -7,12 +7,12 @@ pub returns-in_default : goal.returns-in_default
 unfolding on_cells
 returns-in_default c =
     λ weights.
-    simp (sym c.read_values.ensures.line ∙ c.in_default.is, c.answer.ensures)
+    simp (sym c.read_values.ensures.line ∙ c.in_default.is, c.refused.ensures)
 
 pub returns : goal.returns
 returns c =
     λ weights. simp (
       sym c.read_values.ensures.line
-          ∙ c.in-Values.is,
+          ∙ c.in-Some.is,
       c.take_cell.ensures weights,
     )

@@ -1,20 +1,21 @@
 -- `take_cell` meets its contract.
 use mathlib.Core.Path.{sym, ◌∙◌}
+use Rattle.sheet.proofs.Answer.{accepted_no_fault, refused_fault, refused_by_fault}
 use Rattle.intake.proofs.LineLaws.{cell_accepted, cell_refused}
 use Rattle.intake.proofs.cell_lines.take_cell.Goals as goal
 
-pub returns-then-fault-eq0 : goal.returns-then-fault-eq0
-returns-then-fault-eq0 c =
-    let in-line = c.cell_in-cell.ensures in
-    let none = sym
-    c.cell_fault-fault.ensures
-    ∙ c.if-fault-eq0.true in
-    let wrote = c.write_cell.ensures in
-    λ weights. simp (c.answer.ensures, wrote weights) (sym (cell_accepted _ _ _ _ in-line none))
+pub write_cell-requires : goal.write_cell-requires
+write_cell-requires c =
+    record { sized = c.requires; dirs_value = accepted_no_fault _ (sym c.cell_fault.ensures ∙ c.in-Ok.is) }
 
-pub returns : goal.returns
-returns c =
-    let in-line = c.cell_in-cell.ensures in
-    let fault = c.cell_fault-fault.ensures in
-    λ weights. simp (c.answer-2.ensures, fault)
-    (sym (cell_refused _ _ _ _ in-line (λ e. c.if-fault-eq0.false (fault ∙ e))))
+pub returns-in-Ok : goal.returns-in-Ok
+returns-in-Ok c =
+    let none = accepted_no_fault _ (sym c.cell_fault.ensures ∙ c.in-Ok.is) in
+    let wrote = c.write_cell.ensures in
+    λ weights. simp (c.accepted.ensures, wrote weights) (sym (cell_accepted _ _ _ _ c.cell_in-cell.ensures none))
+
+pub returns-in-Err : goal.returns-in-Err
+returns-in-Err c =
+    let is = sym c.cell_fault.ensures ∙ c.in-Err.is in
+    λ weights. simp (c.answer.ensures, refused_by_fault _ is)
+    (sym (cell_refused _ _ _ _ c.cell_in-cell.ensures (refused_fault _ is)))

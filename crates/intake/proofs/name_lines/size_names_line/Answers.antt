@@ -8,13 +8,13 @@ unfolding on_size_names
 returns-in_default c =
     simp (
       sym c.read_size_names.ensures.line ∙ c.in_default.is,
-      c.answer.ensures,
+      c.refused.ensures,
     )
 
 pub returns : goal.returns
 unfolding on_size_names
 returns c =
     simp (
-      sym c.read_size_names.ensures.line ∙ c.in-Columns.is,
-      c.answer-2.ensures,
+      sym c.read_size_names.ensures.line ∙ c.in-Some.is,
+      c.accepted.ensures,
     )

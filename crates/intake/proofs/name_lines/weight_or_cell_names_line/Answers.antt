@@ -15,6 +15,6 @@ pub returns : goal.returns
 unfolding on_weight_or_cell_names
 returns c =
     simp (
-      sym c.read_weight_names.ensures.line ∙ c.in-Columns.is,
-      c.answer.ensures,
+      sym c.read_weight_names.ensures.line ∙ c.in-Some.is,
+      c.accepted.ensures,
     )

@@ -3,7 +3,7 @@ use mathlib.Core.Path.{◌≡◌, sym, ◌∙◌}
 use mathlib.Core.List.{List}
 use Prim.Native.Nat.{ℕ}
 use Rattle.lines.specs.declared.columns.Columns.{Columns}
-use Rattle.lines.specs.declared.values.ValuesLine.{ValuesLine}
+use Rattle.lines.specs.Values.{ValuesLine}
 use Rattle.lines.specs.Values.{values_line}
 use Rattle.names.specs.Columns.{weight_columns}
 use Rattle.intake.specs.Intake.{on_weight}
@@ -19,12 +19,12 @@ unfolding on_weight
 returns-in_default c =
     λ dirs. simp (
       read _ c.weight_columns.ensures c.read_values.ensures.line c.in_default.is,
-      c.answer.ensures,
+      c.refused.ensures,
     )
 
 pub returns : goal.returns
 returns c =
     λ dirs. simp (
-      read _ c.weight_columns.ensures c.read_values.ensures.line c.in-Values.is,
+      read _ c.weight_columns.ensures c.read_values.ensures.line c.in-Some.is,
       c.take_weight.ensures dirs,
     )

@@ -1,57 +1,25 @@
 -- `lines::values::value_or` meets its contract.
-use mathlib.Core.Path.{sym, ◌∙◌}
+use Rattle.std.proofs.Common.{rules, tests, ◌≡◌, refl, sym, ◌∙◌}
+use Rattle.std.proofs.lemmas.Iterator.{YieldsList-from_slice}
+use Rattle.std.proofs.lemmas.Iterator.Search.{position_from_yields_List}
+use Rattle.std.specs.List.{position}
+use Rattle.lines.specs.Columns.{same_column}
 use Rattle.lines.specs.Values.{value_or}
+use Rattle.lines.proofs.ColumnLaws.{equal_is}
 use Rattle.lines.proofs.values.value_or.Goals as goal
+use Rattle.lines.proofs.values.value_or.Goals.{After-position}
 
-pub returns-then-same_column : goal.returns-then-same_column
-unfolding value_or
-returns-then-same_column c = rw (sym c.same_column.ensures ∙ c.if-same_column.true)
+-- what the search gives is the place of the first column of the name
+found : (c : After-position)
+    → c.position.result ≡ position (λ y. same_column y c.args.column) c.args.columns.places
+found c =
+    position_from_yields_List (λ y. same_column y c.args.column) _ _ c.position.result c.position.ensures.ran
+    (YieldsList-from_slice c.args.columns.places c.iter.ensures.rest) (λ x b q k. search (rules, tests, equal_is))
 
-pub returns-then-same_column-2 : goal.returns-then-same_column-2
+pub returns-in-Some : goal.returns-in-Some
 unfolding value_or
-returns-then-same_column-2 c =
-    rw (
-      sym c.same_column.ensures ∙ c.if-same_column.false,
-      sym c.same_column-2.ensures ∙ c.if-same_column-2.true,
-    )
+returns-in-Some c = rw (sym (found (goal.at.returns-in-Some c).After-position) ∙ c.in-Some.is) refl
 
-pub returns-then-same_column-3 : goal.returns-then-same_column-3
+pub returns-in-None : goal.returns-in-None
 unfolding value_or
-returns-then-same_column-3 c =
-    rw (
-      sym c.same_column.ensures ∙ c.if-same_column.false,
-      sym c.same_column-2.ensures ∙ c.if-same_column-2.false,
-      sym c.same_column-3.ensures ∙ c.if-same_column-3.true,
-    )
-
-pub returns-then-same_column-4 : goal.returns-then-same_column-4
-unfolding value_or
-returns-then-same_column-4 c =
-    rw (
-      sym c.same_column.ensures ∙ c.if-same_column.false,
-      sym c.same_column-2.ensures ∙ c.if-same_column-2.false,
-      sym c.same_column-3.ensures ∙ c.if-same_column-3.false,
-      sym c.same_column-4.ensures ∙ c.if-same_column-4.true,
-    )
-
-pub returns-then-same_column-5 : goal.returns-then-same_column-5
-unfolding value_or
-returns-then-same_column-5 c =
-    rw (
-      sym c.same_column.ensures ∙ c.if-same_column.false,
-      sym c.same_column-2.ensures ∙ c.if-same_column-2.false,
-      sym c.same_column-3.ensures ∙ c.if-same_column-3.false,
-      sym c.same_column-4.ensures ∙ c.if-same_column-4.false,
-      sym c.same_column-5.ensures ∙ c.if-same_column-5.true,
-    )
-
-pub returns : goal.returns
-unfolding value_or
-returns c =
-    rw (
-      sym c.same_column.ensures ∙ c.if-same_column.false,
-      sym c.same_column-2.ensures ∙ c.if-same_column-2.false,
-      sym c.same_column-3.ensures ∙ c.if-same_column-3.false,
-      sym c.same_column-4.ensures ∙ c.if-same_column-4.false,
-      sym c.same_column-5.ensures ∙ c.if-same_column-5.false,
-    )
+returns-in-None c = rw (sym (found (goal.at.returns-in-None c).After-position) ∙ c.in-None.is) refl

@@ -1,5 +1,5 @@
 -- `place_all` meets its contract. The invariant: the donors of the first i cells of the queue have their positions, and
--- so have the outlets. The measure: the cells of the queue that are left.
+-- so have the outlets.
 use mathlib.Core.Path.{◌≡◌, refl, ◌∙◌}
 use Prim.Native.Nat.{◌≤◌, ◌*◌}
 use native.Mathlib.Omega.{arith}
@@ -11,21 +11,21 @@ use Rattle.order.proofs.Queued.{queue_most, outlets_first, outlets_fit, placed_n
 use Rattle.order.proofs.positions.place_all.Goals as goal
 use Rattle.order.proofs.positions.place_all.Goals.{At-loop-i, Start}
 
-most : (c : Start) → c.args.rows * c.args.cols ≤ 65536
+most : (c : Start) → c.args.grid.rows * c.args.grid.cols ≤ 65536
 most c = cells_most c.requires.measured.sized.rows_most c.requires.measured.sized.cols_most
 
 -- the outlets have their positions
 outlets-placed-At-loop-i : (c : At-loop-i)
     → let a = c.args in
-    c.place_outlets.new.work ≡ positioned (a.rows * a.cols) 0
-    (outlets_in (grid a.rows a.cols a.dirs.now) a.work.now) a.work.now
+    c.place_outlets.new.work ≡ positioned (a.grid.rows * a.grid.cols) 0
+    (outlets_in (grid a.grid.rows a.grid.cols a.grid.dirs.now) a.work.now) a.work.now
 outlets-placed-At-loop-i c = c.place_outlets.ensures ∙ (rw (outlets_first c.requires))
 
 -- the first cells of the queue have been gone through
 present : (c : At-loop-i)
     → Placed
-    (grid c.args.rows c.args.cols
-    c.args.dirs.now) c.args.areas.now
+    (grid c.args.grid.rows c.args.grid.cols
+    c.args.grid.dirs.now) c.args.areas.now
     c.args.work.now c.loop-i.work
     c.args.queued c.loop-i.i
 present c =
@@ -35,9 +35,6 @@ present c =
 length-kept : (c : At-loop-i)
     → length c.loop-i.work ≡ length c.args.work.now
 length-kept c = c.loop-i.invariant.1 ∙ c.place_outlets.auto.work
-
-pub overflow_mul-rows : goal.overflow_mul-rows
-overflow_mul-rows c = omega (arith, most (goal.at.overflow_mul-rows c).Start)
 
 pub place_outlets-requires : goal.place_outlets-requires
 place_outlets-requires c = outlets_fit c.requires
@@ -62,15 +59,10 @@ bounds-work-i c =
       c.requires.room,
     )
 
-pub overflow_cast-cell : goal.overflow_cast-cell
-overflow_cast-cell c = omega (arith, c.type_inv.work c.loop-i.i)
-
-pub place_upstream-requires : goal.place_upstream-requires
-place_upstream-requires c = record {
-  measured = c.requires.measured;
-  standing = standing c.requires (present (goal.at.place_upstream-requires c).At-loop-i)
-      c.loop-i-test.true (length-kept (goal.at.place_upstream-requires c).At-loop-i);
-}
+pub place_upstream-requires-clause-standing : goal.place_upstream-requires-clause-standing
+place_upstream-requires-clause-standing c =
+    let at = (goal.at.place_upstream-requires-clause-standing c).At-loop-i in
+    standing c.requires (present at) c.loop-i-test.true (length-kept at)
 
 pub loop-i-preserved : goal.loop-i-preserved
 loop-i-preserved c =
@@ -80,9 +72,6 @@ loop-i-preserved c =
       λ w s e. placed_more s (l.invariant.2 w s e) c.loop-i-test.true
           c.place_upstream.ensures,
     )
-
-pub shape_of-work : goal.shape_of-work
-shape_of-work c = length-kept (goal.at.shape_of-work c).At-loop-i
 
 pub returns : goal.returns
 returns c =

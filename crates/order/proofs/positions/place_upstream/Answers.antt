@@ -1,14 +1,12 @@
-use mathlib.Core.Path.{sym}
 use Prim.Native.Nat.{◌<◌, ◌*◌}
 use native.Mathlib.Omega.{arith}
-use lib.Seq.{length-take-le}
 use Rattle.sheet.proofs.Cells.{inside_lt}
-use Rattle.order.proofs.Listed.{listed_first, listed_within}
+use Rattle.order.proofs.Listed.{listed_first}
 use Rattle.order.proofs.Standing.{none_placed, key_cells, fitting, donors_placed}
 use Rattle.order.proofs.positions.place_upstream.Goals as goal
 use Rattle.order.proofs.positions.place_upstream.Goals.{Start}
 
-on : (c : Start) → c.args.cell < c.args.rows * c.args.cols
+on : (c : Start) → c.args.cell < c.args.grid.rows * c.args.grid.cols
 on c = inside_lt _ _ c.requires.standing.is_inside_lem
 
 pub overflow_add-n : goal.overflow_add-n
@@ -47,14 +45,6 @@ bounds-work-n-2 c =
       on (goal.at.bounds-work-n-2 c).Start,
       c.requires.standing.room,
     )
-
-pub slice_bounds-keys-end : goal.slice_bounds-keys-end
-slice_bounds-keys-end c =
-    omega (arith, listed_within c.donors_of-count.ensures, c.donors_of-count.auto.keys)
-
-pub slice_bounds-place_donors-end : goal.slice_bounds-place_donors-end
-slice_bounds-place_donors-end c =
-    sym (length-take-le c.donors_of-count.result _ (listed_within c.donors_of-count.ensures))
 
 pub place_donors-requires : goal.place_donors-requires
 place_donors-requires c =

@@ -11,14 +11,14 @@ use Rattle.reading.proofs.Reader.feed.Goals as goal
 abbrev at : Reader → List ℕ → List ℕ → List ℕ → Reading
 at reader line dirs weights = reading reader line (lent_sheet dirs weights)
 
-pub loop-i-init : goal.loop-i-init
-loop-i-init c = (refl, refl, refl)
+pub loop-byte-init : goal.loop-byte-init
+loop-byte-init c = (refl, refl, refl)
 
-pub loop-i-preserved : goal.loop-i-preserved
-loop-i-preserved c =
-    let l = c.loop-i in (
-      feed_turn (at l.reader l.line l.dirs l.weights) _ l.i
-          c.loop-i-test.true
+pub loop-byte-preserved : goal.loop-byte-preserved
+loop-byte-preserved c =
+    let l = c.loop-byte in (
+      feed_turn (at l.reader l.line l.dirs l.weights) _ l.byte-index
+          c.loop-byte-test.true
           c.feed_byte-reader.ensures ∙ l.invariant.0,
       c.feed_byte-reader.auto.dirs ∙ l.invariant.1,
       c.feed_byte-reader.auto.weights ∙ l.invariant.2,
@@ -26,5 +26,5 @@ loop-i-preserved c =
 
 pub returns : goal.returns
 returns c =
-    let l = c.loop-i in
-    sym (feed_end (at l.reader l.line l.dirs l.weights) _ l.i c.loop-i-test.false) ∙ l.invariant.0
+    let l = c.loop-byte in
+    sym (feed_end (at l.reader l.line l.dirs l.weights) _ l.byte-index c.loop-byte-test.false) ∙ l.invariant.0

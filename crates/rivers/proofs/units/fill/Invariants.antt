@@ -9,6 +9,3 @@ invariant-loop-j l =
     (length l.labels ≡ length l.initial.labels)
     × (cells_labelled (stands l.cell l.j (l.hi - l.j)) (λ c. l.prefix) l.labels ≡ cells_labelled (stands l.cell l.lo (l.hi - l.lo))
     (λ c. l.prefix) l.initial.labels)
-
-abbrev pub decreases-loop-j : goal.decreases-loop-j
-decreases-loop-j l = l.hi - l.j

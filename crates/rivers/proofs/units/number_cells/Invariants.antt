@@ -9,6 +9,3 @@ invariant-loop-i l =
     (length l.basins ≡ length l.initial.basins)
     × (relabelled (stands l.cell l.i (l.hi - l.i)) (λ c. l.number) l.basins ≡ relabelled (stands l.cell l.lo (l.hi - l.lo))
     (λ c. l.number) l.initial.basins)
-
-abbrev pub decreases-loop-i : goal.decreases-loop-i
-decreases-loop-i l = l.hi - l.i

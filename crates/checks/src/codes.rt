@@ -7,24 +7,21 @@ ghost use Rattle.directions.specs.Sizes.{Sized, grid_of};
 
 use directions::{Grid, word};
 
-// Eight bytes from a place on as one word, lowest byte first. It compiles to one load.
-// The bound of its bytes is told, since a slice in a struct does not tell it by itself.
-#[tactic(auto, unfolding(sheet::specs::Word::number_at))]
+// Eight bytes from a place on as one word, lowest byte first. Written as shifts that are joined, it compiles to one
+// load. The bound of its bytes is told, since a slice in a struct does not tell it by itself.
 fn word_at(bytes: &[u8], at: usize) -> u64
     requires { at + 8 ≤ length bytes.now }
     ensures word { result ≡ number_at 8 bytes.now at }
     ensures bytes { (m : ℕ) → slice_index bytes.now m < 256 }
 {
-    u64::from_le_bytes([
-        bytes[at],
-        bytes[at + 1],
-        bytes[at + 2],
-        bytes[at + 3],
-        bytes[at + 4],
-        bytes[at + 5],
-        bytes[at + 6],
-        bytes[at + 7],
-    ])
+    (bytes[at] as u64)
+        | ((bytes[at + 1] as u64) << 8)
+        | ((bytes[at + 2] as u64) << 16)
+        | ((bytes[at + 3] as u64) << 24)
+        | ((bytes[at + 4] as u64) << 32)
+        | ((bytes[at + 5] as u64) << 40)
+        | ((bytes[at + 6] as u64) << 48)
+        | ((bytes[at + 7] as u64) << 56)
 }
 
 // The first bad byte from a cell on, a byte at a time.

@@ -1,6 +1,6 @@
 // The tests of checks 1, 2, 19, 17 and 4 to 6: sizes, depth, least and split, weights, and the first cell in reading
-// order that a check looks for; whether two labels or units are the same, those at a place of lent slices, how many a
-// slice holds, and places set to 0.
+// order that a check looks for; the refusal of a number; whether two labels or units are the same, those at a place of
+// lent slices, how many a slice holds, and places set to 0.
 #![tactic(auto)]
 
 pub mod codes;
@@ -104,6 +104,13 @@ fn least_and_split_fit(least: usize, split: usize) -> bool
     least_fits(least) && split_fits(split)
 }
 
+// A refusal that names no place.
+pub fn numbered(number: u8) -> Refusal
+    ensures { result ≡ record { number = number; place = 0 } }
+{
+    Refusal { number, place: 0 }
+}
+
 // The refusal of a sheet by 1, 2, 19, in this order.
 #[tactic(auto, unfolding(sheet::specs::Refusal::sheet_fault))]
 pub fn sheet_fault(
@@ -116,13 +123,13 @@ pub fn sheet_fault(
     ensures { result ≡ outcome_of_fault (sheet_fault rows cols depth least split) }
 {
     if !sizes_fit(rows, cols) {
-        return Err(Refusal::numbered(1));
+        return Err(numbered(1));
     }
     if !depth_fits(depth) {
-        return Err(Refusal::numbered(2));
+        return Err(numbered(2));
     }
     if !least_and_split_fit(least, split) {
-        return Err(Refusal::numbered(19));
+        return Err(numbered(19));
     }
     Ok(())
 }

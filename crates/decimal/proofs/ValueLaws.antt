@@ -17,7 +17,7 @@ use Rattle.decimal.specs.Value.{Value, Found}
 use Rattle.decimal.specs.Value.{is_digit, is_blank, take_while, digit_run, blanks_at, value_from, most_digits, is_value}
 use Rattle.decimal.specs.Value.{found_at, number_at, unpadded_at, most_blanks, value_at}
 use Rattle.decimal.proofs.Answers.{either_way}
-use Rattle.decimal.proofs.TakeWhile.{while_passes}
+use Rattle.decimal.proofs.TakeWhile.{while_passes, while_at_next}
 
 pub digit_low : (b : ℕ) → is_digit b ≡ true → digit_zero ≤ b
 unfolding is_digit
@@ -44,6 +44,26 @@ module _ (digits : List ℕ) (i : ℕ) where
       → v * 10 + (get_or digits i 0 - digit_zero) < 10 ^ (i + 1)
   next_small v h d =
       rw (add-one, pow-suc) (omega (arith, h, digit_low (get_or digits i 0) d, digit_high (get_or digits i 0) d))
+
+-- A reader has come to place i of a list, and the digits before it write v.
+module _ (s : List ℕ) (i : ℕ) where
+  -- a digit is there: it is the first of the digits from there on
+  pub digit_there : i < length s → is_digit (get_or s i 0) ≡ true
+      → ((v : ℕ) → value_from v (digit_run (drop i s))
+      ≡ value_from (v * 10 + (get_or s i 0 - digit_zero)) (digit_run (drop (i + 1) s)))
+      × (length (digit_run (drop i s)) ≡ 1 + length (digit_run (drop (i + 1) s)))
+  unfolding value_from
+  digit_there h d =
+      let next = while_at_next is_digit s i h d in
+      (λ v. ap (value_from v) next, ap length next ∙ omega arith)
+
+  -- no digit is there: those before it are all
+  pub digits_written : (v : ℕ) → value_from v (digit_run (drop i s)) ≡ value_from 0 (digit_run s)
+      → i + length (digit_run (drop i s)) ≡ length (digit_run s) → digit_run (drop i s) ≡ []
+      → (v ≡ value_from 0 (digit_run s)) × (i ≡ length (digit_run s))
+  unfolding value_from
+  digits_written v number count none =
+      (sym (ap (value_from v) none) ∙ number, omega (arith, count, ap length none))
 
 -- a number of at most nine digits fits 32 bits
 pub few_fit : (v n : ℕ) → v < 10 ^ n → n ≤ most_digits → v < 1000000000

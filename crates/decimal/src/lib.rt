@@ -2,11 +2,13 @@
 #![tactic(auto)]
 
 ghost use Rattle.std.specs.Prelude.{◌≡◌, ◌+◌, ◌≤◌, length};
-ghost use Rattle.decimal.specs.Value.{is_digit, digit_run, blanks_at, most_digits, number_at, unpadded_at, value_at, found_values};
+ghost use Rattle.decimal.specs.Value.{is_digit, blanks_at, most_digits, number_at, unpadded_at, value_at, found_values};
 ghost use Rattle.decimal.specs.Text.{decimal_text, written_values, write_text};
 
-// The first of the digits.
+// The digits are the bytes from the first of these to the second.
 pub const DIGIT_ZERO: u8 = b'0';
+
+pub const DIGIT_NINE: u8 = b'9';
 
 // The byte that may stand in front of a value.
 pub const BLANK: u8 = b' ';
@@ -28,31 +30,23 @@ fn is_digit(b: u8) -> bool
     b.is_ascii_digit()
 }
 
-// The number that the digits at a position write, if there are at most `most` of them, and the position after them.
+// The number that the digits at a position write, if there are at most `most` of them, and the position after them. One
+// digit more ends the search.
 fn read_digits(line: &[u8], at: usize, most: u8) -> Option<(u32, usize)>
     requires { (at ≤ length line.now) × (most ≤ most_digits) }
     ensures { result ≡ number_at most line.now at }
 {
-    let digits = digits(&line[at..]);
-    if (most as usize) < digits.len() {
-        return None;
-    }
     let mut value = 0;
-    for digit in digits {
-        value = value * 10 + (*digit - DIGIT_ZERO) as u32;
+    for (count, b) in line[at..].iter().enumerate() {
+        if !is_digit(*b) {
+            return Some((value, at + count));
+        }
+        if count == most as usize {
+            return None;
+        }
+        value = value * 10 + (*b - DIGIT_ZERO) as u32;
     }
-    Some((value, at + digits.len()))
-}
-
-// The digits with which a line begins.
-fn digits(line: &[u8]) -> &[u8]
-    ensures { result.now ≡ digit_run line.now }
-{
-    let end = line
-        .iter()
-        .position(|b| !is_digit(*b))
-        .unwrap_or(line.len());
-    &line[..end]
+    Some((value, line.len()))
 }
 
 // The value whose digits begin at a position: 0 alone, or 1 to `most` digits not starting with 0.

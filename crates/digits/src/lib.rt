@@ -95,16 +95,16 @@ pub fn write_digits(depth: usize, label: Label, out: &mut [u8]) -> Result<usize,
     ensures places { out.new ≡ digits_places depth label out.old }
 {
     if !depth_fits(depth) {
-        return Err(Refusal::numbered(2));
+        return Err(checks::numbered(2));
     }
     if !is_label(depth, label) {
-        return Err(Refusal::numbered(11));
+        return Err(checks::numbered(11));
     }
     let first = count_decimal_digits(label.first);
     let rest = count_decimal_digits(label.rest);
     let count = first + rest;
     if out.len() < count {
-        return Err(Refusal::numbered(3));
+        return Err(checks::numbered(3));
     }
     put_digits(label.first, first, out);
     put_digits(label.rest, rest, &mut out[first..]);
@@ -123,8 +123,12 @@ fn put_number(number: u64, end: usize, out: &mut [u8]) -> Option<usize>
     let mut room = NUMBER_DIGITS;
     let mut m = number;
     while 0 < m {
+        // before the digit is worked out, since the other order costs more on long labels
+        if room == 0 {
+            return None;
+        }
         let digit = m % 10;
-        if room == 0 || digit == 0 {
+        if digit == 0 {
             return None;
         }
         at -= 1;
@@ -195,10 +199,10 @@ pub fn label_of(depth: usize, digits: &[u8]) -> Result<Label, Refusal>
     ensures values { label_values result ≡ label_values (label_answer depth digits.now) }
 {
     if !depth_fits(depth) {
-        return Err(Refusal::numbered(2));
+        return Err(checks::numbered(2));
     }
     if depth < digits.len() || !all_digits(digits) {
-        return Err(Refusal::numbered(11));
+        return Err(checks::numbered(11));
     }
     Ok(record_of(digits))
 }

@@ -84,6 +84,16 @@ fn areas(grid: Grid<'_>, weights: &[u16], work: &[u32], queued: usize, areas: &m
     gather(work, grid.rows * grid.cols, queued, areas);
 }
 
+// Copies all places. No `copy_from_slice`: with it the archive for C needs `memmove` from outside.
+fn copy(from: &[u32], to: &mut [u32])
+    requires { length from.now ≡ length to.old }
+    ensures { to.new ≡ from.now }
+{
+    for (i, value) in from.iter().enumerate() {
+        to[i] = *value;
+    }
+}
+
 // The sizes of a drained sheet, into their part of the work places. They are gathered in the places lent for areas.
 fn sizes(grid: Grid<'_>, work: &mut [u32], queued: usize, areas: &mut [u32])
     requires { Sized grid.rows grid.cols grid.dirs.now × Drained (grid_of grid) work.old queued
@@ -96,7 +106,7 @@ fn sizes(grid: Grid<'_>, work: &mut [u32], queued: usize, areas: &mut [u32])
     own_values(grid.dirs, 1, n, areas);
     gather(work, n, queued, areas);
     let from = parts::SIZES * n;
-    work[from..from + n].copy_from_slice(&areas[..n]);
+    copy(&areas[..n], &mut work[from..from + n]);
 }
 
 // The weights of the rows are all 1.

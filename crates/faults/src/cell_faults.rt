@@ -50,13 +50,13 @@ pub fn cell_fault(sizes: Sizes, cell: Cell, dirs: &[u8]) -> Result<(), Refusal>
     ensures { result ≡ outcome_of_fault (cell_fault sizes cell dirs.now) }
 {
     if !on_sheet(sizes, cell) {
-        return Err(Refusal::numbered(9));
+        return Err(checks::numbered(9));
     }
     if !is_dir(cell.dir) {
-        return Err(Refusal::numbered(4));
+        return Err(checks::numbered(4));
     }
     if !may_set(cell.dir, dirs[cell.row * sizes.cols + cell.col]) {
-        return Err(Refusal::numbered(10));
+        return Err(checks::numbered(10));
     }
     Ok(())
 }

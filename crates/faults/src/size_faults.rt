@@ -31,7 +31,7 @@ pub fn sizes_fault(sizes: Sizes, dirs: usize, weights: usize) -> Result<(), Refu
         sizes.split,
     )?;
     if !lent_enough(sizes, dirs, weights) {
-        return Err(Refusal::numbered(3));
+        return Err(checks::numbered(3));
     }
     Ok(())
 }
@@ -55,7 +55,7 @@ pub fn row_fault(sizes: Sizes, row: usize, dirs: usize, weights: usize) -> Resul
 {
     sizes_fault(sizes, dirs, weights)?;
     if row >= sizes.rows {
-        return Err(Refusal::numbered(9));
+        return Err(checks::numbered(9));
     }
     Ok(())
 }

@@ -65,15 +65,15 @@ pub fn flow_pairs(
         q_basins.now answers.old }
 {
     if !depth_fits(depth) {
-        return Err(Refusal::numbered(2));
+        return Err(checks::numbered(2));
     }
     if !least_fits(least) {
-        return Err(Refusal::numbered(19));
+        return Err(checks::numbered(19));
     }
     // as many pairs as the shorter slice of labels has
     let count = label_count(p).min(label_count(q));
     if !slices_fit(count, p_basins.len(), q_basins.len(), answers.len()) {
-        return Err(Refusal::numbered(3));
+        return Err(checks::numbered(3));
     }
     answer_pairs(depth, least, count, p, p_basins, q, q_basins, answers);
     Ok(count)

@@ -12,6 +12,7 @@ use sheet::Refusal;
 
 // Labels the sheet of an intake and fills the index of its units: refused 15 if it has not ended, then as a direct call
 // with its sizes.
+#[tactic(auto, unfolding(crate::specs::FromIntake::intake_indexed, crate::specs::FromIntake::indexed_with, crate::specs::FromIntake::intake_index_after, crate::specs::FromIntake::index_with, labelling::specs::FromIntake::intake_lent, labelling::specs::FromIntake::lent_with))]
 pub fn index_intake(
     intake: Intake,
     dirs: &[u8],
@@ -42,7 +43,7 @@ pub fn index_intake(
         (lent_index units.old outlets.old counts.old unit_basins.old) }
 {
     let Some(sizes) = intake.ended_sizes() else {
-        return Err(Refusal::numbered(15));
+        return Err(checks::numbered(15));
     };
     index(
         sizes,

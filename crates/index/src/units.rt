@@ -121,5 +121,5 @@ pub fn write_units(
     ) {
         return Ok(fill_units(cells, labels, basins, units, outlets, counts, unit_basins));
     }
-    Err(Refusal::numbered(3))
+    Err(checks::numbered(3))
 }

@@ -10,6 +10,8 @@ use borrow.Author.Tests.{ltb-true}
 use lib.Dec.{ltb}
 use lib.ListN.{length, length-append, length-replicate, length-drop, length-set}
 use Rattle.std.proofs.Common.{Some, None}
+use Rattle.std.specs.Prelude.{Err}
+use Rattle.sheet.specs.declared.Refusal.{Refusal as AnyRefusal}
 use Rattle.names.specs.Names.{NamesLine}
 use Rattle.lines.specs.declared.columns.Columns.{Columns}
 use Rattle.lines.specs.Values.{first_value, ValuesLine}
@@ -31,7 +33,7 @@ use Rattle.intake.specs.Intake.{on_weight_or_cell_names, after_weights, on_weigh
 use Rattle.intake.specs.Intake.{line_after, end_in, end_taken, new_intake}
 use Rattle.intake.proofs.LineLaws.{unless_none, unless_some, accepted_not_refused}
 use Rattle.sheet.proofs.Answer.{same_number}
-use Rattle.sheet.specs.Answer.{Accepted, Refused}
+use Rattle.sheet.specs.Answer.{Accepted}
 
 -- the stages in the order of a file with weights
 abbrev pub stage_number : Stage → ℕ
@@ -201,13 +203,13 @@ line_answer i line lent = unless_answer _ _ _ _ (line_in_answer i.stage line len
 
 module _ (i : Intake) (line : List ℕ) (lent : LentSheet) where
   -- "A refused line or end returns the state it got and writes no byte."
-  pub refused_line : {n : ℕ} → (line_after i line lent).taken.outcome ≡ Refused n 0
-      → line_after i line lent ≡ refuse i.stage lent n
-  refused_line {n} e = go (line_answer i line lent)
+  pub refused_line : {refusal : AnyRefusal} → (line_after i line lent).taken.outcome ≡ Err refusal
+      → line_after i line lent ≡ refuse i.stage lent refusal.number
+  refused_line {refusal} e = go (line_answer i line lent)
     where
-      go : Answer i.stage lent (line_after i line lent) → line_after i line lent ≡ refuse i.stage lent n
+      go : Answer i.stage lent (line_after i line lent) → line_after i line lent ≡ refuse i.stage lent refusal.number
       go (inl r) =
-          let same : r.number ≡ n = same_number (sym (ap (λ (a : After). a.taken.outcome) r.is) ∙ e) in
+          let same : r.number ≡ refusal.number = same_number (sym (ap (λ (a : After). a.taken.outcome) r.is) ∙ e) in
           r.is ∙ ap (refuse i.stage lent) same
       go (inr a) = absurd (accepted_not_refused (sym (ap (λ (b : After). b.taken.outcome) a.is) ∙ e))
 
@@ -254,7 +256,8 @@ module _ (i : Intake) (line : List ℕ) (lent : LentSheet) where
 
 -- ---- the end
 
-refused_end_in : (s : Stage) {n : ℕ} → (end_in s).outcome ≡ Refused n 0 → (end_in s).intake ≡ record { stage = s }
+refused_end_in : (s : Stage) {refusal : AnyRefusal} → (end_in s).outcome ≡ Err refusal
+    → (end_in s).intake ≡ record { stage = s }
 unfolding end_in
 refused_end_in WaitingForSizeNames e = refl
 refused_end_in (WaitingForSizes c) e = refl
@@ -264,7 +267,7 @@ refused_end_in (WaitingForCellNames z) e = refl
 refused_end_in (TakingCells z c) e = absurd (accepted_not_refused e)
 refused_end_in (Ended z) e = refl
 
-pub refused_end : (i : Intake) {n : ℕ} → (end_taken i).outcome ≡ Refused n 0 → (end_taken i).intake ≡ i
+pub refused_end : (i : Intake) {refusal : AnyRefusal} → (end_taken i).outcome ≡ Err refusal → (end_taken i).intake ≡ i
 unfolding end_taken
 refused_end i e = refused_end_in i.stage e
 

@@ -9,6 +9,8 @@ use lib.ListN.{length}
 use borrow.Author.Tests.{eq-eqb, ne_eqb}
 use Rattle.lines.specs.Values.{first_value}
 use Rattle.std.proofs.Common.{Some}
+use Rattle.std.specs.Prelude.{Err}
+use Rattle.sheet.specs.declared.Refusal.{Refusal}
 use Rattle.lines.specs.declared.columns.Columns.{Columns}
 use Rattle.lines.specs.declared.values.Values.{Values}
 use Rattle.sheet.specs.Refusal.{weight_fits}
@@ -23,7 +25,7 @@ use Rattle.intake.specs.declared.Intake.{Intake}
 use Rattle.intake.specs.Intake.{LentSheet, After, accept, refuse, unless, sizes_written, weight_written}
 use Rattle.intake.specs.Intake.{cell_written, on_sizes, after_weights, on_weight, on_cells, state_fault, line_in}
 use Rattle.intake.specs.Intake.{line_after}
-use Rattle.sheet.specs.Answer.{Accepted, Refused}
+use Rattle.sheet.specs.Answer.{Accepted}
 
 module _ {fault : ℕ} (stage : Stage) (lent : LentSheet) (next : After) where
   pub unless_none : fault ≡ 0 → unless fault stage lent next ≡ next
@@ -34,8 +36,8 @@ module _ {fault : ℕ} (stage : Stage) (lent : LentSheet) (next : After) where
   unfolding unless
   unless_some n = rw (ne_eqb fault 0 n)
 
-pub accepted_not_refused : {n : ℕ} → Accepted ≡ Refused n 0 → ⊥
-accepted_not_refused {n} e = let z : ◌≡◌ {A = ℕ} 0 1 = cc in omega arith
+pub accepted_not_refused : {refusal : Refusal} → Accepted ≡ Err refusal → ⊥
+accepted_not_refused e = cc
 
 -- what is accepted has no fault
 pub unless_accepted : (fault : ℕ) (stage : Stage) (lent : LentSheet) (next : After)

@@ -66,7 +66,7 @@ fn accepted(next: Stage) -> Taken
 fn refused(stage: Stage, number: u8) -> Taken
     ensures { result ≡ refused stage number }
 {
-    answer(stage, Err(Refusal::numbered(number)))
+    answer(stage, Err(checks::numbered(number)))
 }
 
 fn answer(stage: Stage, outcome: Result<(), Refusal>) -> Taken
@@ -154,6 +154,7 @@ impl Intake {
     }
 
     // The sizes of the sheet, if the intake has ended.
+    #[tactic(auto, unfolding(crate::specs::Intake::ended_sizes))]
     pub fn ended_sizes(self) -> Option<Sizes>
         ensures { result ≡ ended_sizes self.stage }
     {

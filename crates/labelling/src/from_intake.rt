@@ -10,6 +10,7 @@ use intake::Intake;
 use sheet::Refusal;
 
 // Labels the sheet of an intake: refused 15 if it has not ended, then as a direct call with its sizes.
+#[tactic(auto, unfolding(crate::specs::FromIntake::intake_outcome, crate::specs::FromIntake::outcome_with, crate::specs::FromIntake::intake_lent, crate::specs::FromIntake::lent_with))]
 pub fn label_intake(
     intake: Intake,
     dirs: &[u8],
@@ -29,7 +30,7 @@ pub fn label_intake(
         (lent areas.old labels.old basins.old work.old) }
 {
     let Some(sizes) = intake.ended_sizes() else {
-        return Err(Refusal::numbered(15));
+        return Err(checks::numbered(15));
     };
     label(sizes, dirs, weights, areas, labels, basins, work)
 }

@@ -133,7 +133,7 @@ fn inspect_sheet(grid: Grid<'_>, weights: &[u16], work: &mut [u32]) -> Inspectio
         return drainage::inspect::inspect(grid, work);
     }
     Inspection {
-        outcome: Err(Refusal::numbered(17)),
+        outcome: Err(checks::numbered(17)),
         queued: 0,
     }
 }
@@ -239,7 +239,7 @@ pub fn first_checks(
     )?;
     let n = sizes.rows * sizes.cols;
     if !slices_fit(n, sizes.rows, dirs, weights, areas, labels, basins, work) {
-        return Err(Refusal::numbered(3));
+        return Err(checks::numbered(3));
     }
     Ok(())
 }

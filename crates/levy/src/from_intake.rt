@@ -52,10 +52,10 @@ pub fn levy_intake(
         basin total dues.old }
 {
     if total > GREATEST_TOTAL {
-        return Err(Refusal::numbered(18));
+        return Err(checks::numbered(18));
     }
     let Some(sizes) = intake.ended_sizes() else {
-        return Err(Refusal::numbered(15));
+        return Err(checks::numbered(15));
     };
     levy(
         sizes,

@@ -78,7 +78,7 @@ fn levy_accepted(
         );
         return answer;
     }
-    Err(Refusal::numbered(3))
+    Err(checks::numbered(3))
 }
 
 // The same of a sheet whose labelling came to `found`: refused as labelling was.
@@ -229,7 +229,7 @@ pub fn levy(
         basin total dues.old }
 {
     if total > GREATEST_TOTAL {
-        return Err(Refusal::numbered(18));
+        return Err(checks::numbered(18));
     }
     labelling::first_checks(
         sizes,

@@ -1,10 +1,10 @@
 // Value lines: a value for each column, parted by commas.
 ghost use Rattle.std.specs.Prelude.{◌≡◌};
 ghost use Rattle.lines.specs.Fields.{fields};
-ghost use Rattle.lines.specs.Values.{field_value, no_values, values_from, values_line, line_values};
+ghost use Rattle.lines.specs.Values.{field_value, with_value, no_values, values_from, values_line, line_values};
 ghost use Rattle.lines.specs.Values.{value_or, value_of};
 
-use super::columns::{Column, Columns, column_at, column_count, column_digits, with_place};
+use super::columns::{Column, Columns, column_at, column_count, column_digits};
 
 // The values of a line, by the places of its columns; 0 where there are fewer.
 #[derive(Clone, Copy)]
@@ -24,6 +24,17 @@ fn field_value(field: &[u8], most: u8) -> Option<(u32, usize)>
     }
 }
 
+// Sets the value at a place, from 0; a place past the last changes nothing. It is set where it stands: `with_place` hands
+// back a copy of all, which costs as much as the rest of a field.
+#[tactic(auto, unfolding(crate::specs::Values::with_value))]
+fn set_value(values: &mut Values, place: usize, value: u32)
+    ensures { values.new ≡ with_value values.old place value }
+{
+    if place < values.places.len() {
+        values.places[place] = value;
+    }
+}
+
 // The values in the fields of a line, if there is one for each column that is named.
 fn values_in(line: &[u8], columns: Columns) -> Option<Values>
     ensures { result ≡ values_from columns 0 (fields line.now) no_values }
@@ -36,7 +47,7 @@ fn values_in(line: &[u8], columns: Columns) -> Option<Values>
     for field in line.split(|b| *b == decimal::COMMA) {
         let most = column_digits(column_at(columns, place));
         let (value, _) = field_value(field, most)?;
-        values.places = with_place(values.places, place, value);
+        set_value(&mut values, place, value);
         place += 1;
     }
     if place == count { Some(values) } else { None }

@@ -174,7 +174,7 @@ pub fn listing_fault(sheet: LabelledSheet) -> Result<(), Refusal>
         sheet.entry.areas.now sheet.entry.labels.now sheet.entry.basins.now) }
 {
     if !sizes_fit(sheet.rows, sheet.cols) {
-        return Err(Refusal::numbered(1));
+        return Err(checks::numbered(1));
     }
     let n = sheet.rows * sheet.cols;
     if sheet.dirs.len() < n
@@ -182,7 +182,7 @@ pub fn listing_fault(sheet: LabelledSheet) -> Result<(), Refusal>
         || label_count(sheet.labels) < n
         || sheet.basins.len() < n
     {
-        return Err(Refusal::numbered(3));
+        return Err(checks::numbered(3));
     }
     Ok(())
 }
@@ -200,7 +200,7 @@ pub fn write_listing(sheet: LabelledSheet, out: &mut [u8]) -> Result<usize, Refu
     let heading = b"basin,row,col,area,label\n";
     let length = heading.len() + lines_length(sheet);
     if out.len() < length {
-        return Err(Refusal::numbered(3));
+        return Err(checks::numbered(3));
     }
     let at = put_text(heading, out, 0);
     Ok(put_lines(sheet, out, at))
@@ -216,7 +216,7 @@ pub fn write_refusal(number: u8, place: usize, out: &mut [u8]) -> Result<usize, 
     let number_digits = decimal_length(number as u64);
     let place_digits = decimal_length(place as u64);
     if out.len() < heading.len() + number_digits + place_digits + 2 {
-        return Err(Refusal::numbered(3));
+        return Err(checks::numbered(3));
     }
     let number_at = put_text(heading, out, 0);
     let place_at = put_field(number as u64, COMMA, out, number_at);

@@ -167,15 +167,18 @@ pub fn find(leading: UnitName, labels: &[u64], basins: &[u32]) -> Result<Part, R
         ≡ lookup_values (lookup_answer leading (labels_in labels.now) basins.now) }
 {
     if basins.len() < label_count(labels) {
-        return Err(Refusal::numbered(3));
+        return Err(checks::numbered(3));
     }
-    if !is_label(GREATEST_DEPTH, leading.label) || !all_labels(labels) {
-        return Err(Refusal::numbered(11));
+    if !is_label(GREATEST_DEPTH, leading.label) {
+        return Err(checks::numbered(11));
     }
-    if !is_rising(labels, basins) {
-        return Err(Refusal::numbered(16));
+    if all_labels(labels) {
+        if is_rising(labels, basins) {
+            return Ok(part_found(leading, labels, basins));
+        }
+        return Err(checks::numbered(16));
     }
-    Ok(part_found(leading, labels, basins))
+    Err(checks::numbered(11))
 }
 
 // The part of the slice that holds the basin's labels that begin with the leading digits, empty at the place they would

@@ -3,7 +3,7 @@ use Rattle.std.proofs.Common.{Some, None, [], ◌∷◌}
 use mathlib.Core.Path.{◌≡◌, refl}
 use Rattle.decimal.specs.Ascii.{ascii}
 use Rattle.lines.specs.declared.columns.Column.{Column}
-use Rattle.lines.specs.declared.columns.Column.TheVariants.{Rows, Cols, Depth, Least, Split, Row, Col, Dir}
+use Rattle.lines.specs.declared.columns.Column.TheVariants.{Rows, Cols, Depth, Least, Split, Row, Col, Dir, Weight}
 use Rattle.lines.specs.declared.columns.Columns.{Columns}
 use Rattle.names.specs.Columns.{size_columns, weight_columns, cell_columns}
 use Rattle.names.specs.Names.{names_line, size_names_line}
@@ -71,7 +71,8 @@ unfolding names_line
 names_empty = refl
 
 -- The name of the weights, alone; every other line is bad (proofs/WeightName.antt).
-pub weight_name : names_line weight_columns (ascii "weight") ≡ Some weight_columns
+pub weight_name : names_line weight_columns (ascii "weight")
+    ≡ Some (record { places = Some Weight ∷ None ∷ None ∷ None ∷ None ∷ [] })
 unfolding names_line
 weight_name = refl
 

@@ -122,5 +122,12 @@ both_or_neither s c e = go (which s c e)
         inr (unnamed c Least none.0, unnamed c Split none.1, all.3)
     go (inr e) = let all = split_size_names_once s e in inl (all.3, all.4)
 
+five_places : (s : List ℕ) (c : Columns) → size_names_line s ≡ Some c → length c.places ≡ 5
+five_places s c e = go (which s c e)
+  where
+    go : (names_line size_columns s ≡ Some c) ⊎ (names_line split_size_columns s ≡ Some c) → length c.places ≡ 5
+    go (inl e) = line_places size_columns s e
+    go (inr e) = line_places split_size_columns s e
+
 pub size_names : SizeNames
-size_names = record { sizes_once = sizes_once; both_or_neither = both_or_neither }
+size_names = record { five_places = five_places; sizes_once = sizes_once; both_or_neither = both_or_neither }

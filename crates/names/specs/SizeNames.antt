@@ -1,5 +1,5 @@
 -- The sizes' names. Document 02, W9, of least and split: "Both or neither are named". Statements about size_names_line.
-use Rattle.std.specs.Prelude.{◌≡◌, List, ◌⊎◌, ℕ, Some, None}
+use Rattle.std.specs.Prelude.{◌≡◌, List, ◌⊎◌, ℕ, Some, None, length}
 use Rattle.lines.specs.declared.columns.Columns.{Columns}
 use Rattle.lines.specs.declared.columns.Column.TheVariants.{Rows, Cols, Depth, Least, Split}
 use Rattle.lines.specs.Columns.{Unnamed}
@@ -7,6 +7,8 @@ use Rattle.names.specs.Columns.{count_column}
 use Rattle.names.specs.Names.{size_names_line}
 
 pub record SizeNames : Type 0 where
+  -- the columns have five places, and no more
+  pub five_places : (s : List ℕ) (c : Columns) → size_names_line s ≡ Some c → length c.places ≡ 5
   -- rows, cols and depth are named, each exactly once
   pub sizes_once : (s : List ℕ) (c : Columns) → size_names_line s ≡ Some c
       → (count_column c (Some Rows) ≡ 1) × (count_column c (Some Cols) ≡ 1) × (count_column c (Some Depth) ≡ 1)

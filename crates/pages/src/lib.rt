@@ -173,14 +173,14 @@ pub fn write_page(sheet: LabelledSheet, page: usize, out: &mut [u8]) -> Result<u
 {
     listing_fault(sheet)?;
     if !page_fits(sheet, page) {
-        return Err(Refusal::numbered(3));
+        return Err(checks::numbered(3));
     }
     let count = count_on_page(sheet, page);
     if count == 0 {
         return Ok(0);
     }
     if out.len() < PAGE_LINE_BYTES * (count + 1) {
-        return Err(Refusal::numbered(3));
+        return Err(checks::numbered(3));
     }
     let names = names_line();
     let at = put_line(&names, out, 0);

@@ -42,13 +42,13 @@ fn index_fault(index: &[u64]) -> Result<(), Refusal>
     ensures { result ≡ outcome_of_fault (index_fault (labels_in index.now)) }
 {
     if !all_labels(index) {
-        return Err(Refusal::numbered(11));
+        return Err(checks::numbered(11));
     }
     if !labels_rise(index) {
-        return Err(Refusal::numbered(16));
+        return Err(checks::numbered(16));
     }
     if !labels_part(index) {
-        return Err(Refusal::numbered(12));
+        return Err(checks::numbered(12));
     }
     Ok(())
 }
@@ -162,11 +162,11 @@ fn judge_unit(index: &[u64], place: usize, p: Label, work: &mut [u32]) -> Result
     ensures work { work.new ≡ (judged_at (Some place) (labels_in index.now) p work.old).work }
 {
     if 0 < work[place] {
-        return Err(Refusal::numbered(20));
+        return Err(checks::numbered(20));
     }
     let end = end_of(index, p);
     if !all_come(work, place + 1, end) {
-        return Err(Refusal::numbered(21));
+        return Err(checks::numbered(21));
     }
     work[place] = span_of(place, end);
     Ok(())
@@ -182,7 +182,7 @@ fn judge_place(index: &[u64], p: Label, work: &mut [u32]) -> Result<(), Refusal>
     ensures work { work.new ≡ (place_judged (labels_in index.now) p work.old).work }
 {
     let Some(place) = place_of(index, p) else {
-        return Err(Refusal::numbered(20));
+        return Err(checks::numbered(20));
     };
     judge_unit(index, place, p, work)
 }
@@ -247,7 +247,7 @@ pub fn check_plan(index: &[u64], plan: &[u64], work: &mut [u32]) -> Result<(), R
     index_fault(index)?;
     let count = label_count(index);
     if work.len() < count {
-        return Err(Refusal::numbered(3));
+        return Err(checks::numbered(3));
     }
     let answer = judge_from_start(index, plan, &mut work[..count]);
     clear_first(work, count);

@@ -45,7 +45,11 @@ fn hand_line(reader: Reader, text: &[u8], dirs: &mut [u8], weights: &mut [u16]) 
         intake: taken.intake,
         lines: next_line(reader.lines),
         held: 0,
-        outcome: taken.outcome,
+        // case by case, so that nothing is copied for an accepted line
+        outcome: match taken.outcome {
+            Ok(()) => Ok(()),
+            Err(Refusal { number, place }) => Err(Refusal { number, place }),
+        },
     }
 }
 
@@ -71,34 +75,34 @@ fn line_end(reader: Reader, line: &[u8], dirs: &mut [u8], weights: &mut [u16]) -
     long_line(reader, dirs, weights)
 }
 
-// One byte of the file. After a refusal it changes nothing; one that does not fit the present line ends that line.
+// One byte of the file. After a refusal it changes nothing; one that does not fit the present line ends that line. The
+// reader is lent: handed back by value for every byte, its outcome would be copied for every byte.
 #[tactic(auto, unfolding(crate::specs::Feed::byte_after, crate::specs::Feed::keep_byte))]
 fn feed_byte(
-    reader: Reader,
+    reader: &mut Reader,
     byte: u8,
     line: &mut [u8; LINE_BYTES],
     dirs: &mut [u8],
     weights: &mut [u16],
-) -> Reader
-    ensures { reading result line.new (lent_sheet dirs.new weights.new)
-        ≡ byte_after (reading reader line.old (lent_sheet dirs.old weights.old))
+)
+    ensures { reading reader.new line.new (lent_sheet dirs.new weights.new)
+        ≡ byte_after (reading reader.old line.old (lent_sheet dirs.old weights.old))
         byte }
 {
     let Ok(()) = reader.outcome else {
-        return reader;
+        return;
     };
     if byte == LINE_FEED {
-        return line_end(reader, line, dirs, weights);
+        *reader = line_end(*reader, line, dirs, weights);
+        return;
     }
     let at = reader.held;
     if at < LINE_BYTES {
         line[at] = byte;
-        return Reader {
-            held: at + 1,
-            ..reader
-        };
+        reader.held = at + 1;
+        return;
     }
-    long_line(reader, dirs, weights)
+    *reader = long_line(*reader, dirs, weights);
 }
 
 // A last line that lacks its line feed.
@@ -177,7 +181,7 @@ impl Reader {
     {
         let mut reader = self;
         for &byte in chunk {
-            reader = feed_byte(reader, byte, line, dirs, weights);
+            feed_byte(&mut reader, byte, line, dirs, weights);
         }
         reader
     }

@@ -56,7 +56,10 @@ pub fn verdict_of(
 {
     let intake = read?;
     let Some(sizes) = intake.ended_sizes() else {
-        return Err(Refusal::numbered(15));
+        return Err(Refusal {
+            number: 15,
+            place: 0,
+        });
     };
     sheet_verdict(sizes, dirs, weights, areas, labels, basins, work)
 }

@@ -1,8 +1,6 @@
 // The definitions of the whole product (specs/) and their laws (proofs/). The types and the bounds that the definitions
-// share with the code stand here.
+// share with the code stand here; no code.
 #![tactic(auto)]
-
-ghost use Rattle.std.specs.Prelude.{◌≡◌};
 
 // A direction code with its signed step in rows and columns.
 #[derive(Clone, Copy)]
@@ -38,15 +36,6 @@ pub struct UnitName {
 pub struct Refusal {
     pub number: u8,
     pub place: usize,
-}
-
-impl Refusal {
-    // A refusal that names no place.
-    pub fn numbered(number: u8) -> Refusal
-        ensures { result ≡ record { number = number; place = 0 } }
-    {
-        Refusal { number, place: 0 }
-    }
 }
 
 // The answer to the outlet question, in the order of the answers' numbers; a refusal carries document 01's number. An enum

@@ -1,7 +1,10 @@
-use Rattle.std.proofs.Common.{◌≡◌, ◌^◌, ◌<◌, drop}
-use Rattle.decimal.specs.Value.{value_from}
+use Rattle.std.proofs.Common.{◌≡◌, ◌+◌, ◌^◌, ◌<◌, ◌≤◌, length, drop}
+use Rattle.decimal.specs.Value.{digit_run, value_from}
 use Rattle.decimal.proofs.read_digits.Given as goal
 
-abbrev pub invariant-loop-digit : goal.invariant-loop-digit
-invariant-loop-digit l =
-    (value_from l.value (drop l.digit-index l.digits) ≡ value_from 0 l.digits) × (l.value < 10 ^ l.digit-index)
+abbrev pub invariant-loop-count : goal.invariant-loop-count
+invariant-loop-count l =
+    let s = drop l.at l.line in
+    (value_from l.value (digit_run (drop l.count s)) ≡ value_from 0 (digit_run s))
+    × (l.count + length (digit_run (drop l.count s)) ≡ length (digit_run s)) × (l.value < 10 ^ l.count)
+    × (l.count ≤ l.most)

@@ -6,24 +6,24 @@ use Rattle.digits.proofs.NumberPlaces.{putting_goes_on, putting_stops}
 use Rattle.digits.proofs.NumberPlaces.{no_number, a_number}
 use Rattle.digits.proofs.NumberPlaces.{ends_full, ends_here}
 use Rattle.digits.proofs.put_number.Goals as goal
-use Rattle.digits.proofs.put_number.Goals.{then-room-eq0-via-then-room-eq0, then-room-eq0-via-else-room-eq0+then-digit-eq0}
 
 pub returns-then-room-eq0 : goal.returns-then-room-eq0
 returns-then-room-eq0 c =
     let l = c.loop-m in
-    let some = c.loop-m-test.true in
-    elim c.then-room-eq0.branch [
-      | then-room-eq0-via-then-room-eq0 w ↦
-          record {
-            start = no_number _ _ _ l.invariant (judged_long l.m (omega (arith, l.invariant.less)) some l.room (omega arith));
-            places = putting_stops _ _ _ l.invariant (ends_full l.room l.m (omega arith));
-          }
-      | then-room-eq0-via-else-room-eq0+then-digit-eq0 w ↦
-          record {
-            start = no_number _ _ _ l.invariant (judged_zero l.m (omega (arith, l.invariant.less)) some l.room (omega arith));
-            places = putting_stops _ _ _ l.invariant (ends_here l.room l.m (omega arith));
-          }
-    ]
+    record {
+      start = no_number _ _ _ l.invariant
+          (judged_long l.m (omega (arith, l.invariant.less)) c.loop-m-test.true l.room (omega arith));
+      places = putting_stops _ _ _ l.invariant (ends_full l.room l.m (omega arith));
+    }
+
+pub returns-then-digit-eq0 : goal.returns-then-digit-eq0
+returns-then-digit-eq0 c =
+    let l = c.loop-m in
+    record {
+      start = no_number _ _ _ l.invariant
+          (judged_zero l.m (omega (arith, l.invariant.less)) c.loop-m-test.true l.room (omega arith));
+      places = putting_stops _ _ _ l.invariant (ends_here l.room l.m (omega arith));
+    }
 
 pub loop-m-preserved : goal.loop-m-preserved
 loop-m-preserved c =

@@ -45,7 +45,7 @@ returns c =
     let a = c.args in
     let G = grid a.grid.rows a.grid.cols a.grid.dirs.now in
     let written_sizes = gathered (goal.at.returns c).After-gather in (
-      rw c.copy_from_slice.ensures.after
+      rw c.copy.ensures
           (sizes_put (a.grid.rows * a.grid.cols) a.work.now (sizes_of G) _ a.areas.now c.requires.1.searched.upstream.queue.room
           (sizes_long G) written_sizes),
       written_sizes,

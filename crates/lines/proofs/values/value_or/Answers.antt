@@ -1,5 +1,5 @@
 -- `lines::values::value_or` meets its contract.
-use Rattle.std.proofs.Common.{rules, tests, ◌≡◌, refl, sym, ◌∙◌}
+use Rattle.std.proofs.Common.{rules, tests, ◌≡◌, refl, sym, ap, get_or, arith, ◌∙◌}
 use Rattle.std.proofs.lemmas.Iterator.{YieldsList-from_slice}
 use Rattle.std.proofs.lemmas.Iterator.Search.{position_from_yields_List}
 use Rattle.std.specs.List.{position}
@@ -18,7 +18,9 @@ found c =
 
 pub returns-in-Some : goal.returns-in-Some
 unfolding value_or
-returns-in-Some c = rw (sym (found (goal.at.returns-in-Some c).After-position) ∙ c.in-Some.is) refl
+returns-in-Some c =
+    rw (sym (found (goal.at.returns-in-Some c).After-position) ∙ c.in-Some.is)
+    (ap (λ k. get_or c.args.values.places k 0) (omega arith))
 
 pub returns-in-None : goal.returns-in-None
 unfolding value_or

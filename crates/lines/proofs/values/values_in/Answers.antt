@@ -55,7 +55,7 @@ unfolding with_value
 loop-field-preserved c =
     let found = sym (value (goal.at.loop-field-preserved c).After-field_value) ∙ c.in_ok-value.was in
     let there = field (goal.at.loop-field-preserved c).In-Some in (
-      rw c.with_place-values.ensures (sym (rw there (values_value _ _ c.loop-field.values _ _ found))) ∙ c.loop-field.invariant.0,
+      rw c.set_value.ensures (sym (rw there (values_value _ _ c.loop-field.values _ _ found))) ∙ c.loop-field.invariant.0,
       grind (arith, c.loop-field.invariant.1, length-append),
     )
 

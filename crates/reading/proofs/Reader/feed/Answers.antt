@@ -19,9 +19,9 @@ loop-byte-preserved c =
     let l = c.loop-byte in (
       feed_turn (at l.reader l.line l.dirs l.weights) _ l.byte-index
           c.loop-byte-test.true
-          c.feed_byte-reader.ensures ∙ l.invariant.0,
-      c.feed_byte-reader.auto.dirs ∙ l.invariant.1,
-      c.feed_byte-reader.auto.weights ∙ l.invariant.2,
+          c.feed_byte.ensures ∙ l.invariant.0,
+      c.feed_byte.auto.dirs ∙ l.invariant.1,
+      c.feed_byte.auto.weights ∙ l.invariant.2,
     )
 
 pub returns : goal.returns
